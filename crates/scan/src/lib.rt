@@ -1,0 +1,2 @@
+//! The first place at which something is found.
+#![tactic(auto)]
