@@ -1,13 +1,8 @@
-// A library with one function.
+//! Finite groups by their multiplication tables.
 #![tactic(auto)]
 
-ghost use Rattle.std.specs.Prelude.{◌≡◌};
-ghost use Rattle.group_table.specs.Echo.{echo_of};
+mod memory;
+mod nats;
 
-// The `ensures` clause is the contract: what `echo` returns is `echo_of` of its argument, a definition
-// in `specs/Echo.antt`, which a caller's clause can cite too.
-pub fn echo(x: usize) -> usize
-    ensures { result ≡ echo_of x }
-{
-    x
-}
+pub use memory::Memory;
+pub use nats::Nats;
