@@ -1,7 +1,7 @@
 -- Known bytes through several calls.
-use Rattle.std.proofs.Common.{◌≡◌, ℕ, ◌+◌, ◌≤◌, List, ◌++◌, length, take, arith, length-append, Option, Some, None, refl, sym, ap, ◌∙◌, append_assoc}
+use Rattle.std.proofs.Common.{◌≡◌, ℕ, ◌+◌, ◌≤◌, List, ◌++◌, length, take, arith, length-append, Option, Some, None, sym, ap, ◌∙◌, append_assoc}
 use Rattle.std.specs.Prelude.{Result, Ok}
-use Rattle.std.proofs.Common.{◌-◌, drop, length-drop}
+use Rattle.std.proofs.Common.{drop, length-drop}
 use Rattle.std.proofs.lemmas.List.{length-take, take-append-drop}
 use Rattle.std.specs.Io.KnownBytes.{Consumes, Appends}
 use Rattle.qd_io.specs.Stream.{HasRoom, KeepsRoom}

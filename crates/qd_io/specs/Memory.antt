@@ -1,7 +1,6 @@
 -- Sources and sinks over bytes in memory, which fail at chosen calls.
-use Rattle.std.specs.Prelude.{◌≡◌, ℕ, ◌+◌, ◌-◌, ◌^◌, Bool, true, false, ◌==◌, List, [], ◌∷◌, ◌++◌, length, take, drop, min, Result, Ok, Err, if◌then◌else◌}
+use Rattle.std.specs.Prelude.{ℕ, ◌+◌, ◌-◌, ◌^◌, Bool, true, ◌==◌, List, [], ◌∷◌, ◌++◌, length, take, drop, min, if◌then◌else◌}
 use Rattle.std.specs.List.{list_any}
-use Rattle.qd_io.specs.declared.source.Failed.{Failed}
 
 -- A source: what is left, how many bytes a call gives at the most, the numbers of the calls that fail (the first
 -- is call 1), and how many calls and faults there have been.
@@ -58,3 +57,9 @@ after_write s piece =
     if is_refused s piece
     then record s { calls = next_call s.calls; faults = next_fault s.faults }
     else record s { written = s.written ++ take (accepted s (length piece)) piece; room = s.room - accepted s (length piece); calls = next_call s.calls }
+
+-- a sink that promises the room that is left
+pub record RoomySink : Type 0 where
+  pub written : List ℕ
+  pub room : ℕ
+  pub faults : ℕ
