@@ -1,5 +1,6 @@
 -- The least number from 1 on that passes a test, and the scans that find it.
 use Rattle.std.proofs.Common.{◌≡◌, ◌≢◌, ℕ, zero, suc, ◌+◌, ◌<◌, ◌≤◌, ◌==◌, Bool, true, false, ◌&&◌, ◌⊎◌, Option, Some, None, if◌then◌else◌, unwrap_or, refl, sym, ap, ◌∙◌, inl, inr, arith, add-one, eq-or-lt_of_le, le_of_suc-le-suc}
+use Rattle.std.proofs.lemmas.Bool.{cases_lt}
 use Rattle.scan.specs.First.{first, all_below, option_or}
 use Rattle.orders.specs.Order.{least_from_one}
 
@@ -8,6 +9,11 @@ pub record IsLeast (passes : ℕ → Bool) (k : ℕ) : Type 0 where
   pub positive : 1 ≤ k
   pub here : passes k ≡ true
   pub before : (j : ℕ) → 1 ≤ j → j < k → passes j ≡ false
+
+-- no other number that passes is less
+pub IsLeast-le : (passes : ℕ → Bool) (k j : ℕ) → IsLeast passes k → 1 ≤ j → passes j ≡ true → k ≤ j
+IsLeast-le passes k j least p e =
+    elim (cases_lt j k) [ inl less ↦ let wrong = least.before j p less in cc | inr most ↦ most ]
 
 below_or_last : (m : ℕ) (passes : ℕ → Bool) → ((j : ℕ) → 1 ≤ j → j ≤ m → passes j ≡ false) → passes (suc m) ≡ false →
     (j : ℕ) → 1 ≤ j → j ≤ suc m → passes j ≡ false

@@ -1,3 +1,4 @@
 pub mod Sums
 pub mod Least
 pub mod Powers
+pub mod Orders
