@@ -53,7 +53,7 @@ module _ (n : ℕ) (op : ℕ → ℕ → ℕ) (unit : ℕ) (G : IsGroupBelow n o
         | inr found ↦ found
       ]
 
-  least_is_order : (g k : ℕ) → IsLeast (is_unit_power op unit g) k → IsOrder op unit g k
+  pub least_is_order : (g k : ℕ) → IsLeast (is_unit_power op unit g) k → IsOrder op unit g k
   least_is_order g k least = record {
     positive = least.positive;
     gives_unit = eqb-true _ _ least.here;
