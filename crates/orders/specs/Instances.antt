@@ -1,5 +1,6 @@
 -- Orders and exponents of two groups of six elements (textbook).
 use Rattle.std.specs.Prelude.{◌≡◌, ℕ, ◌+◌, ◌*◌, ◌%◌, List, [], ◌∷◌, slice_index}
+use Rattle.orders.specs.Group.{IsGroupBelow}
 use Rattle.orders.specs.Order.{order_of, exponent_of}
 
 -- addition modulo 6
@@ -17,6 +18,10 @@ permutations_of_three = 0 ∷ 1 ∷ 2 ∷ 3 ∷ 4 ∷ 5 ∷ 1 ∷ 0 ∷ 3 ∷ 2 
 -- the product of two permutations of three points
 abbrev pub after : ℕ → ℕ → ℕ
 after a b = slice_index permutations_of_three (6 * a + b)
+
+-- the permutations of three points are a group
+abbrev pub SymmetricGroup : Type 0
+SymmetricGroup = IsGroupBelow 6 after 0
 
 -- a transposition has order 2, a turn has order 3, and the exponent is 6
 abbrev pub SymmetricOrders : Type 0

@@ -11,7 +11,7 @@ ghost use Rattle.orders.specs.Laws.{OrderFound, OrderIsLeast, OrderUnique, Order
 ghost use Rattle.orders.specs.Laws.{Lagrange, PowerOfSize};
 ghost use Rattle.orders.specs.Laws.{ExponentFound, ExponentIsLeast, ExponentUnique, ExponentAtMostSize, ExponentDivides};
 ghost use Rattle.orders.specs.Laws.{ExponentDividesSize, OrderDividesExponent, ExponentDividesMultiple};
-ghost use Rattle.orders.specs.Instances.{CyclicOrders, SymmetricOrders};
+ghost use Rattle.orders.specs.Instances.{CyclicOrders, SymmetricGroup, SymmetricOrders};
 
 /// The laws of powers: of a sum, a product and a remainder of exponents, and of the identity.
 pub fn power_laws()
@@ -66,9 +66,10 @@ pub fn exponent_laws()
 {
 }
 
-/// Worked values: orders in addition modulo 6, and orders and the exponent of the permutations of three points.
+/// Worked values: orders in addition modulo 6; the permutations of three points are a group, with the orders and the exponent that they have.
 pub fn instances()
     ensures cyclic { CyclicOrders }
-    ensures symmetric { SymmetricOrders }
+    ensures symmetric_group { SymmetricGroup }
+    ensures symmetric_orders { SymmetricOrders }
 {
 }
