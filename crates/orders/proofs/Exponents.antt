@@ -3,9 +3,10 @@ use Prim.Native.Nat.{◌∣◌}
 use Rattle.std.proofs.Common.{◌≡◌, ◌≢◌, ℕ, zero, suc, ◌+◌, ◌-◌, ◌*◌, ◌/◌, ◌%◌, ◌<◌, ◌≤◌, ◌==◌, Bool, true, false, ◌⊎◌, ◌↔◌, Option, Some, unwrap_or, refl, sym, ap, ◌∙◌, inl, inr, arith, mod-lt, le_antisymm, eq-eqb, eqb-true, eq-zero-or-pos}
 use Rattle.std.proofs.lemmas.Nat.Gcd.{dvd_of_mod-eq-zero, mod-eq-zero_of_dvd}
 use Rattle.scan.specs.First.{all_below}
+use Rattle.scan.proofs.Places.{all_below-at, all_below-all}
 use Rattle.orders.specs.Group.{IsGroupBelow, power}
 use Rattle.orders.specs.Order.{IsOrder, IsExponent, order_of, exponent_of, least_from_one, is_unit_power, are_unit_powers}
-use Rattle.orders.proofs.Least.{IsLeast, IsLeast-le, least_or_none, least_found, all_below_each, all_below_true}
+use Rattle.orders.proofs.Least.{IsLeast, IsLeast-le, least_or_none, least_found}
 use Rattle.orders.proofs.Powers.{power_modulo, power_repeats, power_multiple}
 use Rattle.orders.proofs.Orders.{least_exists, least_is_order, order_divides_size}
 
@@ -72,10 +73,10 @@ module _ (n : ℕ) (op : ℕ → ℕ → ℕ) (unit : ℕ) (G : IsGroupBelow n o
   power_of_size g p = (order_divides g n p).0 (lagrange g p)
 
   are_unit_from : (j : ℕ) → ((g : ℕ) → g < n → power op unit g j ≡ unit) → are_unit_powers n op unit j ≡ true
-  are_unit_from j each = all_below_true n (λ g. is_unit_power op unit g j) (λ g p. eq-eqb _ _ (each g p))
+  are_unit_from j each = all_below-all n (λ g. is_unit_power op unit g j) (λ g p. eq-eqb _ _ (each g p))
 
   are_unit_each : (j : ℕ) → are_unit_powers n op unit j ≡ true → (g : ℕ) → g < n → power op unit g j ≡ unit
-  are_unit_each j all g p = eqb-true _ _ (all_below_each n (λ g. is_unit_power op unit g j) all g p)
+  are_unit_each j all g p = eqb-true _ _ (all_below-at n g (λ g. is_unit_power op unit g j) all p)
 
   positive_size : 1 ≤ n
   positive_size = omega (arith, G.unit_below)

@@ -1,7 +1,7 @@
 -- The least number from 1 on that passes a test, and the scans that find it.
 use Rattle.std.proofs.Common.{◌≡◌, ◌≢◌, ℕ, zero, suc, ◌+◌, ◌<◌, ◌≤◌, ◌==◌, Bool, true, false, ◌&&◌, ◌⊎◌, Option, Some, None, if◌then◌else◌, unwrap_or, refl, sym, ap, ◌∙◌, inl, inr, arith, add-one, eq-or-lt_of_le, le_of_suc-le-suc}
 use Rattle.std.proofs.lemmas.Bool.{cases_lt}
-use Rattle.scan.specs.First.{first, all_below, option_or}
+use Rattle.scan.proofs.Places.{first_found, first_none}
 use Rattle.orders.specs.Order.{least_from_one}
 
 -- k is the least number from 1 on that passes
@@ -36,46 +36,11 @@ least_or_none (suc m) passes =
       | inr (k, most, least) ↦ inr (k, omega arith, least)
     ]
 
-least_none : (n : ℕ) (passes : ℕ → Bool) → ((j : ℕ) → 1 ≤ j → j ≤ n → passes j ≡ false) → least_from_one n passes ≡ None
-unfolding first
-least_none zero passes fail = refl
-least_none (suc n) passes fail =
-    let here : passes (suc n) ≡ false = fail (suc n) (omega arith) (omega arith) in
-    rw (add-one, here, least_none n passes (λ j p q. fail j p (omega arith)))
-
 -- the scan finds the least number that passes, if it is at most n
 pub least_found : (n : ℕ) (passes : ℕ → Bool) (k : ℕ) → IsLeast passes k → k ≤ n → least_from_one n passes ≡ Some k
-unfolding first
-least_found zero passes k least most = absurd (omega (arith, least.positive))
-least_found (suc n) passes k least most =
-    elim (eq-or-lt_of_le most) [
-      inl same ↦
-        let fail : (j : ℕ) → 1 ≤ j → j ≤ n → passes j ≡ false = λ j p q. least.before j p (omega arith) in
-        let here : passes (suc n) ≡ true = ap passes (sym same) ∙ least.here in
-        rw (least_none n passes fail, add-one, here) (ap Some (sym same))
-      | inr less ↦ rw (least_found n passes k least (omega arith))
-    ]
-
--- all pass, if the scan says so
-pub all_below_each : (n : ℕ) (test : ℕ → Bool) → all_below n test ≡ true → (i : ℕ) → i < n → test i ≡ true
-unfolding all_below
-all_below_each zero test all i p = absurd (omega arith)
-all_below_each (suc n) test all i p =
-    elim (eq-or-lt_of_le (le_of_suc-le-suc p)) [
-      inl same ↦ ap test same ∙ and_second (all_below n test) (test n) all
-      | inr less ↦ all_below_each n test (and_first (all_below n test) (test n) all) i less
-    ]
-  where
-    and_first : (a b : Bool) → (a && b) ≡ true → a ≡ true
-    and_first true b e = refl
-    and_first false b e = e
-
-    and_second : (a b : Bool) → (a && b) ≡ true → b ≡ true
-    and_second true b e = e
-    and_second false b e = cc
-
--- the scan says so, if all pass
-pub all_below_true : (n : ℕ) (test : ℕ → Bool) → ((i : ℕ) → i < n → test i ≡ true) → all_below n test ≡ true
-unfolding all_below
-all_below_true zero test each = refl
-all_below_true (suc n) test each = rw (each n (omega arith), all_below_true n test (λ i p. each i (omega arith)))
+least_found n passes zero least most = absurd (omega (arith, least.positive))
+least_found n passes (suc i) least most =
+    first_found n i (λ j. if passes (j + 1) then Some (j + 1) else None) (suc i) (omega arith)
+      (first_none i (λ j. if passes (j + 1) then Some (j + 1) else None)
+        (λ j p. let fails : passes (suc j) ≡ false = least.before (suc j) (omega arith) (omega arith) in rw (add-one, fails)))
+      (rw (add-one, least.here))

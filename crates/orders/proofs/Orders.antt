@@ -4,10 +4,11 @@ use Prim.Native.Nat.{◌∣◌}
 use Rattle.std.proofs.lemmas.Bool.{cases_lt, cases_order}
 use Rattle.std.proofs.Math.Nat.{div-add-mod}
 use Rattle.scan.specs.First.{all_below}
+use Rattle.scan.proofs.Places.{all_below-at, all_below-all}
 use Rattle.orders.specs.Group.{IsGroupBelow, power}
 use Rattle.orders.specs.Order.{IsOrder, order_of, least_from_one, is_unit_power}
 use Rattle.orders.proofs.Sums.{total, pick, total_same, total_constant, total_exchange, total_at, total_permuted, pigeonhole}
-use Rattle.orders.proofs.Least.{IsLeast, IsLeast-le, least_or_none, least_found, all_below_each, all_below_true}
+use Rattle.orders.proofs.Least.{IsLeast, IsLeast-le, least_or_none, least_found}
 use Rattle.orders.proofs.Powers.{power_below, power_one, power_add, power_unit, power_multiple, power_modulo, power_repeats, undo_right, cancel_left}
 
 below_or_last : (k : ℕ) (f : ℕ → ℕ) (v : ℕ) → v ≤ f k → ((j : ℕ) → j < k → v ≤ f j) → (j : ℕ) → j < suc k → v ≤ f j
@@ -112,12 +113,12 @@ module _ (n : ℕ) (op : ℕ → ℕ → ℕ) (unit : ℕ) (G : IsGroupBelow n o
     is_first_le x e j =
         let positive : 0 < k = order.positive in
         let near : x ≤ walk x (j % k) =
-          leb-true _ _ (all_below_each k (λ i. leb x (walk x i)) e (j % k) (mod-lt j positive)) in
+          leb-true _ _ (all_below-at k (j % k) (λ i. leb x (walk x i)) e (mod-lt j positive)) in
         rw (walk_modulo x j) at near
 
     is_first_from : (x : ℕ) → ((j : ℕ) → x ≤ walk x j) → is_first x ≡ true
     unfolding is_first
-    is_first_from x least = all_below_true k (λ i. leb x (walk x i)) (λ i p. le-leb _ _ (least i))
+    is_first_from x least = all_below-all k (λ i. leb x (walk x i)) (λ i p. le-leb _ _ (least i))
 
     -- the step that leads to the least number reached from x
     least_step : (x : ℕ) → x < n → (i : ℕ) × (i < k) × ((j : ℕ) → walk x i ≤ walk x j)
