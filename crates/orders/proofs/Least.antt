@@ -1,5 +1,5 @@
 -- The least number from 1 on that passes a test, and the scans that find it.
-use Rattle.std.proofs.Common.{◌≡◌, ◌≢◌, ℕ, zero, suc, ◌+◌, ◌<◌, ◌≤◌, ◌==◌, Bool, true, false, ◌&&◌, ◌⊎◌, Option, Some, None, if◌then◌else◌, unwrap_or, refl, sym, ap, ◌∙◌, inl, inr, arith, add-one, eq-or-lt_of_le, le_of_suc-le-suc}
+use Rattle.std.proofs.Common.{◌≡◌, ℕ, zero, suc, ◌+◌, ◌<◌, ◌≤◌, Bool, true, false, ◌⊎◌, Some, None, if◌then◌else◌, refl, ap, ◌∙◌, inl, inr, arith, add-one, eq-or-lt_of_le}
 use Rattle.std.proofs.lemmas.Bool.{cases_lt}
 use Rattle.scan.proofs.Places.{first_found, first_none}
 use Rattle.orders.specs.Order.{least_from_one}
@@ -15,11 +15,13 @@ pub IsLeast-le : (passes : ℕ → Bool) (k j : ℕ) → IsLeast passes k → 1 
 IsLeast-le passes k j least p e =
     elim (cases_lt j k) [ inl less ↦ let wrong = least.before j p less in cc | inr most ↦ most ]
 
+-- none up to m + 1 passes
 below_or_last : (m : ℕ) (passes : ℕ → Bool) → ((j : ℕ) → 1 ≤ j → j ≤ m → passes j ≡ false) → passes (suc m) ≡ false →
     (j : ℕ) → 1 ≤ j → j ≤ suc m → passes j ≡ false
 below_or_last m passes fail e j p q =
     elim (eq-or-lt_of_le q) [ inl same ↦ ap passes same ∙ e | inr less ↦ fail j p (omega arith) ]
 
+-- the step of the search: m + 1 passes, or none up to it
 at_last : (m : ℕ) (passes : ℕ → Bool) → ((j : ℕ) → 1 ≤ j → j ≤ m → passes j ≡ false) → (b : Bool) → passes (suc m) ≡ b →
     ((j : ℕ) → 1 ≤ j → j ≤ suc m → passes j ≡ false) ⊎ ((k : ℕ) × (k ≤ suc m) × IsLeast passes k)
 at_last m passes fail true e =
@@ -32,7 +34,7 @@ pub least_or_none : (m : ℕ) (passes : ℕ → Bool) →
 least_or_none zero passes = inl (λ j p q. absurd (omega arith))
 least_or_none (suc m) passes =
     elim (least_or_none m passes) [
-      inl fail ↦ at_last m passes fail (passes (suc m)) refl
+      | inl fail ↦ at_last m passes fail (passes (suc m)) refl
       | inr (k, most, least) ↦ inr (k, omega arith, least)
     ]
 
@@ -41,6 +43,6 @@ pub least_found : (n : ℕ) (passes : ℕ → Bool) (k : ℕ) → IsLeast passes
 least_found n passes zero least most = absurd (omega (arith, least.positive))
 least_found n passes (suc i) least most =
     first_found n i (λ j. if passes (j + 1) then Some (j + 1) else None) (suc i) (omega arith)
-      (first_none i (λ j. if passes (j + 1) then Some (j + 1) else None)
-        (λ j p. let fails : passes (suc j) ≡ false = least.before (suc j) (omega arith) (omega arith) in rw (add-one, fails)))
-      (rw (add-one, least.here))
+    (first_none i (λ j. if passes (j + 1) then Some (j + 1) else None)
+    (λ j p. let fails : passes (suc j) ≡ false = least.before (suc j) (omega arith) (omega arith) in rw (add-one, fails)))
+    (rw (add-one, least.here))

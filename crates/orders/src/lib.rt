@@ -21,8 +21,7 @@ pub fn power_laws()
     ensures of_product { PowerOfProduct }
     ensures of_unit { PowerOfUnit }
     ensures of_remainder { PowerOfRemainder }
-{
-}
+{}
 
 /// A right inverse is a left inverse, an element has one inverse, and a factor on either side cancels.
 pub fn inverse_laws()
@@ -30,8 +29,7 @@ pub fn inverse_laws()
     ensures unique { InverseUnique }
     ensures cancel_left { CancelLeft }
     ensures cancel_right { CancelRight }
-{
-}
+{}
 
 /// The order of an element is found from 1 to the size of the group, is the least number that gives the identity, and divides
 /// exactly those that do.
@@ -42,15 +40,13 @@ pub fn order_laws()
     ensures at_most_size { OrderAtMostSize }
     ensures divides { OrderDivides }
     ensures powers_differ { PowersDiffer }
-{
-}
+{}
 
 /// Lagrange's theorem for the powers of an element: its order divides the size of the group, so that power is the identity.
 pub fn lagrange()
     ensures order_divides_size { Lagrange }
     ensures power_of_size { PowerOfSize }
-{
-}
+{}
 
 /// The exponent is found from 1 to the size of the group, is the least number that gives the identity for each element, and divides
 /// exactly those that do; it is the least common multiple of the orders.
@@ -63,13 +59,11 @@ pub fn exponent_laws()
     ensures divides_size { ExponentDividesSize }
     ensures order_divides { OrderDividesExponent }
     ensures divides_multiple { ExponentDividesMultiple }
-{
-}
+{}
 
-/// Worked values: orders in addition modulo 6; the permutations of three points are a group, with the orders and the exponent that they have.
+/// Worked values: orders in addition modulo 6; the permutations of three points are a group, with two of its orders and its exponent.
 pub fn instances()
     ensures cyclic { CyclicOrders }
     ensures symmetric_group { SymmetricGroup }
     ensures symmetric_orders { SymmetricOrders }
-{
-}
+{}

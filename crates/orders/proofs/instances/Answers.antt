@@ -1,5 +1,5 @@
 -- The worked values, by computing.
-use Rattle.std.proofs.Common.{◌≡◌, ℕ, ◌<◌, ◌==◌, Bool, true, List, [], ◌∷◌, ltb, slice_index, refl, eqb-true, ltb-true, lit<}
+use Rattle.std.proofs.Common.{◌≡◌, ℕ, ◌<◌, ◌==◌, Bool, true, [], ◌∷◌, ltb, slice_index, refl, eqb-true, ltb-true, lit<}
 use Rattle.scan.specs.First.{first, all_below}
 use Rattle.orders.specs.Group.{power}
 use Rattle.orders.specs.Order.{order_of, exponent_of}
@@ -25,15 +25,15 @@ returns-clause-symmetric_group c = record {
   closed = λ g h p q. ltb-true _ _ (pairs (λ g h. ltb (after g h) 6) refl g h p q);
   unit_left = λ g p. eqb-true _ _ (all_below-at 6 g (λ g. after 0 g == g) refl p);
   unit_right = λ g p. eqb-true _ _ (all_below-at 6 g (λ g. after g 0 == g) refl p);
-  right_inverse = λ g p.
-    ( inverse g
-    , ltb-true _ _ (all_below-at 6 g (λ g. ltb (inverse g) 6) refl p)
-    , eqb-true _ _ (all_below-at 6 g (λ g. after g (inverse g) == 0) refl p)
-    );
+  right_inverse = λ g p. (
+    inverse g,
+    ltb-true _ _ (all_below-at 6 g (λ g. ltb (inverse g) 6) refl p),
+    eqb-true _ _ (all_below-at 6 g (λ g. after g (inverse g) == 0) refl p),
+  );
   associative = λ g h k p q r.
-    eqb-true _ _
+      eqb-true _ _
       (all_below-at 6 k (λ k. after (after g h) k == after g (after h k))
-        (pairs (λ g h. all_below 6 (λ k. after (after g h) k == after g (after h k))) refl g h p q) r);
+      (pairs (λ g h. all_below 6 (λ k. after (after g h) k == after g (after h k))) refl g h p q) r);
 }
 
 pub returns-clause-symmetric_orders : goal.returns-clause-symmetric_orders
