@@ -102,7 +102,7 @@ module _ (n : ℕ) (op : ℕ → ℕ → ℕ) (unit : ℕ) (G : IsGroupBelow n o
         let most : k ≤ d = order.least d (omega arith) gives in
         omega arith
 
-    -- from x each number is reached by one step below the order
+    -- from x no number is reached by two steps below the order
     walk_once : (x i j : ℕ) → x < n → i < k → j < k → walk x i ≡ walk x j → i ≡ j
     walk_once x i j p q r e =
         elim (cases_order i j) [
