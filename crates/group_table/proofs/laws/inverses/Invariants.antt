@@ -1,5 +1,5 @@
 use Rattle.std.proofs.Common.{◌≡◌, ℕ, ◌<◌, length, Some, get_or}
-use Rattle.group_table.specs.Group.{Table, inverse_of}
+use Rattle.group_table.specs.Group.{inverse_of}
 use Rattle.group_table.proofs.laws.inverses.Given as goal
 
 abbrev pub invariant-loop-g : goal.invariant-loop-g
