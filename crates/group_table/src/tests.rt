@@ -130,4 +130,6 @@ fn numbers(rt: HostRuntime) {
     assert_eq!(rt; copy.at(2), 7);
     assert!(rt; !copy.is_empty());
     assert!(rt; Nats::empty(rt.alloc()).is_empty());
+    let ones = Nats::passing_below(rt.alloc(), 8, |i| i % 3 == 1).expect(&rt, "memory");
+    assert_eq!(rt; ones.as_slice(), [1, 4, 7].as_slice());
 }
