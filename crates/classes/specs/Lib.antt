@@ -1,0 +1,3 @@
+pub mod Conjugacy
+pub mod Sweep
+pub mod Kept
