@@ -1,6 +1,7 @@
 //! One sweep over the pairs of elements finds, for each element, the representative of its class and the least transporter.
 
-ghost use Rattle.std.specs.Prelude.{◌≡◌, ℕ, ◌+◌, ◌<◌, length, slice_index_or, Some, None, IfOk};
+ghost use Rattle.std.specs.Prelude.{◌≡◌, ℕ, ◌+◌, ◌<◌, length, slice_index_or, Some, None, IfOk, OnOk};
+ghost use Rattle.group_table.specs.Group.{IsGroup, IsSmall};
 ghost use Rattle.classes.specs.Conjugacy.{conjugate};
 ghost use Rattle.classes.specs.Sweep.{reach_below};
 ghost use Rattle.classes.specs.Kept.{ListsReaches};
@@ -45,15 +46,28 @@ fn sweep_row(group: &Group, a: u32, reaches: &mut [Option<Reach>])
     }
 }
 
-/// How each element is reached.
-pub fn sweep(alloc: Global, group: &Group) -> Result<Vec<Reach>, Memory>
-    ensures reached { IfOk result (λ reaches. ListsReaches group.now reaches.items) }
+/// How each element is reached, from the least element from which it is, by the least transporter.
+fn sweep_rows(alloc: Global, group: &Group) -> Result<Vec<Option<Reach>>, Memory>
+    ensures group { OnOk result (IsGroup group.now) }
+    ensures small { OnOk result (IsSmall group.now.order) }
+    ensures count { IfOk result (λ found. length found.items ≡ group.now.order) }
+    ensures found { IfOk result (λ found. (g : ℕ) → g < group.now.order → slice_index_or found.items g None ≡ reach_below group.now group.now.order g) }
 {
     let order = group.order();
     let mut found = vec![in alloc; None; order as usize]?;
     for a in 0..order {
         sweep_row(group, a, &mut found);
     }
+    Ok(found)
+}
+
+/// How each element is reached from the representative of its class.
+pub fn sweep(alloc: Global, group: &Group) -> Result<Vec<Reach>, Memory>
+    ensures group { OnOk result (IsGroup group.now) }
+    ensures small { OnOk result (IsSmall group.now.order) }
+    ensures reached { IfOk result (λ reaches. ListsReaches group.now reaches.items) }
+{
+    let found = sweep_rows(alloc, group)?;
     let mut reaches = Vec::new(alloc);
     for reach in &found {
         reaches.push(reach.unwrap())?;
