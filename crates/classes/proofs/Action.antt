@@ -1,5 +1,5 @@
 -- Conjugation in a group whose elements are the numbers below its size.
-use Rattle.std.proofs.Common.{◌≡◌, ℕ, ◌<◌, refl, sym, ap, ◌∙◌}
+use Rattle.std.proofs.Common.{◌≡◌, ℕ, ◌<◌, sym, ap, ◌∙◌}
 use Rattle.orders.specs.Group.{IsGroupBelow}
 use Rattle.orders.proofs.Powers.{right_inverse_left, inverse_unique}
 

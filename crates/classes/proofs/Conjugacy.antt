@@ -1,18 +1,18 @@
 -- Conjugation is an action, conjugacy an equivalence, and each element has a representative, a transporter and a class.
-use Rattle.std.proofs.Common.{◌≡◌, ◌≢◌, ℕ, suc, ◌+◌, ◌<◌, ◌≤◌, Bool, true, false, cond, ◌&&◌, not, List, [], ◌∷◌, length, get_or, nat_eq, eqb, Option, Some, None, refl, sym, ap, ◌∙◌, arith, inl, inr, eq-eqb, eqb-true}
-use Rattle.std.specs.Prelude.{is_some, unwrap_or}
+use Rattle.std.proofs.Common.{◌≡◌, ◌≢◌, ℕ, zero, suc, eq-or-lt_of_le, ◌+◌, ◌<◌, ◌≤◌, Bool, true, false, ◌↔◌, cond, ◌&&◌, not, [], ◌∷◌, length, get_or, nat_eq, Some, None, refl, sym, ap, ◌∙◌, arith, inl, inr, eq-eqb, eqb-true}
+use Rattle.std.specs.Prelude.{unwrap_or}
 use Rattle.std.specs.List.{All, Contains}
 use Rattle.std.proofs.lemmas.List.Elements.{All-get_or, All-cons, All-weaker, Contains-append_right}
 use Rattle.std.proofs.lemmas.List.{get_or_default}
 use Rattle.scan.specs.First.{first}
 use Rattle.scan.proofs.Places.{first-ext, and_true}
-use Rattle.orders.proofs.Powers.{right_inverse_left, inverse_unique}
-use Rattle.group_table.specs.Group.{Table, product, identity_of, inverse, inverse_of, IsGroup}
+use Rattle.orders.proofs.Powers.{inverse_unique}
+use Rattle.group_table.specs.Group.{Table, product, identity_of, inverse, IsGroup}
 use Rattle.group_table.specs.Numbers.{passing_below}
-use Rattle.group_table.proofs.Sentences.{IsTwoSidedInverse, two_sided, inverse_found, group_below, closed, identity_below, identity_is, laws}
-use Rattle.group_table.proofs.Numbers.{IsPassing, passing_below-all, passing_below-contains, length-passing_below}
+use Rattle.group_table.proofs.Sentences.{IsTwoSidedInverse, two_sided, inverse_found, group_below, closed, identity_below}
+use Rattle.group_table.proofs.Numbers.{IsPassing, passing_below-all, passing_below-contains, passing_below-ascending, passing_below-exactly, length-passing_below}
 use Rattle.classes.specs.Conjugacy.{conjugate, least_transporter, is_conjugate, representative_of, transporter_of, representatives, other_representatives, class_of, members_of, centraliser_of, representative_at}
-use Rattle.classes.proofs.Searches.{same_test, is_some_of, some_of, first_finds, IsLeastPassing, least_passing, least_passing_found}
+use Rattle.classes.proofs.Searches.{same_test, is_some_of, some_of, IsLeastPassing, least_passing, least_passing_found}
 use Rattle.classes.proofs.Action.{inverse_of_product, conjugate_in_steps, conjugate_of_product_steps}
 
 -- a is least in its class
@@ -30,6 +30,13 @@ pub record IsLeastTransporter (t : Table) (g k : ℕ) : Type 0 where
   pub below : k < t.order
   pub carries : conjugate t k (representative_of t g) ≡ g
   pub least : (j : ℕ) → j < t.order → conjugate t j (representative_of t g) ≡ g → k ≤ j
+
+fails_and_passes : (b : Bool) → not b ≡ true → b ≡ true → ⊥
+fails_and_passes true fails passes = absurd cc
+fails_and_passes false fails passes = absurd cc
+
+different_numbers : (a e : ℕ) → not (nat_eq a e) ≡ true → a ≡ e → ⊥
+different_numbers a e fails same = fails_and_passes (nat_eq a e) fails (eq-eqb a e same)
 
 module _ (t : Table) (G : IsGroup t) where
   -- the inverse of k
@@ -261,3 +268,66 @@ module _ (t : Table) (G : IsGroup t) where
   pub few_members : (a : ℕ) → length (members_of t a) ≤ t.order
   unfolding members_of
   few_members a = length-passing_below t.order (is_conjugate t a)
+
+  -- no two classes have the same representative
+  different_at : (c d : ℕ) → c < d → d < length (representatives t) → representative_at t c ≢ representative_at t d
+  unfolding other_representatives
+  different_at zero (suc d) less last same =
+      let test : ℕ → Bool = λ a. nat_eq (representative_of t a) a && not (nat_eq a (identity_of t)) in
+      let there : IsPassing t.order test (get_or (other_representatives t) d 0) =
+      All-get_or (IsPassing t.order test) (passing_below t.order test) d 0 (omega arith) (passing_below-all t.order test) in
+      different_numbers (get_or (other_representatives t) d 0) (identity_of t) (and_true _ _ there.passes).1 (sym same)
+  different_at (suc c) (suc d) less last same =
+      let test : ℕ → Bool = λ a. nat_eq (representative_of t a) a && not (nat_eq a (identity_of t)) in
+      let ascends : get_or (other_representatives t) c 0 < get_or (other_representatives t) d 0 =
+      passing_below-ascending t.order test c d (omega arith) (omega arith) in
+      omega (arith, same)
+  different_at c zero less last same = omega arith
+
+  -- the class of the representative of a class is that class
+  pub class_of_representative : (c : ℕ) → c < length (representatives t) → class_of t (representative_at t c) ≡ c
+  class_of_representative c p =
+      let here = representative_at_is c p in
+      let found = class_found (representative_at t c) here.below in
+      let same : representative_at t (class_of t (representative_at t c)) ≡ representative_at t c =
+      eqb-true _ _ found.passes ∙ here.represents in
+      let most : class_of t (representative_at t c) ≤ c = found.least c p (eq-eqb _ _ (sym here.represents)) in
+      elim (eq-or-lt_of_le most) [
+        | inl equal ↦ equal
+        | inr less ↦ absurd (different_at (class_of t (representative_at t c)) c less p same)
+      ]
+
+  same_class : (g h : ℕ) → representative_of t g ≡ representative_of t h → class_of t g ≡ class_of t h
+  unfolding class_of
+  same_class g h same = rw same refl
+
+  -- so is the class of a member
+  pub class_of_member : (c g : ℕ) → c < length (representatives t) → g < t.order → is_conjugate t (representative_at t c) g ≡ true → class_of t g ≡ c
+  class_of_member c g p q conjugates =
+      same_class g (representative_at t c) (sym (representative_same (representative_at t c) g (representative_at_is c p).below q conjugates))
+      ∙ class_of_representative c p
+
+  pub member_class : (c i : ℕ) → c < length (representatives t) → i < length (members_of t (representative_at t c))
+      → class_of t (get_or (members_of t (representative_at t c)) i 0) ≡ c
+  member_class c i p q =
+      let member = All-get_or (IsMember t (representative_at t c)) (members_of t (representative_at t c)) i 0 q (members_are (representative_at t c)) in
+      class_of_member c _ p member.below member.conjugates
+
+  -- the members of the class of a are the elements k a k^-1
+  pub members_exactly : (a g : ℕ) → a < t.order → Contains (members_of t a) g ↔ ((k : ℕ) × (k < t.order) × (conjugate t k a ≡ g))
+  unfolding members_of
+  members_exactly a g p = (
+    λ listed. carrier a g ((passing_below-exactly t.order g (is_conjugate t a)).0 listed).1,
+    λ carried.
+        let (k, below, carries) = carried in
+        (passing_below-exactly t.order g (is_conjugate t a)).1
+        (rw (← carries) (conjugate_below k a below p), conjugate_by a g k below carries),
+  )
+
+  -- x is in the centraliser of a exactly where x a = a x
+  pub centraliser_exactly : (a x : ℕ) → Contains (centraliser_of t a) x ↔ ((x < t.order) × (product t x a ≡ product t a x))
+  unfolding centraliser_of
+  centraliser_exactly a x = (
+    λ listed. let here = (passing_below-exactly t.order x (λ x. nat_eq (product t x a) (product t a x))).0 listed in (here.0, eqb-true _ _ here.1),
+    λ commutes. (passing_below-exactly t.order x (λ x. nat_eq (product t x a) (product t a x))).1 (commutes.0, eq-eqb _ _ commutes.1),
+  )

@@ -1,11 +1,10 @@
 -- What is looked up in the classes that are kept.
-use Rattle.std.proofs.Common.{◌≡◌, ℕ, ◌+◌, ◌<◌, ◌≤◌, ◌^◌, List, length, get_or, map, sym, ap, ◌∙◌, arith, refl}
+use Rattle.std.proofs.Common.{◌≡◌, ℕ, ◌<◌, ◌≤◌, List, length, get_or, map, ap, ◌∙◌, arith}
 use Rattle.std.proofs.lemmas.List.{get_or-map, length-map}
 use Rattle.std.proofs.lemmas.List.Elements.{All-get_or}
 use Rattle.group_table.specs.Group.{Table, IsGroup, IsSmall}
 use Rattle.classes.specs.Conjugacy.{representatives, other_representatives, representative_at}
-use Rattle.classes.specs.Sweep.{reach_of}
-use Rattle.classes.specs.Kept.{class_at, IsClassTable, ListsReaches}
+use Rattle.classes.specs.Kept.{class_at, ListsReaches}
 use Rattle.classes.specs.declared.class_table.Class.{Class}
 use Rattle.classes.specs.declared.sweep.Reach.{Reach}
 use Rattle.classes.proofs.Conjugacy.{few_classes, IsRepresentative, others_represent, IsLeastTransporter, transporter_is}

@@ -68,6 +68,8 @@ impl Classes {
         requires c_below { c < length (representatives self.now) }
         ensures representative { result ≡ representative_at self.now c }
         ensures below { result < self.now.order }
+        ensures least { representative_of self.now result ≡ result }
+        ensures class { class_of self.now result ≡ c }
     {
         self.classes[c as usize].representative
     }
@@ -86,6 +88,7 @@ impl Classes {
         requires i_below { i < length (members_of self.now (representative_at self.now c)) }
         ensures member { result ≡ slice_index (members_of self.now (representative_at self.now c)) i }
         ensures below { result < self.now.order }
+        ensures class { class_of self.now result ≡ c }
     {
         self.classes[c as usize].members.at(i)
     }

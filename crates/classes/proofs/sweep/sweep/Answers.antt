@@ -1,4 +1,4 @@
-use Rattle.std.proofs.Common.{◌≡◌, ℕ, ◌+◌, ◌<◌, ◌++◌, ◌∷◌, [], None, Some, length, get_or, sym, ap, ◌∙◌, arith, length-append}
+use Rattle.std.proofs.Common.{◌≡◌, ◌<◌, None, Some, length, get_or, sym, ap, ◌∙◌, arith, length-append}
 use Rattle.classes.specs.Sweep.{reach_of}
 use Rattle.classes.proofs.Rows.{reach_found, one_more_reach}
 use Rattle.classes.proofs.sweep.sweep.Goals as goal

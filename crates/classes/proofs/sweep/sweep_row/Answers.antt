@@ -1,4 +1,4 @@
-use Rattle.std.proofs.Common.{◌≡◌, ℕ, ◌+◌, ◌<◌, None, Some, length, get_or, sym, ap, ◌∙◌, arith}
+use Rattle.std.proofs.Common.{◌≡◌, ◌<◌, None, length, get_or, sym, ap, ◌∙◌, arith}
 use Rattle.classes.proofs.Rows.{reached_before, row_begins, row_ends, row_kept, row_set}
 use Rattle.classes.proofs.sweep.sweep_row.Goals as goal
 use Rattle.classes.proofs.sweep.sweep_row.Goals.{then-is_none, else-is_none}

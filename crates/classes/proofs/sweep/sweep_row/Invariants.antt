@@ -1,4 +1,4 @@
-use Rattle.std.proofs.Common.{◌≡◌, ℕ, ◌<◌, None, length, get_or}
+use Rattle.std.proofs.Common.{◌≡◌, ℕ, ◌<◌, None, get_or}
 use Rattle.classes.proofs.Rows.{reached_before}
 use Rattle.classes.proofs.sweep.sweep_row.Given as goal
 

@@ -1,6 +1,5 @@
-use Rattle.std.proofs.Common.{◌≡◌, ℕ, ◌<◌, None, Some, List, length, get_or, replicate, rules, sym, ap, ◌∙◌, arith}
+use Rattle.std.proofs.Common.{rules, arith}
 use Rattle.std.proofs.lemmas.List.{length-replicate}
-use Rattle.classes.specs.Sweep.{reach_below}
 use Rattle.classes.proofs.Rows.{nothing_reached}
 use Rattle.classes.proofs.sweep.sweep_rows.Goals as goal
 

@@ -1,4 +1,4 @@
-use Rattle.std.proofs.Common.{◌≡◌, ℕ, ◌<◌, length, subst}
+use Rattle.std.proofs.Common.{◌≡◌, ◌<◌, length, subst}
 use Rattle.group_table.specs.Group.{Table}
 use Rattle.classes.specs.Conjugacy.{representatives, representative_at, representative_of}
 use Rattle.classes.proofs.Conjugacy.{class_below, class_represents}

@@ -1,4 +1,4 @@
-use Rattle.std.proofs.Common.{◌≡◌, ◌≤◌, length, vec_len, arith}
+use Rattle.std.proofs.Common.{◌≡◌, length, vec_len, arith}
 use Rattle.classes.proofs.Lookups.{few_kept}
 use Rattle.classes.proofs.class_table.Classes.count.Goals as goal
 

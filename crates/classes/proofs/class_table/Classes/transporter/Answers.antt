@@ -1,7 +1,5 @@
-use Rattle.std.proofs.Common.{◌≡◌, ℕ, ◌<◌, ◌≤◌, ap, ◌∙◌, subst}
+use Rattle.std.proofs.Common.{subst}
 use Rattle.group_table.specs.Group.{Table}
-use Rattle.classes.specs.Conjugacy.{conjugate, representative_of}
-use Rattle.classes.specs.declared.sweep.Reach.{Reach}
 use Rattle.classes.proofs.Conjugacy.{IsLeastTransporter}
 use Rattle.classes.proofs.Lookups.{transporter_kept}
 use Rattle.classes.proofs.class_table.Classes.transporter.Goals as goal
