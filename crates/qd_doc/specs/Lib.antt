@@ -1,0 +1,4 @@
+pub mod Kinds
+pub mod Grammar
+pub mod Contents
+pub mod Reading
