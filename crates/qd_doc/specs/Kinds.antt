@@ -37,29 +37,30 @@ is_word text word = pointwise nat_eq text word
 abbrev pub is_form : List ℕ → Bool
 is_form text = is_word text (codes "trivial") || is_word text (codes "dense") || is_word text (codes "sparse")
 
--- a token that is to be a natural number, and that `check` may refuse by its value
-abbrev pub number_refusal : Lexeme → Result ℕ NumberFault → (ℕ → Option DocRefusal) → Option DocRefusal
-number_refusal token (Ok n) check = check n
-number_refusal token (Err NotNumber) check = Some (Syntax token.start Number)
-number_refusal token (Err Is_wide) check = Some (Wide token.start)
+-- the refusal of a natural number that isn't of a kind, by its value and the offset of its token
+abbrev pub value_refusal : What → ℕ → ℕ → Option DocRefusal
+value_refusal OrderNumber start n = if nat_le 1 n && nat_le n 60 then None else Some (Order n)
+value_refusal RootsNumber start n = if nat_le 1 n && nat_le n 64 then None else Some (Roots n)
+value_refusal (ElementBelow order) start n = if nat_lt n order then None else Some (Syntax start Element)
+value_refusal kind start n = None
+
+-- the refusal of a token that has to be a natural number of a kind
+abbrev pub number_refusal : What → ℕ → Result ℕ NumberFault → Option DocRefusal
+number_refusal kind start (Ok n) = value_refusal kind start n
+number_refusal kind start (Err NotNumber) = Some (Syntax start Number)
+number_refusal kind start (Err Is_wide) = Some (Wide start)
 
 -- the refusal of a token that isn't what may stand there
 unfoldable pub refusal : What → Lexeme → Option DocRefusal
 refusal (Word expected) token =
     if is_word token.text (word_of expected) then None else Some (Syntax token.start expected)
-refusal Natural token = number_refusal token (number_of token.text) (λ n. None)
-refusal OrderNumber token = number_refusal token (number_of token.text)
-    (λ n. if nat_le 1 n && nat_le n 60 then None else Some (Order n))
-refusal RootsNumber token = number_refusal token (number_of token.text)
-    (λ n. if nat_le 1 n && nat_le n 64 then None else Some (Roots n))
 refusal FormWord token = if is_form token.text then None else Some (Syntax token.start A_form)
-refusal (ElementBelow n) token = number_refusal token (number_of token.text)
-    (λ x. if nat_lt x n then None else Some (Syntax token.start Element))
 refusal EndWord token =
     if is_word token.text (codes "end") then None
     else if is_word token.text (codes "characters") then Some (Section token.start)
     else Some (Syntax token.start End)
 refusal NoToken token = Some (Syntax token.start Nothing)
+refusal kind token = number_refusal kind token.start (number_of token.text)
 
 -- what is expected where a token of a kind has to stand
 abbrev pub wanted : What → Expected

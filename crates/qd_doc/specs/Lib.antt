@@ -1,4 +1,5 @@
 pub mod Kinds
+pub mod Numerals
 pub mod Grammar
 pub mod Contents
 pub mod Reading

@@ -3,6 +3,7 @@
 
 mod document;
 mod exponents;
+mod kind;
 mod reading;
 mod refusal;
 mod steps;

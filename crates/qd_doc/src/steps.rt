@@ -2,9 +2,12 @@ ghost use Rattle.std.specs.Prelude.{◌≡◌, ℕ, ◌+◌, ◌<◌, ◌≤◌,
 ghost use Rattle.qd_text.specs.Tokens.{tokens_from, lexeme_of, text_of, IsWithin};
 ghost use Rattle.qd_text.specs.Numbers.{value};
 ghost use Rattle.qd_text.specs.declared.expected.Expected.{Expected};
-ghost use Rattle.qd_doc.specs.Kinds.{Word, Natural, OrderNumber, RootsNumber, ElementBelow, EndWord, NoToken, is_word};
-ghost use Rattle.qd_doc.specs.Reading.{Gives, IsOffset, read, skip, read_number};
+ghost use Rattle.qd_doc.specs.Kinds.{Word, FormWord, EndWord, NoToken, is_word, value_refusal};
+ghost use Rattle.qd_doc.specs.Numerals.{what_of};
+ghost use Rattle.qd_doc.specs.Reading.{Gives, IsOffset, read, skip, read_number, listing_of, unless};
 
+use crate::exponents::Listing;
+use crate::kind::Kind;
 use crate::refusal::DocRefusal;
 use qd_text::{next_token, number, Expected, NumberFault, Token};
 
@@ -56,5 +59,107 @@ pub fn word(bytes: &Vec<u8>, at: u32, expected: Expected) -> Result<u32, DocRefu
             offset: token.start,
             expected,
         })
+    }
+}
+
+/// The refusal of a number, which stands at `start`, by its value.
+#[tactic(auto, unfolding(crate::specs::Kinds::refusal))]
+fn check_value(kind: Kind, start: u32, value: u32) -> Result<(), DocRefusal>
+    ensures checked { result ≡ unless (value_refusal (what_of kind) start value) tt }
+{
+    match kind {
+        Kind::Order if value < 1 || value > 60 => Err(DocRefusal::Order { number: value }),
+        Kind::Roots if value < 1 || value > 64 => Err(DocRefusal::Roots { number: value }),
+        Kind::Element { order } if value >= order => Err(DocRefusal::Syntax {
+            offset: start,
+            expected: Expected::Element,
+        }),
+        _ => Ok(()),
+    }
+}
+
+/// A number of a kind that has to stand next.
+#[tactic(auto, using(qd_text::proofs::Digits::values), unfolding(crate::specs::Reading::read, crate::specs::Kinds::refusal, crate::specs::Kinds::missing))]
+pub fn natural(bytes: &Vec<u8>, at: u32, kind: Kind) -> Result<Numeral, DocRefusal>
+    requires offset { IsOffset bytes.now.items at }
+    ensures gives { Gives (λ numeral. (numeral.value, tokens_from numeral.next bytes.now.items)) result (read_number (length bytes.now.items) (what_of kind) (tokens_from at bytes.now.items)) }
+    ensures offset { IfOk result (λ numeral. IsOffset bytes.now.items numeral.next) }
+{
+    let token = token(bytes, at, Expected::Number)?;
+    match number(bytes, token) {
+        Ok(value) => {
+            check_value(kind, token.start, value)?;
+            Ok(Numeral {
+                value,
+                next: token.start + token.len,
+            })
+        }
+        Err(NumberFault::NotNumber) => Err(DocRefusal::Syntax {
+            offset: token.start,
+            expected: Expected::Number,
+        }),
+        Err(NumberFault::Wide) => Err(DocRefusal::Wide {
+            offset: token.start,
+        }),
+    }
+}
+
+/// How the exponents are listed, by the word that has to stand next.
+#[tactic(auto, unfolding(crate::specs::Reading::read, crate::specs::Kinds::refusal, crate::specs::Kinds::missing))]
+pub fn listing_word(bytes: &Vec<u8>, at: u32) -> Result<(Listing, u32), DocRefusal>
+    requires offset { IsOffset bytes.now.items at }
+    ensures gives { Gives (λ found. (found.0, tokens_from found.1 bytes.now.items)) result (read listing_of (length bytes.now.items) FormWord (tokens_from at bytes.now.items)) }
+    ensures offset { IfOk result (λ found. IsOffset bytes.now.items found.1) }
+{
+    let token = token(bytes, at, Expected::Form)?;
+    let next = token.start + token.len;
+    if is_text(bytes, token, "dense") {
+        Ok((Listing::Dense, next))
+    } else if is_text(bytes, token, "sparse") {
+        Ok((Listing::Sparse, next))
+    } else if is_text(bytes, token, "trivial") {
+        Ok((Listing::Trivial, next))
+    } else {
+        Err(DocRefusal::Syntax {
+            offset: token.start,
+            expected: Expected::Form,
+        })
+    }
+}
+
+/// The offset after the word `end`, which has to stand next.
+#[tactic(auto, unfolding(crate::specs::Reading::read, crate::specs::Kinds::refusal, crate::specs::Kinds::missing))]
+pub fn end_word(bytes: &Vec<u8>, at: u32) -> Result<u32, DocRefusal>
+    requires offset { IsOffset bytes.now.items at }
+    ensures gives { Gives (λ next. tokens_from next bytes.now.items) result (skip (length bytes.now.items) EndWord (tokens_from at bytes.now.items)) }
+    ensures offset { IfOk result (IsOffset bytes.now.items) }
+{
+    let token = token(bytes, at, Expected::End)?;
+    if is_text(bytes, token, "end") {
+        Ok(token.start + token.len)
+    } else if is_text(bytes, token, "characters") {
+        Err(DocRefusal::Section {
+            offset: token.start,
+        })
+    } else {
+        Err(DocRefusal::Syntax {
+            offset: token.start,
+            expected: Expected::End,
+        })
+    }
+}
+
+/// That no token is left.
+#[tactic(auto, unfolding(crate::specs::Reading::read, crate::specs::Kinds::refusal, crate::specs::Kinds::missing))]
+pub fn nothing(bytes: &Vec<u8>, at: u32) -> Result<(), DocRefusal>
+    requires offset { IsOffset bytes.now.items at }
+    ensures gives { Gives (λ _. []) result (skip (length bytes.now.items) NoToken (tokens_from at bytes.now.items)) }
+{
+    match next_token(bytes, at) {
+        Some(token) => Err(DocRefusal::Syntax {
+            offset: token.start,
+            expected: Expected::Nothing,
+        }),
+        None => Ok(()),
     }
 }
