@@ -4,8 +4,8 @@ use Rattle.qd_text.specs.Tokens.{Lexeme, tokens_from}
 use Rattle.qd_text.specs.Numbers.{value}
 use Rattle.qd_text.specs.declared.expected.Expected.TheVariants.{Qdouble, One, Order, Table, Roots, Omega}
 use Rattle.qd_doc.specs.Kinds.{What, Word, Natural, OrderNumber, RootsNumber, FormWord, ElementBelow, EndWord, NoToken, is_word, refusal, missing}
-use Rattle.qd_doc.specs.declared.exponents.Listing.{Listing}
-use Rattle.qd_doc.specs.declared.exponents.Listing.TheVariants.{Trivial, Dense, Sparse}
+use Rattle.qd_doc.specs.declared.listing.Listing.{Listing}
+use Rattle.qd_doc.specs.declared.listing.Listing.TheVariants.{Trivial, Dense, Sparse}
 use Rattle.qd_doc.specs.declared.document.Document.{Document}
 use Rattle.qd_doc.specs.declared.refusal.DocRefusal.{DocRefusal}
 use Rattle.qd_doc.specs.declared.refusal.DocRefusal.TheVariants.{Memory}
@@ -113,11 +113,15 @@ read_document offset left = do
   rest ← read_end offset exponents.1
   Ok (record { order = n.0; table = table.0; roots = roots.0; exponents = exponents.0 })
 
+-- a refusal that a step returned is what reading gives, unless there was no memory
+abbrev pub Fails : {Y : Type 0} → DocRefusal → Result Y DocRefusal → Type 0
+Fails Memory read = Unit {0}
+Fails refusal read = read ≡ Err refusal
+
 -- what a step returned, seen by `view`, is what reading gives, unless there was no memory
 abbrev pub Gives : {X Y : Type 0} → (X → Y) → Result X DocRefusal → Result Y DocRefusal → Type 0
 Gives view (Ok x) read = read ≡ Ok (view x)
-Gives view (Err Memory) read = Unit {0}
-Gives view (Err refusal) read = read ≡ Err refusal
+Gives view (Err refusal) read = Fails refusal read
 
 -- an offset of a text whose offsets fit in 32 bits
 pub record IsOffset (bytes : List ℕ) (offset : ℕ) : Type 0 where

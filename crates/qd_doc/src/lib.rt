@@ -2,7 +2,7 @@
 #![tactic(auto)]
 
 mod document;
-mod exponents;
+mod listing;
 mod kind;
 mod reading;
 mod refusal;

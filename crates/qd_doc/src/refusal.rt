@@ -1,9 +1,8 @@
 ghost use Rattle.std.specs.Prelude.{◌≡◌};
+ghost use Rattle.qd_doc.specs.declared.refusal.DocRefusal.TheVariants.{Memory};
 
 use qd_text::Expected;
 use std::alloc::{AllocError, AllocFailed};
-use std::error::Error;
-use std::fmt;
 
 /// Why a text is no document. Offsets count bytes from 0; the offset of a missing token is the
 /// length of the text.
@@ -21,4 +20,28 @@ pub enum DocRefusal {
     Roots { number: u32 },
     /// There was no memory to read it. Says nothing of the text.
     Memory,
+}
+
+impl From<AllocError> for DocRefusal {
+    ghost from_gives = { λ _ e. e ≡ Memory };
+
+    fn from(_error: AllocError) -> DocRefusal {
+        DocRefusal::Memory
+    }
+}
+
+impl<T: Drop> From<AllocFailed<T>> for DocRefusal {
+    ghost from_gives = { λ _ e. e ≡ Memory };
+
+    fn from(_error: AllocFailed<T>) -> DocRefusal {
+        DocRefusal::Memory
+    }
+}
+
+impl From<group_table::Memory> for DocRefusal {
+    ghost from_gives = { λ _ e. e ≡ Memory };
+
+    fn from(_error: group_table::Memory) -> DocRefusal {
+        DocRefusal::Memory
+    }
 }

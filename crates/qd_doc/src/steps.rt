@@ -1,12 +1,12 @@
-ghost use Rattle.std.specs.Prelude.{◌≡◌, ℕ, ◌+◌, ◌<◌, ◌≤◌, ◌^◌, List, ◌∷◌, [], length, vec_len, IfOk, IfErr, Bool};
+ghost use Rattle.std.specs.Prelude.{◌≡◌, ℕ, ◌+◌, ◌<◌, ◌≤◌, ◌^◌, List, ◌∷◌, [], length, vec_len, IfOk, IfErr, OnOk, Bool};
 ghost use Rattle.qd_text.specs.Tokens.{tokens_from, lexeme_of, text_of, IsWithin};
 ghost use Rattle.qd_text.specs.Numbers.{value};
 ghost use Rattle.qd_text.specs.declared.expected.Expected.{Expected};
 ghost use Rattle.qd_doc.specs.Kinds.{Word, FormWord, EndWord, NoToken, is_word, value_refusal};
-ghost use Rattle.qd_doc.specs.Numerals.{what_of};
+ghost use Rattle.qd_doc.specs.Numerals.{what_of, IsOf};
 ghost use Rattle.qd_doc.specs.Reading.{Gives, IsOffset, read, skip, read_number, listing_of, unless};
 
-use crate::exponents::Listing;
+use crate::listing::Listing;
 use crate::kind::Kind;
 use crate::refusal::DocRefusal;
 use qd_text::{next_token, number, Expected, NumberFault, Token};
@@ -66,6 +66,7 @@ pub fn word(bytes: &Vec<u8>, at: u32, expected: Expected) -> Result<u32, DocRefu
 #[tactic(auto, unfolding(crate::specs::Kinds::refusal))]
 fn check_value(kind: Kind, start: u32, value: u32) -> Result<(), DocRefusal>
     ensures checked { result ≡ unless (value_refusal (what_of kind) start value) tt }
+    ensures of_kind { OnOk result (IsOf kind value) }
 {
     match kind {
         Kind::Order if value < 1 || value > 60 => Err(DocRefusal::Order { number: value }),
@@ -84,6 +85,7 @@ pub fn natural(bytes: &Vec<u8>, at: u32, kind: Kind) -> Result<Numeral, DocRefus
     requires offset { IsOffset bytes.now.items at }
     ensures gives { Gives (λ numeral. (numeral.value, tokens_from numeral.next bytes.now.items)) result (read_number (length bytes.now.items) (what_of kind) (tokens_from at bytes.now.items)) }
     ensures offset { IfOk result (λ numeral. IsOffset bytes.now.items numeral.next) }
+    ensures of_kind { IfOk result (λ numeral. IsOf kind numeral.value) }
 {
     let token = token(bytes, at, Expected::Number)?;
     match number(bytes, token) {
