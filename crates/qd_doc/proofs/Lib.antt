@@ -1,3 +1,4 @@
 pub mod Examples
 pub mod Loops
 pub mod Kinds_at
+pub mod Places

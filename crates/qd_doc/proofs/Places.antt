@@ -1,0 +1,206 @@
+-- Reading token after token finds the first refusal, and the contents by their places.
+use Rattle.std.proofs.Common.{◌≡◌, ℕ, zero, suc, ◌-◌, ◌+◌, ◌*◌, ◌≤◌, ◌<◌, Bool, true, false, cond, List, [], ◌∷◌, ◌++◌, length, take, drop, get_or, map, codes, Option, Some, None, Result, Ok, Err, refl, sym, ap, ◌∙◌, subst, ◌⊎◌, inl, inr, arith, add-zero, add-one, drop-cons}
+use Rattle.std.specs.Prelude.{slice_get, slice_set, replicate}
+use Rattle.std.proofs.lemmas.List.{drop_all}
+use Rattle.std.proofs.lemmas.Option.{slice_get-get_or, slice_get_past}
+use Rattle.scan.specs.First.{first}
+use Rattle.scan.proofs.Places.{first_found, first_none-step}
+use Rattle.qd_text.specs.Tokens.{Lexeme}
+use Rattle.qd_text.specs.Numbers.{value}
+use Rattle.qd_text.specs.declared.expected.Expected.TheVariants.{Qdouble, One, Order, Number, Table, Roots, Omega, Form as A_form, End, Nothing}
+use Rattle.qd_text.specs.declared.expected.Expected.{Expected}
+use Rattle.qd_doc.specs.declared.document.Form.TheVariants.{Bare}
+use Rattle.qd_doc.specs.declared.document.Document.{Document}
+use Rattle.qd_doc.specs.declared.refusal.DocRefusal.{DocRefusal}
+use Rattle.qd_doc.specs.declared.refusal.DocRefusal.TheVariants.{Syntax}
+use Rattle.qd_doc.specs.Kinds.{What, Word, Natural, OrderNumber, RootsNumber, FormWord, ElementBelow, EndWord, NoToken, is_word, refusal, missing, wanted, judgement}
+use Rattle.qd_doc.specs.Grammar.{text_at, number_at, expected, ending, refusal_at, first_refusal}
+use Rattle.qd_doc.specs.Contents.{numbers_at, exponents_of, document_of}
+use Rattle.qd_doc.specs.Reading.{◌>>=◌, unless, read, skip, read_number, read_numbers, read_order, read_roots, read_end, read_document}
+use Rattle.qd_doc.proofs.Kinds_at.{expected-0, expected-1, expected-2, expected-3, expected-4, expected-table, expected-roots, expected-roots_number, expected-omega, expected-form}
+
+abbrev no_lexeme : Lexeme
+no_lexeme = record { start = 0; text = [] }
+
+within_or_past : (place n : ℕ) → place ≤ n → (place < n) ⊎ (place ≡ n)
+within_or_past place n le = grind arith
+
+module _ (offset : ℕ) (all : List Lexeme) where
+
+  -- what holds after a reading: a fact of what was read, or its refusal is that of the text
+  abbrev pub Reads : {A : Type 0} → Result A DocRefusal → (A → Type 0) → Type 0
+  Reads (Ok x) Q = Q x
+  Reads (Err r) Q = first_refusal Bare offset all ≡ Some r
+
+  -- no token before this place is refused
+  pub record Reached (place : ℕ) : Type 0 where
+    pub within : place ≤ length all
+    pub clear : first place (refusal_at Bare offset all) ≡ None
+
+  pub reads_bind : {A B : Type 0} (m : Result A DocRefusal) (f : A → Result B DocRefusal) (Q : B → Type 0) → Reads m (λ x. Reads (f x) Q) → Reads (m >>= f) Q
+  reads_bind (Ok x) f Q h = h
+  reads_bind (Err r) f Q h = h
+
+  pub reads_weaker : {A : Type 0} (m : Result A DocRefusal) (P Q : A → Type 0) → ((x : A) → P x → Q x) → Reads m P → Reads m Q
+  reads_weaker (Ok x) P Q h p = h x p
+  reads_weaker (Err r) P Q h p = p
+
+  pub reached_none : Reached 0
+  unfolding first
+  reached_none = record { within = omega arith; clear = refl }
+
+  pub reached_at : (place other : ℕ) → place ≡ other → Reached place → Reached other
+  reached_at place other e reached = subst Reached e reached
+
+  -- a refusal at a place that was reached is that of the text
+  refused : (place : ℕ) (r : DocRefusal) → Reached place → refusal_at Bare offset all place ≡ Some r → first_refusal Bare offset all ≡ Some r
+  unfolding first_refusal
+  refused place r reached here =
+      let within : place < length all + 1 = omega (arith, reached.within) in
+      first_found (length all + 1) place (refusal_at Bare offset all) r within reached.clear here
+
+  goes_on : (place : ℕ) → Reached place → place < length all → refusal_at Bare offset all place ≡ None → Reached (place + 1)
+  goes_on place reached within here = record {
+    within = omega arith;
+    clear = first_none-step place (refusal_at Bare offset all) reached.clear here;
+  }
+
+  -- the token at a place
+  abbrev lexeme_at : ℕ → Lexeme
+  lexeme_at place = get_or all place no_lexeme
+
+  refusal_at-within : (place : ℕ) (kind : What) → expected Bare (take place all) ≡ kind → place < length all → refusal_at Bare offset all place ≡ refusal kind (lexeme_at place)
+  refusal_at-within place kind stands within =
+      ap (λ w. judgement w offset (slice_get all place)) stands ∙ ap (judgement kind offset) (slice_get-get_or all place no_lexeme within)
+
+  refusal_at-end : (place : ℕ) (kind : What) → expected Bare (take place all) ≡ kind → length all ≤ place → refusal_at Bare offset all place ≡ missing kind offset
+  refusal_at-end place kind stands past =
+      ap (λ w. judgement w offset (slice_get all place)) stands ∙ ap (judgement kind offset) (slice_get_past all place past)
+
+  drop_here : (place : ℕ) → place < length all → drop place all ≡ lexeme_at place ∷ drop (place + 1) all
+  drop_here place within = rw (add-one, drop-cons all place no_lexeme) refl
+
+  read-cons : {A : Type 0} (view : List ℕ → A) (kind : What) (token : Lexeme) (rest : List Lexeme) → read view offset kind (token ∷ rest) ≡ unless (refusal kind token) (view token.text, rest)
+  unfolding read
+  read-cons view kind token rest = refl
+
+  read-nil : {A : Type 0} (view : List ℕ → A) (kind : What) → read view offset kind [] ≡ unless (missing kind offset) (view [], [])
+  unfolding read
+  read-nil view kind = refl
+
+  step_within : {A : Type 0} (view : List ℕ → A) (place : ℕ) (kind : What) (Q : (A × List Lexeme) → Type 0) (r : Option DocRefusal) → refusal kind (lexeme_at place) ≡ r
+      → Reached place → expected Bare (take place all) ≡ kind → place < length all
+      → (Reached (place + 1) → Q (view (text_at all place), drop (place + 1) all))
+      → Reads (unless r (view (text_at all place), drop (place + 1) all)) Q
+  step_within view place kind Q None e reached stands within next =
+      next (goes_on place reached within (refusal_at-within place kind stands within ∙ e))
+  step_within view place kind Q (Some r) e reached stands within next =
+      refused place r reached (refusal_at-within place kind stands within ∙ e)
+
+  step_end : {A : Type 0} (kind : What) (x : A) (Q : A → Type 0) (place : ℕ) (r : DocRefusal) → missing kind offset ≡ Some r
+      → Reached place → expected Bare (take place all) ≡ kind → length all ≤ place
+      → Reads (unless (missing kind offset) x) Q
+  step_end kind x Q place r e reached stands past =
+      rw e (refused place r reached (refusal_at-end place kind stands past ∙ e))
+
+  -- a token that has to stand at a place
+  pub step : {A : Type 0} (view : List ℕ → A) (kind : What) (place next : ℕ) (r : DocRefusal) (Q : (A × List Lexeme) → Type 0) → missing kind offset ≡ Some r
+      → place + 1 ≡ next → Reached place → expected Bare (take place all) ≡ kind
+      → (Reached next → Q (view (text_at all place), drop next all))
+      → Reads (read view offset kind (drop place all)) Q
+  step view kind place next r Q e after reached stands on =
+      elim (within_or_past place (length all) reached.within) [
+        | inl within ↦
+            let all_left = drop_here place within in
+            rw (all_left, read-cons view kind (lexeme_at place) (drop (place + 1) all))
+              (step_within view place kind Q (refusal kind (lexeme_at place)) refl reached stands within
+                (rw after on))
+        | inr past ↦
+            let nothing_left : drop place all ≡ [] = drop_all place all (omega arith) in
+            rw (nothing_left, read-nil view kind) (step_end kind (view [], []) Q place r e reached stands (omega arith))
+      ]
+
+  -- a word that has to stand at a place
+  pub skip_step : (kind : What) (place next : ℕ) (r : DocRefusal) (Q : List Lexeme → Type 0) → missing kind offset ≡ Some r
+      → place + 1 ≡ next → Reached place → expected Bare (take place all) ≡ kind
+      → (Reached next → Q (drop next all))
+      → Reads (skip offset kind (drop place all)) Q
+  skip_step kind place next r Q e after reached stands on =
+      reads_bind (read (λ text. text) offset kind (drop place all)) (λ x. Ok x.1) Q
+        (step (λ text. text) kind place next r (λ x. Q x.1) e after reached stands on)
+
+  -- a number that has to stand at a place
+  pub number_step : (kind : What) (place next : ℕ) (r : DocRefusal) (Q : (ℕ × List Lexeme) → Type 0) → missing kind offset ≡ Some r
+      → place + 1 ≡ next → Reached place → expected Bare (take place all) ≡ kind
+      → (Reached next → Q (number_at all place, drop next all))
+      → Reads (read_number offset kind (drop place all)) Q
+  number_step kind place next r Q e after reached stands on = step value kind place next r Q e after reached stands on
+
+  -- that nothing stands at a place
+  pub end_step : (place : ℕ) (Q : List Lexeme → Type 0) → Reached place → expected Bare (take place all) ≡ NoToken
+      → (first_refusal Bare offset all ≡ None → Q [])
+      → Reads (skip offset NoToken (drop place all)) Q
+  unfolding missing refusal first_refusal
+  end_step place Q reached stands on =
+      elim (within_or_past place (length all) reached.within) [
+        | inl within ↦
+            let all_left = drop_here place within in
+            rw (all_left, read-cons (λ text. text) NoToken (lexeme_at place) (drop (place + 1) all))
+              (refused place (Syntax (lexeme_at place).start Nothing) reached (refusal_at-within place NoToken stands within))
+        | inr past ↦
+            let nothing_left : drop place all ≡ [] = drop_all place all (omega arith) in
+            let here : refusal_at Bare offset all place ≡ None = refusal_at-end place NoToken stands (omega arith) in
+            let clear : first (place + 1) (refusal_at Bare offset all) ≡ None = first_none-step place (refusal_at Bare offset all) reached.clear here in
+            let whole : first (length all + 1) (refusal_at Bare offset all) ≡ None = ap (λ n. first (n + 1) (refusal_at Bare offset all)) (sym past) ∙ clear in
+            rw (nothing_left, read-nil (λ text. text) NoToken) (on whole)
+      ]
+
+  missing-word : (expected : Expected) → missing (Word expected) offset ≡ Some (Syntax offset expected)
+  unfolding missing
+  missing-word expected = refl
+
+  missing-natural : missing Natural offset ≡ Some (Syntax offset Number)
+  unfolding missing
+  missing-natural = refl
+
+  missing-order : missing OrderNumber offset ≡ Some (Syntax offset Number)
+  unfolding missing
+  missing-order = refl
+
+  missing-roots : missing RootsNumber offset ≡ Some (Syntax offset Number)
+  unfolding missing
+  missing-roots = refl
+
+  pub missing-element : (n : ℕ) → missing (ElementBelow n) offset ≡ Some (Syntax offset Number)
+  unfolding missing
+  missing-element n = refl
+
+  missing-form : missing FormWord offset ≡ Some (Syntax offset A_form)
+  unfolding missing
+  missing-form = refl
+
+  missing-end : missing EndWord offset ≡ Some (Syntax offset End)
+  unfolding missing
+  missing-end = refl
+
+  pub word_step : (expected_word : Expected) (place next : ℕ) (Q : List Lexeme → Type 0)
+      → place + 1 ≡ next → Reached place → expected Bare (take place all) ≡ Word expected_word
+      → (Reached next → Q (drop next all))
+      → Reads (skip offset (Word expected_word) (drop place all)) Q
+  word_step expected_word place next Q after reached stands on =
+      skip_step (Word expected_word) place next (Syntax offset expected_word) Q (missing-word expected_word) after reached stands on
+
+  -- the order
+  order_step : (Q : (ℕ × List Lexeme) → Type 0) → (Reached 5 → Q (number_at all 3, drop 5 all)) → Reads (read_order offset all) Q
+  unfolding read_order
+  order_step Q on =
+      reads_bind (skip offset (Word Qdouble) all) _ Q
+        (word_step Qdouble 0 1 _ refl reached_none (expected-0 all reached_none.within) (λ r1.
+      reads_bind (skip offset (Word One) (drop 1 all)) _ Q
+        (word_step One 1 2 _ refl r1 (expected-1 all r1.within) (λ r2.
+      reads_bind (skip offset (Word Order) (drop 2 all)) _ Q
+        (word_step Order 2 3 _ refl r2 (expected-2 all r2.within) (λ r3.
+      reads_bind (read_number offset OrderNumber (drop 3 all)) _ Q
+        (number_step OrderNumber 3 4 (Syntax offset Number) _ missing-order refl r3 (expected-3 all r3.within) (λ r4.
+      reads_bind (skip offset (Word Table) (drop 4 all)) _ Q
+        (word_step Table 4 5 _ refl r4 (expected-4 all r4.within) on)))))))))
