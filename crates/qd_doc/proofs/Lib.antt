@@ -1,4 +1,5 @@
 pub mod Examples
 pub mod Loops
 pub mod Kinds_at
+pub mod Sparse
 pub mod Places

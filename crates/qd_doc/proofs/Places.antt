@@ -15,8 +15,9 @@ use Rattle.qd_doc.specs.declared.refusal.DocRefusal.{DocRefusal}
 use Rattle.qd_doc.specs.declared.refusal.DocRefusal.TheVariants.{Syntax}
 use Rattle.qd_doc.specs.Kinds.{What, Word, Natural, OrderNumber, RootsNumber, FormWord, ElementBelow, EndWord, NoToken, is_word, refusal, missing, wanted, judgement}
 use Rattle.qd_doc.specs.Grammar.{text_at, number_at, expected, ending, refusal_at, first_refusal}
-use Rattle.qd_doc.specs.Contents.{numbers_at, exponents_of, document_of}
-use Rattle.qd_doc.specs.Reading.{◌>>=◌, unless, read, skip, read_number, read_numbers, read_order, read_roots, read_end, read_document}
+use Rattle.qd_doc.specs.Contents.{numbers_at, sparse_exponents, exponents_of, document_of}
+use Rattle.qd_doc.specs.Reading.{◌>>=◌, unless, read, skip, read_number, read_numbers, read_entry, read_entries, read_sparse, read_listing, read_exponents, listing_of, read_order, read_roots, read_end, read_document}
+use Rattle.qd_doc.proofs.Sparse.{place_of, sparse_exponents-suc, sparse_exponents-zero}
 use Rattle.qd_doc.proofs.Kinds_at.{expected-0, expected-1, expected-2, expected-3, expected-4, expected-table, expected-roots, expected-roots_number, expected-omega, expected-form}
 
 abbrev no_lexeme : Lexeme
@@ -204,3 +205,74 @@ module _ (offset : ℕ) (all : List Lexeme) where
         (number_step OrderNumber 3 4 (Syntax offset Number) _ missing-order refl r3 (expected-3 all r3.within) (λ r4.
       reads_bind (skip offset (Word Table) (drop 4 all)) _ Q
         (word_step Table 4 5 _ refl r4 (expected-4 all r4.within) on)))))))))
+
+  -- so many natural numbers from a place on
+  numbers_step : (count place next : ℕ) (Q : (List ℕ × List Lexeme) → Type 0) → place + count ≡ next → Reached place
+      → ((j : ℕ) → j < count → place + j ≤ length all → expected Bare (take (place + j) all) ≡ Natural)
+      → (Reached next → Q (numbers_at all place count, drop next all))
+      → Reads (read_numbers offset count (drop place all)) Q
+  unfolding read_numbers
+  numbers_step zero place next Q after reached stand on =
+      let e : place ≡ next = sym (add-zero place) ∙ after in
+      rw e (on (reached_at place next e reached))
+  numbers_step (suc count) place next Q after reached stand on =
+      reads_bind (read_number offset Natural (drop place all)) _ Q
+        (number_step Natural place (place + 1) (Syntax offset Number) _ missing-natural refl reached
+          (let e : place + 0 ≡ place = omega arith in
+           let here : expected Bare (take (place + 0) all) ≡ Natural = stand 0 (omega arith) (omega (arith, reached.within)) in
+           rw e at here)
+          (λ r1.
+      reads_bind (read_numbers offset count (drop (place + 1) all)) _ Q
+        (numbers_step count (place + 1) next (λ more. Q (number_at all place ∷ more.0, more.1)) (omega arith) r1
+          (λ j within inside.
+            let e : place + (j + 1) ≡ place + 1 + j = omega arith in
+            let there : expected Bare (take (place + (j + 1)) all) ≡ Natural = stand (j + 1) (omega arith) (omega arith) in
+            rw e at there)
+          (λ r2.
+            let within : place < length all = omega (arith, r1.within) in
+            let one : numbers_at all place (suc count) ≡ number_at all place ∷ numbers_at all (place + 1) count = rw (drop_here place within) refl in
+            rw one at (on r2)))))
+
+  -- an entry of a sparse list
+  entry_step : (n place next : ℕ) (Q : ((ℕ × ℕ) × List Lexeme) → Type 0) → place + 4 ≡ next → Reached place
+      → ((r : ℕ) → r < 3 → place + r ≤ length all → expected Bare (take (place + r) all) ≡ ElementBelow n)
+      → (place + 3 ≤ length all → expected Bare (take (place + 3) all) ≡ Natural)
+      → (Reached next → Q ((place_of all n place, number_at all (place + 3)), drop next all))
+      → Reads (read_entry offset n (drop place all)) Q
+  unfolding read_entry
+  entry_step n place next Q after reached elements natural on =
+      let here : expected Bare (take place all) ≡ ElementBelow n =
+          (let e : place + 0 ≡ place = omega arith in
+           let at : expected Bare (take (place + 0) all) ≡ ElementBelow n = elements 0 (omega arith) (omega (arith, reached.within)) in
+           rw e at at) in
+      reads_bind (read_number offset (ElementBelow n) (drop place all)) _ Q
+        (number_step (ElementBelow n) place (place + 1) (Syntax offset Number) _ (missing-element n) refl reached here (λ r1.
+      reads_bind (read_number offset (ElementBelow n) (drop (place + 1) all)) _ Q
+        (number_step (ElementBelow n) (place + 1) (place + 2) (Syntax offset Number) _ (missing-element n) (omega arith) r1 (elements 1 (omega arith) r1.within) (λ r2.
+      reads_bind (read_number offset (ElementBelow n) (drop (place + 2) all)) _ Q
+        (number_step (ElementBelow n) (place + 2) (place + 3) (Syntax offset Number) _ (missing-element n) (omega arith) r2 (elements 2 (omega arith) r2.within) (λ r3.
+      reads_bind (read_number offset Natural (drop (place + 3) all)) _ Q
+        (number_step Natural (place + 3) next (Syntax offset Number) _ missing-natural (omega arith) r3 (natural r3.within) on)))))))
+
+  -- the entries from number i on
+  entries_step : (n start count next left i : ℕ) (Q : (List ℕ × List Lexeme) → Type 0) → i + left ≡ count → start + 4 * count ≡ next
+      → Reached (start + 4 * i)
+      → ((j r : ℕ) → j < count → r < 3 → start + 4 * j + r ≤ length all → expected Bare (take (start + 4 * j + r) all) ≡ ElementBelow n)
+      → ((j : ℕ) → j < count → start + 4 * j + 3 ≤ length all → expected Bare (take (start + 4 * j + 3) all) ≡ Natural)
+      → (Reached next → Q (sparse_exponents all n start count, drop next all))
+      → Reads (read_entries offset n left (sparse_exponents all n start i) (drop (start + 4 * i) all)) Q
+  unfolding read_entries
+  entries_step n start count next zero i Q total after reached elements naturals on =
+      let e : i ≡ count = omega arith in
+      let f : start + 4 * i ≡ next = omega arith in
+      rw (f, e) (on (reached_at (start + 4 * i) next f reached))
+  entries_step n start count next (suc left) i Q total after reached elements naturals on =
+      let listed : i < count = omega arith in
+      let later : start + 4 * i + 4 ≡ start + 4 * suc i = omega arith in
+      reads_bind (read_entry offset n (drop (start + 4 * i) all)) _ Q
+        (entry_step n (start + 4 * i) (start + 4 * suc i) _ later reached
+          (λ r third inside. elements i r listed third inside)
+          (λ inside. naturals i listed inside)
+          (λ r4.
+            rw (sparse_exponents-suc all n start i)
+              (entries_step n start count next left (suc i) Q (omega arith) after r4 elements naturals on)))
