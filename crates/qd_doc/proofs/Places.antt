@@ -17,8 +17,9 @@ use Rattle.qd_doc.specs.Kinds.{What, Word, Natural, OrderNumber, RootsNumber, Fo
 use Rattle.qd_doc.specs.Grammar.{text_at, number_at, expected, ending, refusal_at, first_refusal}
 use Rattle.qd_doc.specs.Contents.{numbers_at, sparse_exponents, exponents_of, document_of}
 use Rattle.qd_doc.specs.Reading.{◌>>=◌, unless, read, skip, read_number, read_numbers, read_entry, read_entries, read_sparse, read_listing, read_exponents, listing_of, read_order, read_roots, read_end, read_document}
+use Rattle.qd_doc.specs.declared.listing.Listing.TheVariants.{Trivial, Dense, Sparse}
 use Rattle.qd_doc.proofs.Sparse.{place_of, sparse_exponents-suc, sparse_exponents-zero}
-use Rattle.qd_doc.proofs.Kinds_at.{expected-0, expected-1, expected-2, expected-3, expected-4, expected-table, expected-roots, expected-roots_number, expected-omega, expected-form}
+use Rattle.qd_doc.proofs.Kinds_at.{expected-0, expected-1, expected-2, expected-3, expected-4, expected-table, expected-roots, expected-roots_number, expected-omega, expected-form, expected-trivial, expected-dense, expected_after_dense, expected-sparse, expected_in_entries, kind_at-element, kind_at-exponent, kind_at-after_entries}
 
 abbrev no_lexeme : Lexeme
 no_lexeme = record { start = 0; text = [] }
@@ -276,3 +277,122 @@ module _ (offset : ℕ) (all : List Lexeme) where
           (λ r4.
             rw (sparse_exponents-suc all n start i)
               (entries_step n start count next left (suc i) Q (omega arith) after r4 elements naturals on)))
+
+  -- the exponents end before this place, at which the word `end` has to stand and nothing after it
+  record Ends (place : ℕ) : Type 0 where
+    reached : Reached place
+    here : expected Bare (take place all) ≡ EndWord
+    after : place + 1 ≤ length all → expected Bare (take (place + 1) all) ≡ NoToken
+
+  module _ (n : ℕ) (is_order : number_at all 3 ≡ n) where
+
+    trivial_step : (Q : (List ℕ × List Lexeme) → Type 0) → Reached (n * n + 9)
+        → is_word (text_at all (n * n + 8)) (codes "dense") ≡ false → is_word (text_at all (n * n + 8)) (codes "sparse") ≡ false
+        → ((place : ℕ) → Ends place → Q (exponents_of all n, drop place all))
+        → Reads (read_listing offset n Trivial (drop (n * n + 9) all)) Q
+    unfolding exponents_of
+    trivial_step Q reached dense sparse on =
+        let ends : Ends (n * n + 9) = record {
+              reached = reached;
+              here = expected-trivial all n is_order (n * n + 9) 0 (omega arith) reached.within dense sparse;
+              after = λ inside. expected-trivial all n is_order (n * n + 9 + 1) 1 (omega arith) inside dense sparse;
+            } in
+        rw (dense, sparse) at (on (n * n + 9) ends)
+
+    dense_step : (Q : (List ℕ × List Lexeme) → Type 0) → Reached (n * n + 9)
+        → is_word (text_at all (n * n + 8)) (codes "dense") ≡ true
+        → ((place : ℕ) → Ends place → Q (exponents_of all n, drop place all))
+        → Reads (read_listing offset n Dense (drop (n * n + 9) all)) Q
+    unfolding exponents_of
+    dense_step Q reached dense on =
+        let end = n * n + 9 + n * n * n in
+        numbers_step (n * n * n) (n * n + 9) end Q refl reached
+          (λ j within inside. expected-dense all n is_order (n * n + 9 + j) j refl inside dense within)
+          (λ reached_end.
+            let ends : Ends end = record {
+                  reached = reached_end;
+                  here = expected_after_dense all n is_order end 0 (omega arith) reached_end.within dense;
+                  after = λ inside. expected_after_dense all n is_order (end + 1) 1 (omega arith) inside dense;
+                } in
+            rw dense at (on end ends))
+
+    sparse_step : (Q : (List ℕ × List Lexeme) → Type 0) → Reached (n * n + 9)
+        → is_word (text_at all (n * n + 8)) (codes "dense") ≡ false → is_word (text_at all (n * n + 8)) (codes "sparse") ≡ true
+        → ((place : ℕ) → Ends place → Q (exponents_of all n, drop place all))
+        → Reads (read_listing offset n Sparse (drop (n * n + 9) all)) Q
+    unfolding exponents_of read_sparse
+    sparse_step Q reached dense sparse on =
+        let count = number_at all (n * n + 9) in
+        let start = n * n + 9 + 1 in
+        let end = start + 4 * count in
+        let zero_entries : start + 4 * 0 ≡ start = omega arith in
+        reads_bind (read_number offset Natural (drop (n * n + 9) all)) _ Q
+          (number_step Natural (n * n + 9) start (Syntax offset Number) _ missing-natural refl reached (expected-sparse all n is_order (n * n + 9) refl reached.within dense sparse) (λ r1.
+            let entries = entries_step n start count end count 0 Q (omega arith) refl (reached_at start (start + 4 * 0) (sym zero_entries) r1)
+                  (λ j r listed third inside.
+                    expected_in_entries all n is_order (start + 4 * j + r) (4 * j + r) (omega arith) inside dense sparse
+                    ∙ kind_at-element n count j r (ending Bare) listed third)
+                  (λ j listed inside.
+                    expected_in_entries all n is_order (start + 4 * j + 3) (4 * j + 3) (omega arith) inside dense sparse
+                    ∙ kind_at-exponent n count j (ending Bare) listed)
+                  (λ reached_end.
+                    let ends : Ends end = record {
+                          reached = reached_end;
+                          here = expected_in_entries all n is_order end (4 * count + 0) (omega arith) reached_end.within dense sparse ∙ kind_at-after_entries n count 0 (ending Bare);
+                          after = λ inside. expected_in_entries all n is_order (end + 1) (4 * count + 1) (omega arith) inside dense sparse ∙ kind_at-after_entries n count 1 (ending Bare);
+                        } in
+                    rw (dense, sparse) at (on end ends)) in
+            rw (sparse_exponents-zero all n start) (rw zero_entries at entries)))
+
+    listing_by : (dense sparse : Bool) (Q : (List ℕ × List Lexeme) → Type 0) → Reached (n * n + 9)
+        → is_word (text_at all (n * n + 8)) (codes "dense") ≡ dense → is_word (text_at all (n * n + 8)) (codes "sparse") ≡ sparse
+        → ((place : ℕ) → Ends place → Q (exponents_of all n, drop place all))
+        → Reads (read_listing offset n (cond dense Dense (cond sparse Sparse Trivial)) (drop (n * n + 9) all)) Q
+    listing_by true sparse Q reached d s on = dense_step Q reached d on
+    listing_by false true Q reached d s on = sparse_step Q reached d s on
+    listing_by false false Q reached d s on = trivial_step Q reached d s on
+
+    exponents_step : (Q : (List ℕ × List Lexeme) → Type 0) → Reached (n * n + 8)
+        → ((place : ℕ) → Ends place → Q (exponents_of all n, drop place all))
+        → Reads (read_exponents offset n (drop (n * n + 8) all)) Q
+    unfolding read_exponents
+    exponents_step Q reached on =
+        let text = text_at all (n * n + 8) in
+        reads_bind (read listing_of offset FormWord (drop (n * n + 8) all)) _ Q
+          (step listing_of FormWord (n * n + 8) (n * n + 9) (Syntax offset A_form) _ missing-form (omega arith) reached (expected-form all n is_order (n * n + 8) refl reached.within)
+            (λ r9. listing_by (is_word text (codes "dense")) (is_word text (codes "sparse")) Q r9 refl refl on))
+
+    table_step : (Q : (List ℕ × List Lexeme) → Type 0) → Reached 5 → (Reached (n * n + 5) → Q (numbers_at all 5 (n * n), drop (n * n + 5) all))
+        → Reads (read_numbers offset (n * n) (drop 5 all)) Q
+    table_step Q reached on =
+        numbers_step (n * n) 5 (n * n + 5) Q (omega arith) reached (λ j within inside. expected-table all n is_order j within inside) on
+
+    roots_step : (Q : (ℕ × List Lexeme) → Type 0) → Reached (n * n + 5) → (Reached (n * n + 8) → Q (number_at all (n * n + 6), drop (n * n + 8) all))
+        → Reads (read_roots offset (drop (n * n + 5) all)) Q
+    unfolding read_roots
+    roots_step Q reached on =
+        reads_bind (skip offset (Word Roots) (drop (n * n + 5) all)) _ Q
+          (word_step Roots (n * n + 5) (n * n + 6) _ (omega arith) reached (expected-roots all n is_order (n * n + 5) refl reached.within) (λ r6.
+        reads_bind (read_number offset RootsNumber (drop (n * n + 6) all)) _ Q
+          (number_step RootsNumber (n * n + 6) (n * n + 7) (Syntax offset Number) _ missing-roots (omega arith) r6 (expected-roots_number all n is_order (n * n + 6) refl r6.within) (λ r7.
+        reads_bind (skip offset (Word Omega) (drop (n * n + 7) all)) _ Q
+          (word_step Omega (n * n + 7) (n * n + 8) _ (omega arith) r7 (expected-omega all n is_order (n * n + 7) refl r7.within) on)))))
+
+  last_steps : (place : ℕ) (Q : List Lexeme → Type 0) → Ends place → (first_refusal Bare offset all ≡ None → Q []) → Reads (read_end offset (drop place all)) Q
+  unfolding read_end
+  last_steps place Q ends on =
+      reads_bind (skip offset EndWord (drop place all)) _ Q
+        (skip_step EndWord place (place + 1) (Syntax offset End) _ missing-end refl ends.reached ends.here (λ r1.
+          end_step (place + 1) Q r1 (ends.after r1.within) on))
+
+  -- reading a whole document finds the first refusal, or the document that its tokens spell
+  pub reads_document : Reads (read_document offset all) (λ document. (first_refusal Bare offset all ≡ None) × (document ≡ document_of all))
+  unfolding read_document document_of
+  reads_document =
+      let Q : Document → Type 0 = λ document. (first_refusal Bare offset all ≡ None) × (document ≡ document_of all) in
+      let n = number_at all 3 in
+      reads_bind (read_order offset all) _ Q (order_step _ (λ r5.
+      reads_bind (read_numbers offset (n * n) (drop 5 all)) _ Q (table_step n refl _ r5 (λ after_table.
+      reads_bind (read_roots offset (drop (n * n + 5) all)) _ Q (roots_step n refl _ after_table (λ after_omega.
+      reads_bind (read_exponents offset n (drop (n * n + 8) all)) _ Q (exponents_step n refl _ after_omega (λ place ends.
+      reads_bind (read_end offset (drop place all)) _ Q (last_steps place _ ends (λ none. (none, refl)))))))))))
