@@ -3,3 +3,4 @@ pub mod Numerals
 pub mod Grammar
 pub mod Contents
 pub mod Reading
+pub mod Canonical

@@ -3,11 +3,14 @@
 
 mod document;
 mod listing;
+mod printing;
 mod kind;
 mod reading;
 mod refusal;
 mod steps;
 
 pub use document::{Document, Form};
+pub use printing::print;
+pub use qd_text::Memory;
 pub use reading::parse;
 pub use refusal::DocRefusal;
