@@ -3,3 +3,4 @@ pub mod Loops
 pub mod Kinds_at
 pub mod Sparse
 pub mod Places
+pub mod Lines
