@@ -4,3 +4,4 @@ pub mod Kinds_at
 pub mod Sparse
 pub mod Places
 pub mod Lines
+pub mod RoundTrip

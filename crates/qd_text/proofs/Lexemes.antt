@@ -10,7 +10,7 @@ pub runs-nil : (follows : Bool) (offset : ℕ) → runs follows offset [] ≡ []
 unfolding runs
 runs-nil follows offset = refl
 
-runs-cons : (follows : Bool) (offset byte : ℕ) (bytes : List ℕ) → runs follows offset (byte ∷ bytes)
+pub runs-cons : (follows : Bool) (offset byte : ℕ) (bytes : List ℕ) → runs follows offset (byte ∷ bytes)
     ≡ cond (is_blank byte) (runs false (offset + 1) bytes)
     (cond follows (runs true (offset + 1) bytes)
     ((record { start = offset; text = take_while is_mark (byte ∷ bytes) }) ∷ runs true (offset + 1) bytes))
@@ -51,7 +51,7 @@ skip_byte offset byte bytes true e separates = runs-blank false offset 32 _ refl
 skip_byte offset byte bytes false e separates = runs-blank false offset byte _ (or-true (is_blank byte) (byte == 35) separates e)
 
 -- a byte of a comment, or a separator, is no part of a token
-skip_front : (inside : Bool) (offset byte : ℕ) (bytes : List ℕ) → (inside || is_separator byte) ≡ true
+pub skip_front : (inside : Bool) (offset byte : ℕ) (bytes : List ℕ) → (inside || is_separator byte) ≡ true
     → runs false offset (blanked inside (byte ∷ bytes)) ≡ runs false (offset + 1) (blanked (in_comment inside byte) bytes)
 skip_front true offset byte bytes skipped = rw (blanked-cons true byte bytes) (runs-blank false offset 32 _ refl)
 skip_front false offset byte bytes skipped = rw (blanked-cons false byte bytes) (skip_byte offset byte bytes (byte == 35) refl skipped)
@@ -84,7 +84,7 @@ after_word : (offset byte : ℕ) (bytes : List ℕ) → is_separator byte ≡ tr
 after_word offset byte bytes separates =
     rw (blanked-cons false byte bytes) (after_word-by offset byte (blanked (in_comment false byte) bytes) (byte == 35) refl separates)
 
-and-true : (a b : Bool) → (a && b) ≡ true → (a ≡ true) × (b ≡ true)
+pub and-true : (a b : Bool) → (a && b) ≡ true → (a ≡ true) × (b ≡ true)
 and-true true b e = (refl, e)
 and-true false b e = absurd cc
 
