@@ -25,7 +25,7 @@ use Rattle.qd_doc.specs.Kinds.{What, Word, Natural, OrderNumber, RootsNumber, Fo
 use Rattle.qd_doc.specs.Grammar.{first_refusal, stop_of}
 use Rattle.qd_doc.specs.Contents.{Parses, document_of}
 use Rattle.qd_doc.specs.Reading.{◌>>=◌, unless, read, skip, read_number, read_numbers, read_order, read_roots, listing_of, read_listing, read_exponents, read_end, read_document}
-use Rattle.qd_doc.specs.Canonical.{line, rows, reduced, are_trivial, omega_lines, canonical_lines, canonical_text, reduced_document, IsPrintable, ReadsBack}
+use Rattle.qd_doc.specs.Canonical.{line, rows, reduced, are_trivial, omega_lines, canonical_lines, canonical_text, reduced_document, IsPrintable, ReadsBack, PrintedIsRead}
 use Rattle.qd_doc.proofs.Places.{Reads, reads_document}
 
 -- ---- the words of lines
@@ -364,3 +364,38 @@ module _ (offset : ℕ) where
       reads_bind (read_roots offset left2) _ Q (roots_ok document.roots left2 _ _ printable.roots.0 printable.roots.1 e2 (λ left3 e3.
       reads_bind (read_exponents offset n left3) _ Q (exponents_by n document.roots document.exponents (are_trivial document.roots document.exponents) left3 (codes "end" ∷ []) _ refl printable.exponents printable.roots.0 printable.roots.1 e3 (λ left4 e4.
       reads_bind (read_end offset left4) _ Q (end_ok left4 _ e4 refl)))))))))
+
+-- what is known of a canonical text: no token is refused, and its contents are the document's
+pub record IsReadBack (document : Document) : Type 0 where
+  pub whole : stop_of Bare (canonical_text document) ≡ None
+  pub contents : document_of (tokens (canonical_text document)) ≡ reduced_document document
+
+pub read_back : (document : Document) → IsPrintable document → All (λ number. number < 2 ^ 32) document.table → IsReadBack document
+unfolding stop_of
+read_back document printable small =
+    let bytes = canonical_text document in
+    let all = tokens bytes in
+    let offset = length bytes in
+    let few = recursion_from_All (λ number. number < 2 ^ 32) document.table small in
+    let found = reads_ok offset (read_document offset all) (λ read. read ≡ reduced_document document)
+          (document_ok offset document all printable few (words_of-document document printable few)) in
+    let known : Reads offset all (Ok found.0) (λ read. (first_refusal Bare offset all ≡ None) × (read ≡ document_of all)) = rw found.1 at (reads_document offset all) in
+    record { whole = known.0; contents = sym known.1 ∙ found.2 }
+
+none_refused : {o : Option DocRefusal} {r : DocRefusal} → o ≡ None → o ≡ Some r → ⊥
+none_refused e f = cc
+
+read_by : (document : Document) (answer : Result Document DocRefusal) → IsReadBack document → Parses Bare (canonical_text document) answer
+    → MatchResult answer (λ read. read ≡ reduced_document document) (λ refusal. refusal ≡ refusals.Memory)
+read_by document (Ok read) back parses = parses.1 ∙ back.contents
+read_by document (Err (refusals.Syntax offset expected)) back parses = absurd (none_refused back.whole parses)
+read_by document (Err (refusals.Wide offset)) back parses = absurd (none_refused back.whole parses)
+read_by document (Err (refusals.Section offset)) back parses = absurd (none_refused back.whole parses)
+read_by document (Err (refusals.Order number)) back parses = absurd (none_refused back.whole parses)
+read_by document (Err (refusals.Roots number)) back parses = absurd (none_refused back.whole parses)
+read_by document (Err refusals.Memory) back parses = refl
+
+pub printed_is_read : PrintedIsRead
+printed_is_read document printable small =
+    let back = read_back document printable small in
+    (back.whole, λ answer parses. read_by document answer back parses)

@@ -1,11 +1,12 @@
 -- The canonical text of a document.
-use Rattle.std.specs.Prelude.{◌≡◌, ℕ, zero, suc, ◌+◌, ◌*◌, ◌%◌, ◌≤◌, ◌<◌, ◌^◌, Bool, nat_eq, if◌then◌else◌, List, [], ◌∷◌, ◌++◌, length, take, drop, map, codes, All, Result, Ok, Err, MatchResult}
+use Rattle.std.specs.Prelude.{◌≡◌, None, ℕ, zero, suc, ◌+◌, ◌*◌, ◌%◌, ◌≤◌, ◌<◌, ◌^◌, Bool, nat_eq, if◌then◌else◌, List, [], ◌∷◌, ◌++◌, length, take, drop, map, codes, All, Result, Ok, Err, MatchResult}
 use Rattle.std.specs.List.{flat_map, list_all}
 use Rattle.std.specs.Fmt.{decimal}
 use Rattle.qd_doc.specs.declared.document.Form.TheVariants.{Bare}
 use Rattle.qd_doc.specs.declared.document.Document.{Document}
 use Rattle.qd_doc.specs.declared.refusal.DocRefusal.{DocRefusal}
 use Rattle.qd_doc.specs.declared.refusal.DocRefusal.TheVariants.{Memory}
+use Rattle.qd_doc.specs.Grammar.{stop_of}
 use Rattle.qd_doc.specs.Contents.{Parses}
 
 -- the text of a line of words: one space between them, and a line feed at its end
@@ -60,3 +61,8 @@ pub record IsPrintable (document : Document) : Type 0 where
 abbrev pub ReadsBack : Document → Type 0
 ReadsBack document = (answer : Result Document DocRefusal) → Parses Bare (canonical_text document) answer
     → MatchResult answer (λ read. read ≡ reduced_document document) (λ refusal. refusal ≡ Memory)
+
+-- a document whose numbers fit in 32 bits is printed as a text that is a document, and is read back
+abbrev pub PrintedIsRead : Type 0
+PrintedIsRead = (document : Document) → IsPrintable document → All (λ number. number < 2 ^ 32) document.table
+    → (stop_of Bare (canonical_text document) ≡ None) × ReadsBack document

@@ -10,7 +10,7 @@ mod refusal;
 mod steps;
 
 pub use document::{Document, Form};
-pub use printing::print;
+pub use printing::{print, printed_is_read};
 pub use qd_text::Memory;
 pub use reading::parse;
 pub use refusal::DocRefusal;

@@ -1,7 +1,7 @@
 ghost use Rattle.std.specs.Prelude.{◌≡◌, ℕ, ◌+◌, ◌*◌, ◌%◌, ◌<◌, ◌≤◌, ◌^◌, ◌++◌, [], ◌∷◌, length, map, codes, IfOk, OnOk};
 ghost use Rattle.std.specs.List.{flat_map};
 ghost use Rattle.std.specs.Fmt.{decimal};
-ghost use Rattle.qd_doc.specs.Canonical.{line, rows, reduced, are_trivial, omega_lines, canonical_text, IsPrintable};
+ghost use Rattle.qd_doc.specs.Canonical.{line, rows, reduced, are_trivial, omega_lines, canonical_text, IsPrintable, PrintedIsRead};
 
 use crate::document::Document;
 use qd_text::{append_number, append_word, Memory};
@@ -21,6 +21,13 @@ pub fn print(alloc: Global, document: &Document) -> Result<Vec<u8>, Memory>
     append_exponents(alloc, &mut out, order, document.roots, document.exponents.as_slice())?;
     append_word(&mut out, "end\n")?;
     Ok(out)
+}
+
+/// A law: the canonical text of a document is a document, and `parse` reads it as the one that was
+/// printed, with its exponents modulo the number of roots.
+pub fn printed_is_read()
+    ensures law { PrintedIsRead }
+{
 }
 
 /// The lines before the table.
