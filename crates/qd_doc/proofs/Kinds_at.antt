@@ -88,7 +88,6 @@ past_middle k runs later =
     past (4 + k) 1 (3 + k) _ _ later (omega arith) ∙ past (3 + k) 1 (2 + k) _ _ later (omega arith) ∙ past (2 + k) 1 (1 + k) _ _ later (omega arith) ∙ past (1 + k) 1 k _ _ later (omega arith)
 
 module _ (all : List Lexeme) (n : ℕ) (is_order : number_at all 3 ≡ n) where
-
   -- the runs that the tokens before a place name
   expected_in : (place : ℕ) → 3 < place → place ≤ length all
       → expected Bare (take place all) ≡ kind_at (front_runs n ++ exponent_runs (text_at (take place all) (n * n + 8)) n (number_at (take place all) (n * n + 9))) (ending Bare) place
@@ -197,7 +196,7 @@ entry_runs-suc n count = refl
 past_entry : (n count k : ℕ) (later : ℕ → What) → kind_at (entry_runs n (suc count)) later (4 + k) ≡ kind_at (entry_runs n count) later k
 past_entry n count k later =
     rw (entry_runs-suc n count)
-      (past (4 + k) 3 (1 + k) (ElementBelow n) _ later (omega arith) ∙ past (1 + k) 1 k Natural _ later (omega arith))
+    (past (4 + k) 3 (1 + k) (ElementBelow n) _ later (omega arith) ∙ past (1 + k) 1 k Natural _ later (omega arith))
 
 -- the places of entry i
 pub kind_at-element : (n count i r : ℕ) (later : ℕ → What) → i < count → r < 3 → kind_at (entry_runs n count) later (4 * i + r) ≡ ElementBelow n

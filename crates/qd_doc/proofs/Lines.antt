@@ -78,13 +78,13 @@ front_text : (n : ℕ) (rest : List (List (List ℕ))) → flat_map line ((codes
     ≡ (codes "qdouble 1\norder " ++ (decimal n ++ codes "\ntable\n")) ++ flat_map line rest
 front_text n rest =
     ap (λ text. codes "qdouble 1\norder " ++ text)
-      (last_number (decimal n) (codes "table\n" ++ flat_map line rest) ∙ sym (append_assoc (decimal n) (codes "\ntable\n") (flat_map line rest)))
+    (last_number (decimal n) (codes "table\n" ++ flat_map line rest) ∙ sym (append_assoc (decimal n) (codes "\ntable\n") (flat_map line rest)))
 
 roots_text : (roots : ℕ) (rest : List (List (List ℕ))) → flat_map line ((codes "roots" ∷ decimal roots ∷ []) ∷ rest)
     ≡ (codes "roots " ++ (decimal roots ++ codes "\n")) ++ flat_map line rest
 roots_text roots rest =
     ap (λ text. codes "roots " ++ text)
-      (last_number (decimal roots) (flat_map line rest) ∙ sym (append_assoc (decimal roots) (codes "\n") (flat_map line rest)))
+    (last_number (decimal roots) (flat_map line rest) ∙ sym (append_assoc (decimal roots) (codes "\n") (flat_map line rest)))
 
 regroup : (a t r o e : List ℕ) → (((a ++ t) ++ r) ++ o) ++ e ≡ (a ++ t) ++ ((r ++ o) ++ e)
 regroup a t r o e = simp append_assoc
@@ -106,11 +106,11 @@ canonical_pieces document a b c d e ea eb ec ed ee =
     let middle = (codes "roots" ∷ decimal document.roots ∷ []) ∷ exponents in
     let last = (codes "end" ∷ []) ∷ [] in
     let text : flat_map line (front ++ (middle ++ last)) ≡ flat_map line front ++ (flat_map line middle ++ flat_map line last) =
-        flat_map-append line front (middle ++ last) ∙ ap (λ more. flat_map line front ++ more) (flat_map-append line middle last) in
+    flat_map-append line front (middle ++ last) ∙ ap (λ more. flat_map line front ++ more) (flat_map-append line middle last) in
     let whole : flat_map line (front ++ (middle ++ last)) ≡
-        ((codes "qdouble 1\norder " ++ (decimal n ++ codes "\ntable\n")) ++ flat_map line table) ++ (((codes "roots " ++ (decimal document.roots ++ codes "\n")) ++ flat_map line exponents) ++ codes "end\n") =
-        text ∙ ap (λ t. t ++ (flat_map line middle ++ flat_map line last)) (front_text n table)
-        ∙ ap (λ t. ((codes "qdouble 1\norder " ++ (decimal n ++ codes "\ntable\n")) ++ flat_map line table) ++ (t ++ flat_map line last)) (roots_text document.roots exponents) in
+    ((codes "qdouble 1\norder " ++ (decimal n ++ codes "\ntable\n")) ++ flat_map line table) ++ (((codes "roots " ++ (decimal document.roots ++ codes "\n")) ++ flat_map line exponents) ++ codes "end\n") =
+    text ∙ ap (λ t. t ++ (flat_map line middle ++ flat_map line last)) (front_text n table)
+    ∙ ap (λ t. ((codes "qdouble 1\norder " ++ (decimal n ++ codes "\ntable\n")) ++ flat_map line table) ++ (t ++ flat_map line last)) (roots_text document.roots exponents) in
     let start = codes "qdouble 1\norder " ++ (decimal n ++ codes "\ntable\n") in
     let roots = codes "roots " ++ (decimal document.roots ++ codes "\n") in
     ee ∙ ap (λ text. text ++ codes "end\n") (ed ∙ ap (λ text. text ++ flat_map line exponents) (ec ∙ ap (λ text. text ++ roots) (eb ∙ ap (λ text. text ++ flat_map line table) ea)))

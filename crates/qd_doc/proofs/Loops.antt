@@ -26,7 +26,6 @@ regroup front n (Ok x) = ap (λ (ns : List ℕ). Ok (ns, x.1)) (simp append_asso
 regroup front n (Err f) = refl
 
 module _ (offset : ℕ) where
-
   pub numbers_go_on : (front : List ℕ) (count i : ℕ) (left : List Lexeme) (n : ℕ) (after : List Lexeme) (total : Result (List ℕ × List Lexeme) DocRefusal) → i < count → read_number offset Natural left ≡ Ok (n, after)
       → with_front front (read_numbers offset (count - i) left) ≡ total → with_front (front ++ n ∷ []) (read_numbers offset (count - (i + 1)) after) ≡ total
   unfolding read_numbers
@@ -41,10 +40,10 @@ module _ (offset : ℕ) where
   numbers_fail e front count i left total lt failed so_far =
       let k : count - i ≡ suc (count - (i + 1)) = omega arith in
       fails_also e (read_number offset Natural left) total
-        (λ (h : read_number offset Natural left ≡ Err e).
-          let one : with_front front (read_numbers offset (count - i) left) ≡ Err e = rw (k, h) refl in
-          sym so_far ∙ one)
-        failed
+      (λ (h : read_number offset Natural left ≡ Err e).
+      let one : with_front front (read_numbers offset (count - i) left) ≡ Err e = rw (k, h) refl in
+      sym so_far ∙ one)
+      failed
 
   pub numbers_end : (front : List ℕ) (count i : ℕ) (left : List Lexeme) (total : Result (List ℕ × List Lexeme) DocRefusal) → count ≤ i → with_front front (read_numbers offset (count - i) left) ≡ total → total ≡ Ok (front, left)
   unfolding read_numbers
@@ -67,10 +66,10 @@ module _ (offset : ℕ) where
   entries_fail e n count i exponents left total lt failed so_far =
       let k : count - i ≡ suc (count - (i + 1)) = omega arith in
       fails_also e (read_entry offset n left) total
-        (λ (h : read_entry offset n left ≡ Err e).
-          let one : read_entries offset n (count - i) exponents left ≡ Err e = rw (k, h) refl in
-          sym so_far ∙ one)
-        failed
+      (λ (h : read_entry offset n left ≡ Err e).
+      let one : read_entries offset n (count - i) exponents left ≡ Err e = rw (k, h) refl in
+      sym so_far ∙ one)
+      failed
 
   pub entries_end : (n count i : ℕ) (exponents : List ℕ) (left : List Lexeme) (total : Result (List ℕ × List Lexeme) DocRefusal) → count ≤ i → read_entries offset n (count - i) exponents left ≡ total → total ≡ Ok (exponents, left)
   unfolding read_entries

@@ -28,7 +28,6 @@ within_or_past : (place n : ℕ) → place ≤ n → (place < n) ⊎ (place ≡ 
 within_or_past place n le = grind arith
 
 module _ (offset : ℕ) (all : List Lexeme) where
-
   -- what holds after a reading: a fact of what was read, or its refusal is that of the text
   abbrev pub Reads : {A : Type 0} → Result A DocRefusal → (A → Type 0) → Type 0
   Reads (Ok x) Q = Q x
@@ -115,8 +114,8 @@ module _ (offset : ℕ) (all : List Lexeme) where
         | inl within ↦
             let all_left = drop_here place within in
             rw (all_left, read-cons view kind (lexeme_at place) (drop (place + 1) all))
-              (step_within view place kind Q (refusal kind (lexeme_at place)) refl reached stands within
-                (rw after on))
+            (step_within view place kind Q (refusal kind (lexeme_at place)) refl reached stands within
+            (rw after on))
         | inr past ↦
             let nothing_left : drop place all ≡ [] = drop_all place all (omega arith) in
             rw (nothing_left, read-nil view kind) (step_end kind (view [], []) Q place r e reached stands (omega arith))
@@ -129,7 +128,7 @@ module _ (offset : ℕ) (all : List Lexeme) where
       → Reads (skip offset kind (drop place all)) Q
   skip_step kind place next r Q e after reached stands on =
       reads_bind (read (λ text. text) offset kind (drop place all)) (λ x. Ok x.1) Q
-        (step (λ text. text) kind place next r (λ x. Q x.1) e after reached stands on)
+      (step (λ text. text) kind place next r (λ x. Q x.1) e after reached stands on)
 
   -- a number that has to stand at a place
   pub number_step : (kind : What) (place next : ℕ) (r : DocRefusal) (Q : (ℕ × List Lexeme) → Type 0) → missing kind offset ≡ Some r
@@ -148,7 +147,7 @@ module _ (offset : ℕ) (all : List Lexeme) where
         | inl within ↦
             let all_left = drop_here place within in
             rw (all_left, read-cons (λ text. text) NoToken (lexeme_at place) (drop (place + 1) all))
-              (refused place (Syntax (lexeme_at place).start Nothing) reached (refusal_at-within place NoToken stands within))
+            (refused place (Syntax (lexeme_at place).start Nothing) reached (refusal_at-within place NoToken stands within))
         | inr past ↦
             let nothing_left : drop place all ≡ [] = drop_all place all (omega arith) in
             let here : refusal_at Bare offset all place ≡ None = refusal_at-end place NoToken stands (omega arith) in
@@ -197,15 +196,15 @@ module _ (offset : ℕ) (all : List Lexeme) where
   unfolding read_order
   order_step Q on =
       reads_bind (skip offset (Word Qdouble) all) _ Q
-        (word_step Qdouble 0 1 _ refl reached_none (expected-0 all reached_none.within) (λ r1.
+      (word_step Qdouble 0 1 _ refl reached_none (expected-0 all reached_none.within) (λ r1.
       reads_bind (skip offset (Word One) (drop 1 all)) _ Q
-        (word_step One 1 2 _ refl r1 (expected-1 all r1.within) (λ r2.
+      (word_step One 1 2 _ refl r1 (expected-1 all r1.within) (λ r2.
       reads_bind (skip offset (Word Order) (drop 2 all)) _ Q
-        (word_step Order 2 3 _ refl r2 (expected-2 all r2.within) (λ r3.
+      (word_step Order 2 3 _ refl r2 (expected-2 all r2.within) (λ r3.
       reads_bind (read_number offset OrderNumber (drop 3 all)) _ Q
-        (number_step OrderNumber 3 4 (Syntax offset Number) _ missing-order refl r3 (expected-3 all r3.within) (λ r4.
+      (number_step OrderNumber 3 4 (Syntax offset Number) _ missing-order refl r3 (expected-3 all r3.within) (λ r4.
       reads_bind (skip offset (Word Table) (drop 4 all)) _ Q
-        (word_step Table 4 5 _ refl r4 (expected-4 all r4.within) on)))))))))
+      (word_step Table 4 5 _ refl r4 (expected-4 all r4.within) on)))))))))
 
   -- so many natural numbers from a place on
   numbers_step : (count place next : ℕ) (Q : (List ℕ × List Lexeme) → Type 0) → place + count ≡ next → Reached place
@@ -218,21 +217,21 @@ module _ (offset : ℕ) (all : List Lexeme) where
       rw e (on (reached_at place next e reached))
   numbers_step (suc count) place next Q after reached stand on =
       reads_bind (read_number offset Natural (drop place all)) _ Q
-        (number_step Natural place (place + 1) (Syntax offset Number) _ missing-natural refl reached
-          (let e : place + 0 ≡ place = omega arith in
-           let here : expected Bare (take (place + 0) all) ≡ Natural = stand 0 (omega arith) (omega (arith, reached.within)) in
-           rw e at here)
-          (λ r1.
+      (number_step Natural place (place + 1) (Syntax offset Number) _ missing-natural refl reached
+      (let e : place + 0 ≡ place = omega arith in
+      let here : expected Bare (take (place + 0) all) ≡ Natural = stand 0 (omega arith) (omega (arith, reached.within)) in
+      rw e at here)
+      (λ r1.
       reads_bind (read_numbers offset count (drop (place + 1) all)) _ Q
-        (numbers_step count (place + 1) next (λ more. Q (number_at all place ∷ more.0, more.1)) (omega arith) r1
-          (λ j within inside.
-            let e : place + (j + 1) ≡ place + 1 + j = omega arith in
-            let there : expected Bare (take (place + (j + 1)) all) ≡ Natural = stand (j + 1) (omega arith) (omega arith) in
-            rw e at there)
-          (λ r2.
-            let within : place < length all = omega (arith, r1.within) in
-            let one : numbers_at all place (suc count) ≡ number_at all place ∷ numbers_at all (place + 1) count = rw (drop_here place within) refl in
-            rw one at (on r2)))))
+      (numbers_step count (place + 1) next (λ more. Q (number_at all place ∷ more.0, more.1)) (omega arith) r1
+      (λ j within inside.
+      let e : place + (j + 1) ≡ place + 1 + j = omega arith in
+      let there : expected Bare (take (place + (j + 1)) all) ≡ Natural = stand (j + 1) (omega arith) (omega arith) in
+      rw e at there)
+      (λ r2.
+      let within : place < length all = omega (arith, r1.within) in
+      let one : numbers_at all place (suc count) ≡ number_at all place ∷ numbers_at all (place + 1) count = rw (drop_here place within) refl in
+      rw one at (on r2)))))
 
   -- an entry of a sparse list
   entry_step : (n place next : ℕ) (Q : ((ℕ × ℕ) × List Lexeme) → Type 0) → place + 4 ≡ next → Reached place
@@ -243,17 +242,17 @@ module _ (offset : ℕ) (all : List Lexeme) where
   unfolding read_entry
   entry_step n place next Q after reached elements natural on =
       let here : expected Bare (take place all) ≡ ElementBelow n =
-          (let e : place + 0 ≡ place = omega arith in
-           let at : expected Bare (take (place + 0) all) ≡ ElementBelow n = elements 0 (omega arith) (omega (arith, reached.within)) in
-           rw e at at) in
+      (let e : place + 0 ≡ place = omega arith in
+      let at : expected Bare (take (place + 0) all) ≡ ElementBelow n = elements 0 (omega arith) (omega (arith, reached.within)) in
+      rw e at at) in
       reads_bind (read_number offset (ElementBelow n) (drop place all)) _ Q
-        (number_step (ElementBelow n) place (place + 1) (Syntax offset Number) _ (missing-element n) refl reached here (λ r1.
+      (number_step (ElementBelow n) place (place + 1) (Syntax offset Number) _ (missing-element n) refl reached here (λ r1.
       reads_bind (read_number offset (ElementBelow n) (drop (place + 1) all)) _ Q
-        (number_step (ElementBelow n) (place + 1) (place + 2) (Syntax offset Number) _ (missing-element n) (omega arith) r1 (elements 1 (omega arith) r1.within) (λ r2.
+      (number_step (ElementBelow n) (place + 1) (place + 2) (Syntax offset Number) _ (missing-element n) (omega arith) r1 (elements 1 (omega arith) r1.within) (λ r2.
       reads_bind (read_number offset (ElementBelow n) (drop (place + 2) all)) _ Q
-        (number_step (ElementBelow n) (place + 2) (place + 3) (Syntax offset Number) _ (missing-element n) (omega arith) r2 (elements 2 (omega arith) r2.within) (λ r3.
+      (number_step (ElementBelow n) (place + 2) (place + 3) (Syntax offset Number) _ (missing-element n) (omega arith) r2 (elements 2 (omega arith) r2.within) (λ r3.
       reads_bind (read_number offset Natural (drop (place + 3) all)) _ Q
-        (number_step Natural (place + 3) next (Syntax offset Number) _ missing-natural (omega arith) r3 (natural r3.within) on)))))))
+      (number_step Natural (place + 3) next (Syntax offset Number) _ missing-natural (omega arith) r3 (natural r3.within) on)))))))
 
   -- the entries from number i on
   entries_step : (n start count next left i : ℕ) (Q : (List ℕ × List Lexeme) → Type 0) → i + left ≡ count → start + 4 * count ≡ next
@@ -271,12 +270,12 @@ module _ (offset : ℕ) (all : List Lexeme) where
       let listed : i < count = omega arith in
       let later : start + 4 * i + 4 ≡ start + 4 * suc i = omega arith in
       reads_bind (read_entry offset n (drop (start + 4 * i) all)) _ Q
-        (entry_step n (start + 4 * i) (start + 4 * suc i) _ later reached
-          (λ r third inside. elements i r listed third inside)
-          (λ inside. naturals i listed inside)
-          (λ r4.
-            rw (sparse_exponents-suc all n start i)
-              (entries_step n start count next left (suc i) Q (omega arith) after r4 elements naturals on)))
+      (entry_step n (start + 4 * i) (start + 4 * suc i) _ later reached
+      (λ r third inside. elements i r listed third inside)
+      (λ inside. naturals i listed inside)
+      (λ r4.
+      rw (sparse_exponents-suc all n start i)
+      (entries_step n start count next left (suc i) Q (omega arith) after r4 elements naturals on)))
 
   -- the exponents end before this place, at which the word `end` has to stand and nothing after it
   record Ends (place : ℕ) : Type 0 where
@@ -285,7 +284,6 @@ module _ (offset : ℕ) (all : List Lexeme) where
     after : place + 1 ≤ length all → expected Bare (take (place + 1) all) ≡ NoToken
 
   module _ (n : ℕ) (is_order : number_at all 3 ≡ n) where
-
     trivial_step : (Q : (List ℕ × List Lexeme) → Type 0) → Reached (n * n + 9)
         → is_word (text_at all (n * n + 8)) (codes "dense") ≡ false → is_word (text_at all (n * n + 8)) (codes "sparse") ≡ false
         → ((place : ℕ) → Ends place → Q (exponents_of all n, drop place all))
@@ -293,10 +291,10 @@ module _ (offset : ℕ) (all : List Lexeme) where
     unfolding exponents_of
     trivial_step Q reached dense sparse on =
         let ends : Ends (n * n + 9) = record {
-              reached = reached;
-              here = expected-trivial all n is_order (n * n + 9) 0 (omega arith) reached.within dense sparse;
-              after = λ inside. expected-trivial all n is_order (n * n + 9 + 1) 1 (omega arith) inside dense sparse;
-            } in
+          reached = reached;
+          here = expected-trivial all n is_order (n * n + 9) 0 (omega arith) reached.within dense sparse;
+          after = λ inside. expected-trivial all n is_order (n * n + 9 + 1) 1 (omega arith) inside dense sparse;
+        } in
         rw (dense, sparse) at (on (n * n + 9) ends)
 
     dense_step : (Q : (List ℕ × List Lexeme) → Type 0) → Reached (n * n + 9)
@@ -307,14 +305,14 @@ module _ (offset : ℕ) (all : List Lexeme) where
     dense_step Q reached dense on =
         let end = n * n + 9 + n * n * n in
         numbers_step (n * n * n) (n * n + 9) end Q refl reached
-          (λ j within inside. expected-dense all n is_order (n * n + 9 + j) j refl inside dense within)
-          (λ reached_end.
-            let ends : Ends end = record {
-                  reached = reached_end;
-                  here = expected_after_dense all n is_order end 0 (omega arith) reached_end.within dense;
-                  after = λ inside. expected_after_dense all n is_order (end + 1) 1 (omega arith) inside dense;
-                } in
-            rw dense at (on end ends))
+        (λ j within inside. expected-dense all n is_order (n * n + 9 + j) j refl inside dense within)
+        (λ reached_end.
+        let ends : Ends end = record {
+          reached = reached_end;
+          here = expected_after_dense all n is_order end 0 (omega arith) reached_end.within dense;
+          after = λ inside. expected_after_dense all n is_order (end + 1) 1 (omega arith) inside dense;
+        } in
+        rw dense at (on end ends))
 
     sparse_step : (Q : (List ℕ × List Lexeme) → Type 0) → Reached (n * n + 9)
         → is_word (text_at all (n * n + 8)) (codes "dense") ≡ false → is_word (text_at all (n * n + 8)) (codes "sparse") ≡ true
@@ -327,22 +325,22 @@ module _ (offset : ℕ) (all : List Lexeme) where
         let end = start + 4 * count in
         let zero_entries : start + 4 * 0 ≡ start = omega arith in
         reads_bind (read_number offset Natural (drop (n * n + 9) all)) _ Q
-          (number_step Natural (n * n + 9) start (Syntax offset Number) _ missing-natural refl reached (expected-sparse all n is_order (n * n + 9) refl reached.within dense sparse) (λ r1.
-            let entries = entries_step n start count end count 0 Q (omega arith) refl (reached_at start (start + 4 * 0) (sym zero_entries) r1)
-                  (λ j r listed third inside.
-                    expected_in_entries all n is_order (start + 4 * j + r) (4 * j + r) (omega arith) inside dense sparse
-                    ∙ kind_at-element n count j r (ending Bare) listed third)
-                  (λ j listed inside.
-                    expected_in_entries all n is_order (start + 4 * j + 3) (4 * j + 3) (omega arith) inside dense sparse
-                    ∙ kind_at-exponent n count j (ending Bare) listed)
-                  (λ reached_end.
-                    let ends : Ends end = record {
-                          reached = reached_end;
-                          here = expected_in_entries all n is_order end (4 * count + 0) (omega arith) reached_end.within dense sparse ∙ kind_at-after_entries n count 0 (ending Bare);
-                          after = λ inside. expected_in_entries all n is_order (end + 1) (4 * count + 1) (omega arith) inside dense sparse ∙ kind_at-after_entries n count 1 (ending Bare);
-                        } in
-                    rw (dense, sparse) at (on end ends)) in
-            rw (sparse_exponents-zero all n start) (rw zero_entries at entries)))
+        (number_step Natural (n * n + 9) start (Syntax offset Number) _ missing-natural refl reached (expected-sparse all n is_order (n * n + 9) refl reached.within dense sparse) (λ r1.
+        let entries = entries_step n start count end count 0 Q (omega arith) refl (reached_at start (start + 4 * 0) (sym zero_entries) r1)
+        (λ j r listed third inside.
+        expected_in_entries all n is_order (start + 4 * j + r) (4 * j + r) (omega arith) inside dense sparse
+        ∙ kind_at-element n count j r (ending Bare) listed third)
+        (λ j listed inside.
+        expected_in_entries all n is_order (start + 4 * j + 3) (4 * j + 3) (omega arith) inside dense sparse
+        ∙ kind_at-exponent n count j (ending Bare) listed)
+        (λ reached_end.
+        let ends : Ends end = record {
+          reached = reached_end;
+          here = expected_in_entries all n is_order end (4 * count + 0) (omega arith) reached_end.within dense sparse ∙ kind_at-after_entries n count 0 (ending Bare);
+          after = λ inside. expected_in_entries all n is_order (end + 1) (4 * count + 1) (omega arith) inside dense sparse ∙ kind_at-after_entries n count 1 (ending Bare);
+        } in
+        rw (dense, sparse) at (on end ends)) in
+        rw (sparse_exponents-zero all n start) (rw zero_entries at entries)))
 
     listing_by : (dense sparse : Bool) (Q : (List ℕ × List Lexeme) → Type 0) → Reached (n * n + 9)
         → is_word (text_at all (n * n + 8)) (codes "dense") ≡ dense → is_word (text_at all (n * n + 8)) (codes "sparse") ≡ sparse
@@ -359,8 +357,8 @@ module _ (offset : ℕ) (all : List Lexeme) where
     exponents_step Q reached on =
         let text = text_at all (n * n + 8) in
         reads_bind (read listing_of offset FormWord (drop (n * n + 8) all)) _ Q
-          (step listing_of FormWord (n * n + 8) (n * n + 9) (Syntax offset A_form) _ missing-form (omega arith) reached (expected-form all n is_order (n * n + 8) refl reached.within)
-            (λ r9. listing_by (is_word text (codes "dense")) (is_word text (codes "sparse")) Q r9 refl refl on))
+        (step listing_of FormWord (n * n + 8) (n * n + 9) (Syntax offset A_form) _ missing-form (omega arith) reached (expected-form all n is_order (n * n + 8) refl reached.within)
+        (λ r9. listing_by (is_word text (codes "dense")) (is_word text (codes "sparse")) Q r9 refl refl on))
 
     table_step : (Q : (List ℕ × List Lexeme) → Type 0) → Reached 5 → (Reached (n * n + 5) → Q (numbers_at all 5 (n * n), drop (n * n + 5) all))
         → Reads (read_numbers offset (n * n) (drop 5 all)) Q
@@ -372,18 +370,18 @@ module _ (offset : ℕ) (all : List Lexeme) where
     unfolding read_roots
     roots_step Q reached on =
         reads_bind (skip offset (Word Roots) (drop (n * n + 5) all)) _ Q
-          (word_step Roots (n * n + 5) (n * n + 6) _ (omega arith) reached (expected-roots all n is_order (n * n + 5) refl reached.within) (λ r6.
+        (word_step Roots (n * n + 5) (n * n + 6) _ (omega arith) reached (expected-roots all n is_order (n * n + 5) refl reached.within) (λ r6.
         reads_bind (read_number offset RootsNumber (drop (n * n + 6) all)) _ Q
-          (number_step RootsNumber (n * n + 6) (n * n + 7) (Syntax offset Number) _ missing-roots (omega arith) r6 (expected-roots_number all n is_order (n * n + 6) refl r6.within) (λ r7.
+        (number_step RootsNumber (n * n + 6) (n * n + 7) (Syntax offset Number) _ missing-roots (omega arith) r6 (expected-roots_number all n is_order (n * n + 6) refl r6.within) (λ r7.
         reads_bind (skip offset (Word Omega) (drop (n * n + 7) all)) _ Q
-          (word_step Omega (n * n + 7) (n * n + 8) _ (omega arith) r7 (expected-omega all n is_order (n * n + 7) refl r7.within) on)))))
+        (word_step Omega (n * n + 7) (n * n + 8) _ (omega arith) r7 (expected-omega all n is_order (n * n + 7) refl r7.within) on)))))
 
   last_steps : (place : ℕ) (Q : List Lexeme → Type 0) → Ends place → (first_refusal Bare offset all ≡ None → Q []) → Reads (read_end offset (drop place all)) Q
   unfolding read_end
   last_steps place Q ends on =
       reads_bind (skip offset EndWord (drop place all)) _ Q
-        (skip_step EndWord place (place + 1) (Syntax offset End) _ missing-end refl ends.reached ends.here (λ r1.
-          end_step (place + 1) Q r1 (ends.after r1.within) on))
+      (skip_step EndWord place (place + 1) (Syntax offset End) _ missing-end refl ends.reached ends.here (λ r1.
+      end_step (place + 1) Q r1 (ends.after r1.within) on))
 
   -- reading a whole document finds the first refusal, or the document that its tokens spell
   pub reads_document : Reads (read_document offset all) (λ document. (first_refusal Bare offset all ≡ None) × (document ≡ document_of all))

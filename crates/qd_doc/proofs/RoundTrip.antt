@@ -23,9 +23,9 @@ use Rattle.qd_doc.specs.declared.refusal.DocRefusal.{DocRefusal}
 use Rattle.qd_doc.specs.declared.refusal.DocRefusal.TheVariants as refusals
 use Rattle.qd_doc.specs.Kinds.{What, Word, Natural, OrderNumber, RootsNumber, FormWord, EndWord, NoToken, is_word, is_form, refusal, missing, value_refusal, number_refusal}
 use Rattle.qd_doc.specs.Grammar.{first_refusal, stop_of}
-use Rattle.qd_doc.specs.Contents.{Parses, document_of}
+use Rattle.qd_doc.specs.Contents.{Parses, document_of, IsInRange}
 use Rattle.qd_doc.specs.Reading.{◌>>=◌, unless, read, skip, read_number, read_numbers, read_order, read_roots, listing_of, read_listing, read_exponents, read_end, read_document}
-use Rattle.qd_doc.specs.Canonical.{line, rows, reduced, are_trivial, omega_lines, canonical_lines, canonical_text, reduced_document, IsPrintable, ReadsBack, PrintedIsRead}
+use Rattle.qd_doc.specs.Canonical.{line, rows, reduced, are_trivial, omega_lines, canonical_lines, canonical_text, reduced_document, ReadsBack, PrintedIsRead}
 use Rattle.qd_doc.proofs.Places.{Reads, reads_document}
 
 -- ---- the words of lines
@@ -109,7 +109,7 @@ exponent_words roots exponents = cond (are_trivial roots exponents) (codes "triv
 
 omega_by : (n roots : ℕ) (exponents : List ℕ) (b : Bool) → length exponents ≡ n * n * n
     → words_in (cond b ((codes "omega" ∷ codes "trivial" ∷ []) ∷ []) ((codes "omega" ∷ codes "dense" ∷ []) ∷ rows (n * n) n (reduced roots exponents)))
-      ≡ codes "omega" ∷ cond b (codes "trivial" ∷ []) (codes "dense" ∷ map decimal (reduced roots exponents))
+    ≡ codes "omega" ∷ cond b (codes "trivial" ∷ []) (codes "dense" ∷ map decimal (reduced roots exponents))
 unfolding words_in
 omega_by n roots exponents true e = refl
 omega_by n roots exponents false e =
@@ -142,9 +142,9 @@ words_in-end : words_in ((codes "end" ∷ []) ∷ []) ≡ codes "end" ∷ []
 unfolding words_in
 words_in-end = refl
 
-words_in-document : (document : Document) → IsPrintable document → words_in (canonical_lines document) ≡ document_words document
+words_in-document : (document : Document) → IsInRange document → words_in (canonical_lines document) ≡ document_words document
 unfolding canonical_lines document_words
-words_in-document document printable =
+words_in-document document in_range =
     let n = document.order in
     let table = rows n n document.table in
     let exponents = omega_lines n document.roots document.exponents in
@@ -152,9 +152,9 @@ words_in-document document printable =
     let middle = (codes "roots" ∷ decimal document.roots ∷ []) ∷ exponents in
     let last = (codes "end" ∷ []) ∷ [] in
     let front_words : words_in front ≡ codes "qdouble" ∷ codes "1" ∷ codes "order" ∷ decimal n ∷ codes "table" ∷ map decimal document.table =
-        words_in-front n table ∙ ap (λ words. codes "qdouble" ∷ codes "1" ∷ codes "order" ∷ decimal n ∷ codes "table" ∷ words) (words_in-rows n n document.table printable.table) in
+    words_in-front n table ∙ ap (λ words. codes "qdouble" ∷ codes "1" ∷ codes "order" ∷ decimal n ∷ codes "table" ∷ words) (words_in-rows n n document.table in_range.table) in
     let middle_words : words_in middle ≡ codes "roots" ∷ decimal document.roots ∷ codes "omega" ∷ exponent_words document.roots document.exponents =
-        words_in-roots document.roots exponents ∙ ap (λ words. codes "roots" ∷ decimal document.roots ∷ words) (words_in-omega n document.roots document.exponents printable.exponents) in
+    words_in-roots document.roots exponents ∙ ap (λ words. codes "roots" ∷ decimal document.roots ∷ words) (words_in-omega n document.roots document.exponents in_range.exponents) in
     words_in-append front (middle ++ last)
     ∙ ap (λ words. words_in front ++ words) (words_in-append middle last)
     ∙ ap (λ words. words ++ (words_in middle ++ words_in last)) front_words
@@ -170,25 +170,25 @@ plain-exponents : (roots : ℕ) (exponents : List ℕ) (b : Bool) → 1 ≤ root
 plain-exponents roots exponents true low high = refl
 plain-exponents roots exponents false low high = plain-numbers (reduced roots exponents) (small-reduced roots exponents low high)
 
-plain-document : (document : Document) → IsPrintable document → AreSmall document.table → list_all is_plain (document_words document) ≡ true
+plain-document : (document : Document) → IsInRange document → AreSmall document.table → list_all is_plain (document_words document) ≡ true
 unfolding document_words exponent_words
-plain-document document printable small =
-    let order = is_plain-decimal document.order (omega (arith, printable.order.1)) in
-    let roots = is_plain-decimal document.roots (omega (arith, printable.roots.1)) in
+plain-document document in_range small =
+    let order = is_plain-decimal document.order (omega (arith, in_range.order.1)) in
+    let roots = is_plain-decimal document.roots (omega (arith, in_range.roots.1)) in
     let table = plain-numbers document.table small in
-    let exponents = plain-exponents document.roots document.exponents (are_trivial document.roots document.exponents) printable.roots.0 printable.roots.1 in
+    let exponents = plain-exponents document.roots document.exponents (are_trivial document.roots document.exponents) in_range.roots.0 in_range.roots.1 in
     let end_words : list_all is_plain (exponent_words document.roots document.exponents ++ codes "end" ∷ []) ≡ true =
-        list_all-append is_plain (exponent_words document.roots document.exponents) (codes "end" ∷ []) ∙ rw exponents refl in
+    list_all-append is_plain (exponent_words document.roots document.exponents) (codes "end" ∷ []) ∙ rw exponents refl in
     let later : list_all is_plain (codes "roots" ∷ decimal document.roots ∷ codes "omega" ∷ (exponent_words document.roots document.exponents ++ codes "end" ∷ [])) ≡ true = rw (roots, end_words) refl in
     let table_words : list_all is_plain (map decimal document.table ++ (codes "roots" ∷ decimal document.roots ∷ codes "omega" ∷ (exponent_words document.roots document.exponents ++ codes "end" ∷ []))) ≡ true =
-        list_all-append is_plain (map decimal document.table) (codes "roots" ∷ decimal document.roots ∷ codes "omega" ∷ (exponent_words document.roots document.exponents ++ codes "end" ∷ [])) ∙ rw (table, later) refl in
+    list_all-append is_plain (map decimal document.table) (codes "roots" ∷ decimal document.roots ∷ codes "omega" ∷ (exponent_words document.roots document.exponents ++ codes "end" ∷ [])) ∙ rw (table, later) refl in
     rw (order, table_words) refl
 
 -- the tokens of a canonical text spell the words of the document
-words_of-document : (document : Document) → IsPrintable document → AreSmall document.table → words_of (canonical_text document) ≡ document_words document
-words_of-document document printable small =
-    let words = words_in-document document printable in
-    let plain : list_all is_plain (words_in (canonical_lines document)) ≡ true = rw words (plain-document document printable small) in
+words_of-document : (document : Document) → IsInRange document → AreSmall document.table → words_of (canonical_text document) ≡ document_words document
+words_of-document document in_range small =
+    let words = words_in-document document in_range in
+    let plain : list_all is_plain (words_in (canonical_lines document)) ≡ true = rw words (plain-document document in_range small) in
     words_of-lines (canonical_lines document) (plain-lines (canonical_lines document) plain) ∙ words
 
 -- exponents that are all 0
@@ -210,7 +210,6 @@ cons_parts : (x y : List ℕ) (xs ys : List (List ℕ)) → x ∷ xs ≡ y ∷ y
 cons_parts x y xs ys e = (cc, cc)
 
 module _ (offset : ℕ) where
-
   -- reading ends with something of which a fact holds
   abbrev ReadsTo : {A : Type 0} → Result A DocRefusal → (A → Type 0) → Type 0
   ReadsTo (Ok x) Q = Q x
@@ -276,7 +275,7 @@ module _ (offset : ℕ) where
       → ReadsTo (read_number offset kind left) Q
   number_ok kind n left words Q small e fits on =
       token_ok value kind left (decimal n) words Q e fits
-        (λ rest more. subst (λ (v : ℕ). Q (v, rest)) (sym (decimal_spells n (omega arith)).value_is) (on rest more))
+      (λ rest more. subst (λ (v : ℕ). Q (v, rest)) (sym (decimal_spells n (omega arith)).value_is) (on rest more))
 
   numbers_ok : (numbers : List ℕ) (left : List Lexeme) (words : List (List ℕ)) (Q : (List ℕ × List Lexeme) → Type 0)
       → AreSmall numbers → map text left ≡ map decimal numbers ++ words
@@ -286,9 +285,9 @@ module _ (offset : ℕ) where
   numbers_ok [] left words Q small e on = on left e
   numbers_ok (n ∷ numbers) left words Q small e on =
       reads_bind (read_number offset Natural left) _ Q
-        (number_ok Natural n left (map decimal numbers ++ words) _ small.0 e (λ start. natural_fits n start small.0) (λ left1 e1.
+      (number_ok Natural n left (map decimal numbers ++ words) _ small.0 e (λ start. natural_fits n start small.0) (λ left1 e1.
       reads_bind (read_numbers offset (length numbers) left1) _ Q
-        (numbers_ok numbers left1 words (λ more. Q (n ∷ more.0, more.1)) small.1 e1 on)))
+      (numbers_ok numbers left1 words (λ more. Q (n ∷ more.0, more.1)) small.1 e1 on)))
 
   count_ok : (count : ℕ) (numbers : List ℕ) (left : List Lexeme) (words : List (List ℕ)) (Q : (List ℕ × List Lexeme) → Type 0)
       → length numbers ≡ count → AreSmall numbers → map text left ≡ map decimal numbers ++ words
@@ -335,12 +334,12 @@ module _ (offset : ℕ) where
   unfolding read_exponents
   exponents_by n roots exponents true left words Q trivial len low high e on =
       reads_bind (read listing_of offset FormWord left) _ Q (token_ok listing_of FormWord left (codes "trivial") words _ e (form_fits (codes "trivial") refl)
-        (λ left1 e1.
-          let zeros : replicate (n * n * n) 0 ≡ reduced roots exponents = ap (λ k. replicate k 0) (sym len) ∙ sym (reduced-trivial roots exponents trivial) in
-          subst (λ (numbers : List ℕ). Q (numbers, left1)) (sym zeros) (on left1 e1)))
+      (λ left1 e1.
+      let zeros : replicate (n * n * n) 0 ≡ reduced roots exponents = ap (λ k. replicate k 0) (sym len) ∙ sym (reduced-trivial roots exponents trivial) in
+      subst (λ (numbers : List ℕ). Q (numbers, left1)) (sym zeros) (on left1 e1)))
   exponents_by n roots exponents false left words Q trivial len low high e on =
       reads_bind (read listing_of offset FormWord left) _ Q (token_ok listing_of FormWord left (codes "dense") (map decimal (reduced roots exponents) ++ words) _ e (form_fits (codes "dense") refl)
-        (λ left1 e1. count_ok (n * n * n) (reduced roots exponents) left1 words Q (length-map exponents (λ exponent. exponent % roots) ∙ len) (small-reduced roots exponents low high) e1 on))
+      (λ left1 e1. count_ok (n * n * n) (reduced roots exponents) left1 words Q (length-map exponents (λ exponent. exponent % roots) ∙ len) (small-reduced roots exponents low high) e1 on))
 
   nothing_ok : (left : List Lexeme) (Q : List Lexeme → Type 0) → map text left ≡ [] → Q [] → ReadsTo (skip offset NoToken left) Q
   unfolding read missing
@@ -353,16 +352,16 @@ module _ (offset : ℕ) where
       reads_bind (skip offset EndWord left) _ Q (skip_ok EndWord left (codes "end") [] _ e end_fits (λ rest more. nothing_ok rest Q more on))
 
   -- the words of a document are read as the document
-  document_ok : (document : Document) (all : List Lexeme) → IsPrintable document → AreSmall document.table
+  document_ok : (document : Document) (all : List Lexeme) → IsInRange document → AreSmall document.table
       → map text all ≡ document_words document → ReadsTo (read_document offset all) (λ read. read ≡ reduced_document document)
   unfolding read_document document_words exponent_words
-  document_ok document all printable small e =
+  document_ok document all in_range small e =
       let n = document.order in
       let Q : Document → Type 0 = λ read. read ≡ reduced_document document in
-      reads_bind (read_order offset all) _ Q (order_ok n all _ _ printable.order.0 printable.order.1 e (λ left1 e1.
-      reads_bind (read_numbers offset (n * n) left1) _ Q (count_ok (n * n) document.table left1 _ _ printable.table small e1 (λ left2 e2.
-      reads_bind (read_roots offset left2) _ Q (roots_ok document.roots left2 _ _ printable.roots.0 printable.roots.1 e2 (λ left3 e3.
-      reads_bind (read_exponents offset n left3) _ Q (exponents_by n document.roots document.exponents (are_trivial document.roots document.exponents) left3 (codes "end" ∷ []) _ refl printable.exponents printable.roots.0 printable.roots.1 e3 (λ left4 e4.
+      reads_bind (read_order offset all) _ Q (order_ok n all _ _ in_range.order.0 in_range.order.1 e (λ left1 e1.
+      reads_bind (read_numbers offset (n * n) left1) _ Q (count_ok (n * n) document.table left1 _ _ in_range.table small e1 (λ left2 e2.
+      reads_bind (read_roots offset left2) _ Q (roots_ok document.roots left2 _ _ in_range.roots.0 in_range.roots.1 e2 (λ left3 e3.
+      reads_bind (read_exponents offset n left3) _ Q (exponents_by n document.roots document.exponents (are_trivial document.roots document.exponents) left3 (codes "end" ∷ []) _ refl in_range.exponents in_range.roots.0 in_range.roots.1 e3 (λ left4 e4.
       reads_bind (read_end offset left4) _ Q (end_ok left4 _ e4 refl)))))))))
 
 -- what is known of a canonical text: no token is refused, and its contents are the document's
@@ -370,15 +369,15 @@ pub record IsReadBack (document : Document) : Type 0 where
   pub whole : stop_of Bare (canonical_text document) ≡ None
   pub contents : document_of (tokens (canonical_text document)) ≡ reduced_document document
 
-pub read_back : (document : Document) → IsPrintable document → All (λ number. number < 2 ^ 32) document.table → IsReadBack document
+pub read_back : (document : Document) → IsInRange document → All (λ number. number < 2 ^ 32) document.table → IsReadBack document
 unfolding stop_of
-read_back document printable small =
+read_back document in_range small =
     let bytes = canonical_text document in
     let all = tokens bytes in
     let offset = length bytes in
     let few = recursion_from_All (λ number. number < 2 ^ 32) document.table small in
     let found = reads_ok offset (read_document offset all) (λ read. read ≡ reduced_document document)
-          (document_ok offset document all printable few (words_of-document document printable few)) in
+    (document_ok offset document all in_range few (words_of-document document in_range few)) in
     let known : Reads offset all (Ok found.0) (λ read. (first_refusal Bare offset all ≡ None) × (read ≡ document_of all)) = rw found.1 at (reads_document offset all) in
     record { whole = known.0; contents = sym known.1 ∙ found.2 }
 
@@ -396,6 +395,6 @@ read_by document (Err (refusals.Roots number)) back parses = absurd (none_refuse
 read_by document (Err refusals.Memory) back parses = refl
 
 pub printed_is_read : PrintedIsRead
-printed_is_read document printable small =
-    let back = read_back document printable small in
+printed_is_read document in_range small =
+    let back = read_back document in_range small in
     (back.whole, λ answer parses. read_by document answer back parses)

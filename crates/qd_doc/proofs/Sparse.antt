@@ -23,14 +23,14 @@ set-map_range : (f g : ℕ → ℕ) (m k v : ℕ) → g k ≡ v → ((p : ℕ) �
 set-map_range f g m k v here others =
     let made = map f (range_with_len 0 m) in
     fill_by_all g (slice_set made k v) m 0
-      (length-set made k v ∙ length-map-range_with_len f 0 m)
-      (λ p within. elim (same_or_other p k) [
-        | inl same ↦
-            let inside : k < length made = omega (arith, length-map-range_with_len f 0 m) in
-            get_or-set_at made k p v 0 same inside ∙ sym here ∙ ap g (sym same)
-        | inr other ↦
-            get_or-set_other made k p v 0 other ∙ get_or-map-range_with_len f 0 m p p 0 within (zero-add p) ∙ sym (others p other)
-      ])
+    (length-set made k v ∙ length-map-range_with_len f 0 m)
+    (λ p within. elim (same_or_other p k) [
+      | inl same ↦
+          let inside : k < length made = omega (arith, length-map-range_with_len f 0 m) in
+          get_or-set_at made k p v 0 same inside ∙ sym here ∙ ap g (sym same)
+      | inr other ↦
+          get_or-set_other made k p v 0 other ∙ get_or-map-range_with_len f 0 m p p 0 within (zero-add p) ∙ sym (others p other)
+    ])
 
 last_below-suc : {A : Type 0} (n : ℕ) (at : ℕ → Option A) → last_below (suc n) at ≡ option_or (at n) (last_below n at)
 unfolding last_below
@@ -59,14 +59,14 @@ sparse_exponents-suc all n start i =
     let at = start + 4 * i in
     let key = place_of all n at in
     set-map_range
-      (λ place. unwrap_or (last_below i (entry_at all n start place)) 0)
-      (λ place. unwrap_or (last_below (suc i) (entry_at all n start place)) 0)
-      (n * n * n) key (number_at all (at + 3))
-      (let e : nat_eq key key ≡ true = eq-eqb key key refl in
-       rw (last_below-suc i (entry_at all n start key), e) refl)
-      (λ place other.
-        let e : nat_eq key place ≡ false = other_key key place other in
-        rw (last_below-suc i (entry_at all n start place), e) refl)
+    (λ place. unwrap_or (last_below i (entry_at all n start place)) 0)
+    (λ place. unwrap_or (last_below (suc i) (entry_at all n start place)) 0)
+    (n * n * n) key (number_at all (at + 3))
+    (let e : nat_eq key key ≡ true = eq-eqb key key refl in
+    rw (last_below-suc i (entry_at all n start key), e) refl)
+    (λ place other.
+    let e : nat_eq key place ≡ false = other_key key place other in
+    rw (last_below-suc i (entry_at all n start place), e) refl)
 
 -- no entry, and all exponents are 0
 zeros-range : (a m : ℕ) (f : ℕ → ℕ) → ((p : ℕ) → f p ≡ 0) → replicate m 0 ≡ map f (range_with_len a m)
@@ -77,4 +77,4 @@ pub sparse_exponents-zero : (all : List Lexeme) (n start : ℕ) → replicate (n
 unfolding sparse_exponents
 sparse_exponents-zero all n start =
     zeros-range 0 (n * n * n) (λ place. unwrap_or (last_below 0 (entry_at all n start place)) 0)
-      (λ place. ap (λ o. unwrap_or o 0) (last_below-zero (entry_at all n start place)))
+    (λ place. ap (λ o. unwrap_or o 0) (last_below-zero (entry_at all n start place)))

@@ -7,7 +7,7 @@ use Rattle.qd_doc.specs.declared.document.Document.{Document}
 use Rattle.qd_doc.specs.declared.refusal.DocRefusal.{DocRefusal}
 use Rattle.qd_doc.specs.declared.refusal.DocRefusal.TheVariants.{Memory}
 use Rattle.qd_doc.specs.Grammar.{stop_of}
-use Rattle.qd_doc.specs.Contents.{Parses}
+use Rattle.qd_doc.specs.Contents.{IsInRange, Parses}
 
 -- the text of a line of words: one space between them, and a line feed at its end
 abbrev pub line : List (List ℕ) → List ℕ
@@ -49,13 +49,6 @@ canonical_text document = flat_map line (canonical_lines document)
 abbrev pub reduced_document : Document → Document
 reduced_document document = record document { exponents = reduced document.roots document.exponents }
 
--- the fields are in the ranges of the format, and the lists have their lengths
-pub record IsPrintable (document : Document) : Type 0 where
-  pub order : (1 ≤ document.order) × (document.order ≤ 60)
-  pub table : length document.table ≡ document.order * document.order
-  pub roots : (1 ≤ document.roots) × (document.roots ≤ 64)
-  pub exponents : length document.exponents ≡ document.order * document.order * document.order
-
 -- whatever a reader answers to the canonical text is the document with its exponents modulo the
 -- number of roots, unless there was no memory
 abbrev pub ReadsBack : Document → Type 0
@@ -64,5 +57,5 @@ ReadsBack document = (answer : Result Document DocRefusal) → Parses Bare (cano
 
 -- a document whose numbers fit in 32 bits is printed as a text that is a document, and is read back
 abbrev pub PrintedIsRead : Type 0
-PrintedIsRead = (document : Document) → IsPrintable document → All (λ number. number < 2 ^ 32) document.table
+PrintedIsRead = (document : Document) → IsInRange document → All (λ number. number < 2 ^ 32) document.table
     → (stop_of Bare (canonical_text document) ≡ None) × ReadsBack document

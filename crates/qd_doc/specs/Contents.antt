@@ -1,5 +1,5 @@
 -- What a document says, read off its tokens by their places.
-use Rattle.std.specs.Prelude.{◌≡◌, ℕ, zero, suc, ◌+◌, ◌*◌, nat_eq, if◌then◌else◌, List, map, take, drop, replicate, codes, Option, Some, None, unwrap_or, Result, Ok, Err}
+use Rattle.std.specs.Prelude.{◌≡◌, ℕ, zero, suc, ◌+◌, ◌*◌, ◌≤◌, nat_eq, if◌then◌else◌, List, length, map, take, drop, replicate, codes, Option, Some, None, unwrap_or, Result, Ok, Err}
 use Rattle.std.specs.List.{range_with_len}
 use Rattle.scan.specs.First.{option_or}
 use Rattle.qd_text.specs.Tokens.{Lexeme, tokens}
@@ -53,6 +53,13 @@ document_of all =
       roots = number_at all (n * n + 6);
       exponents = exponents_of all n;
     }
+
+-- the fields are in the ranges of the format, and the lists have their lengths
+pub record IsInRange (document : Document) : Type 0 where
+  pub order : (1 ≤ document.order) × (document.order ≤ 60)
+  pub table : length document.table ≡ document.order * document.order
+  pub roots : (1 ≤ document.roots) × (document.roots ≤ 64)
+  pub exponents : length document.exponents ≡ document.order * document.order * document.order
 
 -- what a reader answers to a text: its document, where it is one; or its refusal; or that there was
 -- no memory, which says nothing of it

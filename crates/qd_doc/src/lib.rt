@@ -2,9 +2,9 @@
 #![tactic(auto)]
 
 mod document;
+mod kind;
 mod listing;
 mod printing;
-mod kind;
 mod reading;
 mod refusal;
 mod steps;
@@ -14,3 +14,6 @@ pub use printing::{print, printed_is_read};
 pub use qd_text::Memory;
 pub use reading::parse;
 pub use refusal::DocRefusal;
+
+#[cfg(test)]
+mod tests;

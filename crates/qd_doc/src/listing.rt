@@ -29,10 +29,16 @@ struct Entry {
 }
 
 /// So many natural numbers, and the offset after them.
-pub fn numbers(alloc: Global, bytes: &Vec<u8>, at: u32, count: u32) -> Result<(Nats, u32), DocRefusal>
+pub fn numbers(
+    alloc: Global,
+    bytes: &Vec<u8>,
+    at: u32,
+    count: u32,
+) -> Result<(Nats, u32), DocRefusal>
     requires offset { IsOffset bytes.now.items at }
     ensures gives { Gives (λ found. (found.0, tokens_from found.1 bytes.now.items)) result (read_numbers (length bytes.now.items) count (tokens_from at bytes.now.items)) }
     ensures offset { IfOk result (λ found. IsOffset bytes.now.items found.1) }
+    ensures all { IfOk result (λ found. length found.0 ≡ count) }
 {
     let mut numbers = Nats::empty(alloc);
     let mut next = at;
@@ -47,6 +53,7 @@ pub fn numbers(alloc: Global, bytes: &Vec<u8>, at: u32, count: u32) -> Result<(N
 /// So many zeros.
 fn zeros(alloc: Global, count: u32) -> Result<Nats, Memory>
     ensures zeros { IfOk result (λ numbers. numbers ≡ replicate count 0) }
+    ensures all { IfOk result (λ numbers. length numbers ≡ count) }
 {
     let mut numbers = Nats::empty(alloc);
     for _ in 0..count {
@@ -100,7 +107,13 @@ fn next_entry(bytes: &Vec<u8>, at: u32, order: u32) -> Result<Entry, DocRefusal>
 }
 
 /// Puts so many entries into the exponents, and gives the offset after them.
-fn entries(bytes: &Vec<u8>, at: u32, order: u32, count: u32, exponents: &mut Vec<u32>) -> Result<u32, DocRefusal>
+fn entries(
+    bytes: &Vec<u8>,
+    at: u32,
+    order: u32,
+    count: u32,
+    exponents: &mut Vec<u32>,
+) -> Result<u32, DocRefusal>
     requires offset { IsOffset bytes.now.items at }
     requires order { order ≤ 60 }
     requires all { vec_len exponents.old ≡ order * order * order }
@@ -124,6 +137,7 @@ fn sparse(alloc: Global, bytes: &Vec<u8>, at: u32, order: u32) -> Result<(Nats, 
     requires order { order ≤ 60 }
     ensures gives { Gives (λ found. (found.0, tokens_from found.1 bytes.now.items)) result (read_sparse (length bytes.now.items) order (tokens_from at bytes.now.items)) }
     ensures offset { IfOk result (λ found. IsOffset bytes.now.items found.1) }
+    ensures all { IfOk result (λ found. length found.0 ≡ order * order * order) }
 {
     let count = natural(bytes, at, Kind::Any)?;
     let mut exponents = vec![in alloc; 0; cube(order) as usize]?;
@@ -141,11 +155,17 @@ fn cube(order: u32) -> u32
 
 /// The exponents.
 #[tactic(auto, unfolding(crate::specs::Reading::read_exponents))]
-pub fn exponents(alloc: Global, bytes: &Vec<u8>, at: u32, order: u32) -> Result<(Nats, u32), DocRefusal>
+pub fn exponents(
+    alloc: Global,
+    bytes: &Vec<u8>,
+    at: u32,
+    order: u32,
+) -> Result<(Nats, u32), DocRefusal>
     requires offset { IsOffset bytes.now.items at }
     requires order { order ≤ 60 }
     ensures gives { Gives (λ found. (found.0, tokens_from found.1 bytes.now.items)) result (read_exponents (length bytes.now.items) order (tokens_from at bytes.now.items)) }
     ensures offset { IfOk result (λ found. IsOffset bytes.now.items found.1) }
+    ensures all { IfOk result (λ found. length found.0 ≡ order * order * order) }
 {
     let (listing, next) = listing_word(bytes, at)?;
     match listing {

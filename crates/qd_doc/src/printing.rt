@@ -1,16 +1,17 @@
 ghost use Rattle.std.specs.Prelude.{◌≡◌, ℕ, ◌+◌, ◌*◌, ◌%◌, ◌<◌, ◌≤◌, ◌^◌, ◌++◌, [], ◌∷◌, length, map, codes, IfOk, OnOk};
 ghost use Rattle.std.specs.List.{flat_map};
 ghost use Rattle.std.specs.Fmt.{decimal};
-ghost use Rattle.qd_doc.specs.Canonical.{line, rows, reduced, are_trivial, omega_lines, canonical_text, IsPrintable, PrintedIsRead};
+ghost use Rattle.qd_doc.specs.Contents.{IsInRange};
+ghost use Rattle.qd_doc.specs.Canonical.{line, rows, reduced, are_trivial, omega_lines, canonical_text, PrintedIsRead};
 
 use crate::document::Document;
-use qd_text::{append_number, append_word, Memory};
+use qd_text::{Memory, append_number, append_word};
 use std::alloc::Global;
 
 /// The canonical text of a document: one space between tokens, one line feed at the end of each
 /// line, and the exponents modulo the number of roots; all of them, or `trivial` where all are 0.
 pub fn print(alloc: Global, document: &Document) -> Result<Vec<u8>, Memory>
-    requires printable { IsPrintable document.now }
+    requires in_range { IsInRange document.now }
     ensures text { IfOk result (λ text. text.items ≡ canonical_text document.now) }
 {
     let order = document.order;
@@ -18,7 +19,13 @@ pub fn print(alloc: Global, document: &Document) -> Result<Vec<u8>, Memory>
     append_front(&mut out, order)?;
     append_rows(&mut out, order, order, document.table.as_slice())?;
     append_roots(&mut out, document.roots)?;
-    append_exponents(alloc, &mut out, order, document.roots, document.exponents.as_slice())?;
+    append_exponents(
+        alloc,
+        &mut out,
+        order,
+        document.roots,
+        document.exponents.as_slice(),
+    )?;
     append_word(&mut out, "end\n")?;
     Ok(out)
 }
@@ -27,8 +34,7 @@ pub fn print(alloc: Global, document: &Document) -> Result<Vec<u8>, Memory>
 /// printed, with its exponents modulo the number of roots.
 pub fn printed_is_read()
     ensures law { PrintedIsRead }
-{
-}
+{}
 
 /// The lines before the table.
 fn append_front(out: &mut Vec<u8>, order: u32) -> Result<(), Memory>

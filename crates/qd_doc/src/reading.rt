@@ -1,13 +1,13 @@
 ghost use Rattle.std.specs.Prelude.{◌≡◌, ◌<◌, ◌≤◌, ◌^◌, ◌*◌, [], length, vec_len, IfOk};
 ghost use Rattle.qd_text.specs.Tokens.{tokens_from};
-ghost use Rattle.qd_doc.specs.Contents.{Parses};
+ghost use Rattle.qd_doc.specs.Contents.{Parses, IsInRange};
 ghost use Rattle.qd_doc.specs.Reading.{Gives, IsOffset, read_order, read_roots, read_end, read_document};
 
 use crate::document::{Document, Form};
 use crate::kind::Kind;
 use crate::listing::{exponents, numbers};
 use crate::refusal::DocRefusal;
-use crate::steps::{end_word, natural, nothing, word, Numeral};
+use crate::steps::{Numeral, end_word, natural, nothing, word};
 use qd_text::Expected;
 use std::alloc::Global;
 
@@ -16,6 +16,7 @@ use std::alloc::Global;
 pub fn parse(alloc: Global, bytes: &Vec<u8>, form: Form) -> Result<Document, DocRefusal>
     requires few { vec_len bytes.now < 2 ^ 32 }
     ensures parses { Parses form bytes.now.items result }
+    ensures in_range { IfOk result IsInRange }
 {
     match form {
         Form::Bare => bare(alloc, bytes),
@@ -28,7 +29,7 @@ fn order(bytes: &Vec<u8>) -> Result<Numeral, DocRefusal>
     requires offset { IsOffset bytes.now.items 0 }
     ensures gives { Gives (λ numeral. (numeral.value, tokens_from numeral.next bytes.now.items)) result (read_order (length bytes.now.items) (tokens_from 0 bytes.now.items)) }
     ensures offset { IfOk result (λ numeral. IsOffset bytes.now.items numeral.next) }
-    ensures small { IfOk result (λ numeral. numeral.value ≤ 60) }
+    ensures order { IfOk result (λ numeral. (1 ≤ numeral.value) × (numeral.value ≤ 60)) }
 {
     let at = word(bytes, 0, Expected::Qdouble)?;
     let at = word(bytes, at, Expected::One)?;
@@ -47,6 +48,7 @@ fn roots(bytes: &Vec<u8>, at: u32) -> Result<Numeral, DocRefusal>
     requires offset { IsOffset bytes.now.items at }
     ensures gives { Gives (λ numeral. (numeral.value, tokens_from numeral.next bytes.now.items)) result (read_roots (length bytes.now.items) (tokens_from at bytes.now.items)) }
     ensures offset { IfOk result (λ numeral. IsOffset bytes.now.items numeral.next) }
+    ensures roots { IfOk result (λ numeral. (1 ≤ numeral.value) × (numeral.value ≤ 64)) }
 {
     let at = word(bytes, at, Expected::Roots)?;
     let roots = natural(bytes, at, Kind::Roots)?;
@@ -72,6 +74,7 @@ fn end(bytes: &Vec<u8>, at: u32) -> Result<(), DocRefusal>
 fn bare(alloc: Global, bytes: &Vec<u8>) -> Result<Document, DocRefusal>
     requires offset { IsOffset bytes.now.items 0 }
     ensures gives { Gives (λ document. document) result (read_document (length bytes.now.items) (tokens_from 0 bytes.now.items)) }
+    ensures in_range { IfOk result IsInRange }
 {
     let order = order(bytes)?;
     let (table, at) = numbers(alloc, bytes, order.next, order.value * order.value)?;

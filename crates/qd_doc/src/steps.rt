@@ -6,10 +6,10 @@ ghost use Rattle.qd_doc.specs.Kinds.{Word, FormWord, EndWord, NoToken, is_word, 
 ghost use Rattle.qd_doc.specs.Numerals.{what_of, IsOf};
 ghost use Rattle.qd_doc.specs.Reading.{Gives, IsOffset, read, skip, read_number, listing_of, unless};
 
-use crate::listing::Listing;
 use crate::kind::Kind;
+use crate::listing::Listing;
 use crate::refusal::DocRefusal;
-use qd_text::{next_token, number, Expected, NumberFault, Token};
+use qd_text::{Expected, NumberFault, Token, next_token, number};
 
 /// A number that was read, and the offset at which reading goes on.
 #[derive(Clone, Copy)]

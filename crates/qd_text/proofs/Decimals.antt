@@ -1,12 +1,12 @@
 -- A number in decimal, read again.
-use Rattle.std.proofs.Common.{◌≡◌, ℕ, ◌+◌, ◌-◌, ◌*◌, ◌/◌, ◌%◌, ◌<◌, ◌≤◌, ◌^◌, Bool, true, false, not, ◌&&◌, ◌||◌, ◌==◌, cond, nat_le, nat_lt, List, [], ◌∷◌, ◌++◌, length, Ok, Err, refl, ap, sym, ◌∙◌, arith, length-append}
-use Rattle.std.specs.List.{list_all, fold}
+use Rattle.std.proofs.Common.{◌≡◌, ℕ, ◌+◌, ◌-◌, ◌*◌, ◌/◌, ◌%◌, ◌<◌, ◌≤◌, ◌^◌, Bool, true, false, ◌&&◌, ◌==◌, nat_le, nat_lt, List, [], ◌∷◌, ◌++◌, length, Ok, refl, ap, ◌∙◌, arith, length-append}
+use Rattle.std.specs.List.{list_all}
 use Rattle.std.specs.Fmt.{decimal}
 use Rattle.std.proofs.lemmas.Fmt.{decimal_by_steps}
 use Rattle.std.proofs.lemmas.Bool.{lt-ltb, le-leb, leb-true, ne_eqb}
 use Rattle.std.proofs.lemmas.List.Folds.{list_all-append}
 use Rattle.std.proofs.lemmas.List.Sums.{fold-append}
-use Rattle.qd_text.specs.Tokens.{is_token_byte, is_separator, is_blank}
+use Rattle.qd_text.specs.Tokens.{is_token_byte}
 use Rattle.qd_text.specs.Numbers.{is_digit, value, number_of}
 
 and-true : (a b : Bool) → (a && b) ≡ true → (a ≡ true) × (b ≡ true)
@@ -41,7 +41,7 @@ more_digits n digits large front =
       digits_only = rw (list_all-append is_digit digits ((48 + n % 10) ∷ []), front.digits_only, digit_is (n % 10) last) refl;
       filled = omega (arith, front.filled, length-append digits ((48 + n % 10) ∷ []));
       value_is = fold-append (λ value digit. value * 10 + (digit - 48)) 0 digits ((48 + n % 10) ∷ [])
-        ∙ ap (λ v. v * 10 + (48 + n % 10 - 48)) front.value_is ∙ ap (λ d. n / 10 * 10 + d) step ∙ parts;
+          ∙ ap (λ v. v * 10 + (48 + n % 10 - 48)) front.value_is ∙ ap (λ d. n / 10 * 10 + d) step ∙ parts;
     }
 
 pub decimal_spells : (n : ℕ) → n < 2 ^ 64 → Spells n (decimal n)

@@ -1,9 +1,8 @@
 -- The tokens of a text that is written word by word.
-use Rattle.std.proofs.Common.{◌≡◌, ℕ, zero, suc, ◌+◌, ◌<◌, Bool, true, false, ◌&&◌, ◌==◌, cond, nat_lt, List, [], ◌∷◌, ◌++◌, length, map, drop, refl, ap, sym, ◌∙◌, append_assoc, arith}
-use Rattle.std.specs.List.{list_all, flat_map, take_while}
-use Rattle.std.proofs.lemmas.Bool.{ltb-true}
-use Rattle.qd_text.specs.Tokens.{is_blank, is_separator, is_token_byte, is_mark, blanked, in_comment, Lexeme, runs, tokens}
-use Rattle.qd_text.proofs.Lexemes.{runs-cons, runs-nil, blanked-nil, runs-word_rest, skip_front, and-true}
+use Rattle.std.proofs.Common.{◌≡◌, ℕ, ◌+◌, ◌<◌, Bool, true, false, ◌&&◌, ◌==◌, cond, nat_lt, List, [], ◌∷◌, ◌++◌, length, map, refl, ap, sym, ◌∙◌}
+use Rattle.std.specs.List.{list_all, take_while}
+use Rattle.qd_text.specs.Tokens.{is_blank, is_token_byte, is_mark, blanked, Lexeme, runs, tokens}
+use Rattle.qd_text.proofs.Lexemes.{runs-cons, runs-nil, blanked-nil, runs-word_rest, skip_front}
 
 -- the bytes of a token
 abbrev pub text : Lexeme → List ℕ
@@ -15,7 +14,7 @@ map_cond false xs ys = refl
 
 texts-cons : (follows : Bool) (offset byte : ℕ) (bytes : List ℕ) → map text (runs follows offset (byte ∷ bytes))
     ≡ cond (is_blank byte) (map text (runs false (offset + 1) bytes))
-        (cond follows (map text (runs true (offset + 1) bytes)) (take_while is_mark (byte ∷ bytes) ∷ map text (runs true (offset + 1) bytes)))
+    (cond follows (map text (runs true (offset + 1) bytes)) (take_while is_mark (byte ∷ bytes) ∷ map text (runs true (offset + 1) bytes)))
 texts-cons follows offset byte bytes =
     let first : Lexeme = record { start = offset; text = take_while is_mark (byte ∷ bytes) } in
     ap (map text) (runs-cons follows offset byte bytes)

@@ -12,3 +12,6 @@ pub use expected::Expected;
 pub use memory::Memory;
 pub use natural::{NumberFault, number};
 pub use token::{Token, next_token};
+
+#[cfg(test)]
+mod tests;

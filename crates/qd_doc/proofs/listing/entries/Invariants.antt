@@ -9,5 +9,5 @@ invariant-loop l = record {
   offset : IsOffset l.bytes.items l.next;
   all : vec_len l.exponents ≡ l.order * l.order * l.order;
   left : read_entries (length l.bytes.items) l.order (l.count - l.counter) l.exponents.items (tokens_from l.next l.bytes.items)
-    ≡ read_entries (length l.bytes.items) l.order l.count l.fn.exponents.items (tokens_from l.at l.bytes.items);
+      ≡ read_entries (length l.bytes.items) l.order l.count l.fn.exponents.items (tokens_from l.at l.bytes.items);
 }

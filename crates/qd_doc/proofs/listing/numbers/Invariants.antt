@@ -10,5 +10,5 @@ invariant-loop l = record {
   offset : IsOffset l.bytes.items l.next;
   few : length l.numbers ≡ l.counter;
   left : with_front l.numbers (read_numbers (length l.bytes.items) (l.count - l.counter) (tokens_from l.next l.bytes.items))
-    ≡ read_numbers (length l.bytes.items) l.count (tokens_from l.at l.bytes.items);
+      ≡ read_numbers (length l.bytes.items) l.count (tokens_from l.at l.bytes.items);
 }

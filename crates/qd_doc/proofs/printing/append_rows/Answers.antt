@@ -15,7 +15,7 @@ loop-preserved c =
     record {
       left = omega (arith, c.split_at.ensures.back_len, rows_left (length rest) c.args.width c.args.count c.loop.counter c.loop-test.true c.loop.invariant.left);
       text = rw (c.in_ok-append_row.ensures.added, c.split_at.ensures.front, c.split_at.ensures.back)
-        (rows_more c.loop.out.items total c.args.count c.loop.counter c.args.width rest c.loop-test.true c.loop.invariant.text);
+          (rows_more c.loop.out.items total c.args.count c.loop.counter c.args.width rest c.loop-test.true c.loop.invariant.text);
     }
 
 pub returns : goal.returns

@@ -26,5 +26,5 @@ parses bytes Bare (Err (Order number)) gives = reads_at bytes (Err (Order number
 parses bytes Bare (Err (Roots number)) gives = reads_at bytes (Err (Roots number)) gives
 parses bytes Bare (Err Memory) gives = tt
 
-pub returns : goal.returns
-returns c = record { parses = parses c.args.bytes.now.items c.args.form c.bare.result c.bare.ensures.gives }
+pub returns-clause-parses : goal.returns-clause-parses
+returns-clause-parses c = parses c.args.bytes.now.items c.args.form c.bare.result c.bare.ensures.gives
