@@ -3,6 +3,7 @@ use Rattle.std.proofs.Common.{◌≡◌, ℕ, ◌<◌, Bool, true, false, nat_eq
 use Rattle.std.specs.Prelude.{is_some, unwrap_or}
 use Rattle.std.proofs.lemmas.Bool.{ltb-true, eqb-true}
 use Rattle.scan.proofs.Places.{or_none, and_true, first_none-at, first_some, all_below-at}
+use Rattle.orders.specs.Group.{IsGroupBelow}
 use Rattle.group_table.specs.Group.{Table, product, entry_fault, is_identity, two_sided_identity, identity_of, identity_fault, inverse_of, inverse_fault, associates, associativity_fault, group_fault, IsGroup}
 use Rattle.group_table.specs.declared.fault.GroupFault.TheVariants.{Entry, NoIdentity, NoInverse, NotAssociative}
 
@@ -94,3 +95,20 @@ identity_below t group = (identity_is t (laws t group).has_identity).below
 
 pub closed : (t : Table) (g h : ℕ) → IsGroup t → g < t.order → h < t.order → product t g h < t.order
 closed t g h group g_below h_below = product_below t g h (laws t group).entries g_below h_below
+
+-- a group by its table is a group whose elements are the numbers below its order
+pub group_below : (t : Table) → IsGroup t → IsGroupBelow t.order (product t) (identity_of t)
+group_below t group =
+    let sentences = laws t group in
+    let identity = identity_is t sentences.has_identity in
+    record {
+      unit_below = identity.below;
+      closed = λ g h p q. product_below t g h sentences.entries p q;
+      unit_left = λ g p. identity.left g p;
+      unit_right = λ g p. identity.right g p;
+      right_inverse = λ g p.
+          let (h, found) = has_inverse t g sentences.inverses p in
+          let inverse = inverse_at t g h found in
+          (h, inverse.below, inverse.right);
+      associative = λ g h k p q r. associative t g h k sentences.associativity p q r;
+    }

@@ -1,10 +1,12 @@
 ghost use Rattle.std.specs.Prelude.{◌≡◌, ◌*◌, ◌<◌, ◌≤◌, length, None, IfOk, IfErr};
+ghost use Rattle.orders.specs.Order.{exponent_of, IsExponent};
 ghost use Rattle.group_table.specs.Group.{product, identity_of, group_fault, IsGroup, IsSmall};
 ghost use Rattle.group_table.specs.Refusal.{Refuses};
 
 use crate::fault::GroupRefusal;
 use crate::laws::checked_identity;
 use crate::nats::Nats;
+use crate::powers::exponent;
 use std::alloc::Global;
 use std::marker::Model;
 
@@ -70,5 +72,15 @@ impl Group {
         ensures below { product self.now g h < self.now.order }
     {
         self.table.at(g * self.order + h)
+    }
+
+    /// The exponent: the least number from 1 on by which the power of each element is the identity.
+    pub fn exponent(&self) -> u32
+        ensures exponent { result ≡ exponent_of self.now.order (product self.now) (identity_of self.now) }
+        ensures least { IsExponent self.now.order (product self.now) (identity_of self.now) result }
+        ensures positive { 1 ≤ result }
+        ensures at_most_order { result ≤ self.now.order }
+    {
+        exponent(self.order, self.table.as_slice(), self.identity)
     }
 }

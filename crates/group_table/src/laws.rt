@@ -7,7 +7,7 @@ use crate::fault::GroupFault;
 use scan::{first_below, holds_below};
 
 #[tactic(auto, using(crate::proofs::Square::place_below))]
-fn product(n: u32, table: &[u32], g: u32, h: u32) -> u32
+pub fn product(n: u32, table: &[u32], g: u32, h: u32) -> u32
     requires square { length table.now ≡ n * n }
     requires small { n ≤ 60 }
     requires g_below { g < n }
