@@ -1,14 +1,14 @@
 -- The definition of a document, computed on small texts.
-use Rattle.std.proofs.Common.{◌≡◌, ℕ, ◌++◌, List, [], ◌∷◌, codes, Option, Some, None, refl, take}
+use Rattle.std.proofs.Common.{◌≡◌, ℕ, ◌++◌, List, [], ◌∷◌, codes, Some, None, refl, take}
 use Rattle.scan.specs.First.{first}
 use Rattle.qd_text.specs.Tokens.{blanked, runs, tokens}
 use Rattle.qd_text.specs.Numbers.{number_of}
-use Rattle.qd_text.specs.declared.expected.Expected.TheVariants.{Order as Order_word, Number, Roots as Roots_word, End, Nothing, Element, Form as Form_word}
+use Rattle.qd_text.specs.declared.expected.Expected.TheVariants.{Order as Order_word, Number, End, Nothing, Element}
 use Rattle.qd_doc.specs.declared.document.Form.TheVariants.{Bare}
-use Rattle.qd_doc.specs.declared.refusal.DocRefusal.TheVariants.{Syntax, Wide, Section, Order, Roots}
+use Rattle.qd_doc.specs.declared.refusal.DocRefusal.TheVariants.{Syntax, Wide, Section, Order}
 use Rattle.qd_doc.specs.Kinds.{refusal, missing}
 use Rattle.qd_doc.specs.Grammar.{front_runs, entry_runs, exponent_runs, runs_after, kind_at, expected, first_refusal, stop_of}
-use Rattle.qd_doc.specs.Contents.{last_below, sparse_exponents, exponents_of, document_of}
+use Rattle.qd_doc.specs.Contents.{last_below, sparse_exponents, exponents_of}
 
 -- the group of order 2 with the one non-trivial cocycle
 abbrev semion : List ℕ

@@ -1,12 +1,12 @@
 -- What may stand at each place of a document.
-use Rattle.std.proofs.Common.{◌≡◌, ℕ, zero, suc, ◌-◌, ◌+◌, ◌*◌, ◌≤◌, ◌<◌, Bool, true, false, cond, nat_lt, List, [], ◌∷◌, ◌++◌, length, take, get_or, codes, refl, sym, ap, ◌∙◌, append_assoc, arith, add-zero, zero-add}
+use Rattle.std.proofs.Common.{◌≡◌, ℕ, zero, suc, ◌-◌, ◌+◌, ◌*◌, ◌≤◌, ◌<◌, true, false, cond, nat_lt, List, [], ◌∷◌, ◌++◌, length, take, codes, refl, ap, ◌∙◌, arith}
 use Rattle.std.proofs.lemmas.Bool.{lt-ltb, le-ltb}
 use Rattle.std.proofs.lemmas.List.{length-take-le, get_or-take}
 use Rattle.qd_text.specs.Tokens.{Lexeme}
 use Rattle.qd_text.specs.Numbers.{value}
 use Rattle.qd_text.specs.declared.expected.Expected.TheVariants.{Qdouble, One, Order, Table, Roots, Omega}
 use Rattle.qd_doc.specs.declared.document.Form.TheVariants.{Bare}
-use Rattle.qd_doc.specs.Kinds.{What, Word, Natural, OrderNumber, RootsNumber, FormWord, ElementBelow, EndWord, NoToken, is_word}
+use Rattle.qd_doc.specs.Kinds.{What, Word, Natural, OrderNumber, RootsNumber, FormWord, ElementBelow, is_word}
 use Rattle.qd_doc.specs.Grammar.{Run, times, once, text_at, number_at, front_runs, entry_runs, exponent_runs, runs_after, kind_at, ending, expected}
 
 pub kind_at-nil : (later : ℕ → What) (place : ℕ) → kind_at [] later place ≡ later place

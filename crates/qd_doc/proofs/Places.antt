@@ -1,6 +1,6 @@
 -- Reading token after token finds the first refusal, and the contents by their places.
-use Rattle.std.proofs.Common.{◌≡◌, ℕ, zero, suc, ◌-◌, ◌+◌, ◌*◌, ◌≤◌, ◌<◌, Bool, true, false, cond, List, [], ◌∷◌, ◌++◌, length, take, drop, get_or, map, codes, Option, Some, None, Result, Ok, Err, refl, sym, ap, ◌∙◌, subst, ◌⊎◌, inl, inr, arith, add-zero, add-one, drop-cons}
-use Rattle.std.specs.Prelude.{slice_get, slice_set, replicate}
+use Rattle.std.proofs.Common.{◌≡◌, ℕ, zero, suc, ◌+◌, ◌*◌, ◌≤◌, ◌<◌, Bool, true, false, cond, List, [], ◌∷◌, length, take, drop, get_or, codes, Option, Some, None, Result, Ok, Err, refl, sym, ap, ◌∙◌, subst, ◌⊎◌, inl, inr, arith, add-zero, add-one, drop-cons}
+use Rattle.std.specs.Prelude.{slice_get}
 use Rattle.std.proofs.lemmas.List.{drop_all}
 use Rattle.std.proofs.lemmas.Option.{slice_get-get_or, slice_get_past}
 use Rattle.scan.specs.First.{first}
@@ -13,7 +13,7 @@ use Rattle.qd_doc.specs.declared.document.Form.TheVariants.{Bare}
 use Rattle.qd_doc.specs.declared.document.Document.{Document}
 use Rattle.qd_doc.specs.declared.refusal.DocRefusal.{DocRefusal}
 use Rattle.qd_doc.specs.declared.refusal.DocRefusal.TheVariants.{Syntax}
-use Rattle.qd_doc.specs.Kinds.{What, Word, Natural, OrderNumber, RootsNumber, FormWord, ElementBelow, EndWord, NoToken, is_word, refusal, missing, wanted, judgement}
+use Rattle.qd_doc.specs.Kinds.{What, Word, Natural, OrderNumber, RootsNumber, FormWord, ElementBelow, EndWord, NoToken, is_word, refusal, missing, judgement}
 use Rattle.qd_doc.specs.Grammar.{text_at, number_at, expected, ending, refusal_at, first_refusal}
 use Rattle.qd_doc.specs.Contents.{numbers_at, sparse_exponents, exponents_of, document_of}
 use Rattle.qd_doc.specs.Reading.{◌>>=◌, unless, read, skip, read_number, read_numbers, read_entry, read_entries, read_sparse, read_listing, read_exponents, listing_of, read_order, read_roots, read_end, read_document}

@@ -1,15 +1,15 @@
 -- The canonical text of a document is read as the document.
-use Rattle.std.proofs.Common.{◌≡◌, ℕ, zero, suc, ◌-◌, ◌+◌, ◌*◌, ◌%◌, ◌≤◌, ◌<◌, ◌^◌, Bool, true, false, ◌&&◌, ◌==◌, cond, nat_lt, nat_le, nat_eq, List, [], ◌∷◌, ◌++◌, length, take, drop, map, codes, Option, Some, None, Result, Ok, Err, refl, sym, ap, ◌∙◌, subst, arith, append_assoc, length-append, length-drop}
+use Rattle.std.proofs.Common.{◌≡◌, ℕ, zero, suc, ◌*◌, ◌%◌, ◌≤◌, ◌<◌, ◌^◌, Bool, true, false, ◌==◌, cond, nat_lt, nat_le, nat_eq, List, [], ◌∷◌, ◌++◌, length, take, drop, map, codes, Option, Some, None, Result, Ok, Err, refl, sym, ap, ◌∙◌, subst, arith, append_assoc, length-drop}
 use Rattle.std.specs.Prelude.{replicate, All, MatchResult}
 use Rattle.std.specs.List.{flat_map, list_all, AllByRecursion}
 use Rattle.std.specs.Fmt.{decimal}
 use Rattle.std.proofs.lemmas.Bool.{ltb-true, lt-ltb, le-leb, eqb-true, eq-eqb}
-use Rattle.std.proofs.lemmas.List.{append-nil, map-append, take-append-drop, length-map}
+use Rattle.std.proofs.lemmas.List.{map-append, take-append-drop, length-map}
 use Rattle.std.proofs.lemmas.List.Folds.{list_all-append}
 use Rattle.std.proofs.lemmas.Grind.{flat_map-append}
 use Rattle.std.proofs.lemmas.List.Elements.{recursion_from_All}
 use Rattle.qd_text.specs.Tokens.{Lexeme, tokens, is_token_byte}
-use Rattle.qd_text.specs.Numbers.{value, number_of}
+use Rattle.qd_text.specs.Numbers.{value}
 use Rattle.qd_text.specs.Words.{word_of}
 use Rattle.qd_text.specs.declared.expected.Expected.{Expected}
 use Rattle.qd_text.specs.declared.expected.Expected.TheVariants.{Qdouble, One, Order, Table, Roots, Omega}
@@ -18,14 +18,13 @@ use Rattle.qd_text.proofs.Texts.{text, words_of, words_of-nil, words_of-word, wo
 use Rattle.qd_text.proofs.Lexemes.{and-true}
 use Rattle.qd_doc.specs.declared.document.Form.TheVariants.{Bare}
 use Rattle.qd_doc.specs.declared.document.Document.{Document}
-use Rattle.qd_doc.specs.declared.listing.Listing.TheVariants.{Trivial, Dense, Sparse}
 use Rattle.qd_doc.specs.declared.refusal.DocRefusal.{DocRefusal}
 use Rattle.qd_doc.specs.declared.refusal.DocRefusal.TheVariants as refusals
-use Rattle.qd_doc.specs.Kinds.{What, Word, Natural, OrderNumber, RootsNumber, FormWord, EndWord, NoToken, is_word, is_form, refusal, missing, value_refusal, number_refusal}
+use Rattle.qd_doc.specs.Kinds.{What, Word, Natural, OrderNumber, RootsNumber, FormWord, EndWord, NoToken, is_word, is_form, refusal, missing, number_refusal}
 use Rattle.qd_doc.specs.Grammar.{first_refusal, stop_of}
 use Rattle.qd_doc.specs.Contents.{Parses, document_of, IsInRange}
-use Rattle.qd_doc.specs.Reading.{◌>>=◌, unless, read, skip, read_number, read_numbers, read_order, read_roots, listing_of, read_listing, read_exponents, read_end, read_document}
-use Rattle.qd_doc.specs.Canonical.{line, rows, reduced, are_trivial, omega_lines, canonical_lines, canonical_text, reduced_document, ReadsBack, PrintedIsRead}
+use Rattle.qd_doc.specs.Reading.{◌>>=◌, read, skip, read_number, read_numbers, read_order, read_roots, listing_of, read_exponents, read_end, read_document}
+use Rattle.qd_doc.specs.Canonical.{line, rows, reduced, are_trivial, omega_lines, canonical_lines, canonical_text, reduced_document, PrintedIsRead}
 use Rattle.qd_doc.proofs.Places.{Reads, reads_document}
 
 -- ---- the words of lines

@@ -1,5 +1,5 @@
 -- The canonical text of a document.
-use Rattle.std.specs.Prelude.{◌≡◌, None, ℕ, zero, suc, ◌+◌, ◌*◌, ◌%◌, ◌≤◌, ◌<◌, ◌^◌, Bool, nat_eq, if◌then◌else◌, List, [], ◌∷◌, ◌++◌, length, take, drop, map, codes, All, Result, Ok, Err, MatchResult}
+use Rattle.std.specs.Prelude.{◌≡◌, None, ℕ, zero, suc, ◌*◌, ◌%◌, ◌<◌, ◌^◌, Bool, nat_eq, if◌then◌else◌, List, [], ◌∷◌, ◌++◌, take, drop, map, codes, All, Result, MatchResult}
 use Rattle.std.specs.List.{flat_map, list_all}
 use Rattle.std.specs.Fmt.{decimal}
 use Rattle.qd_doc.specs.declared.document.Form.TheVariants.{Bare}

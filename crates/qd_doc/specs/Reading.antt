@@ -1,6 +1,6 @@
 -- Reading token after token: each step answers what it read and the tokens that are left, or a refusal.
 use Rattle.std.specs.Prelude.{◌≡◌, ℕ, zero, suc, ◌+◌, ◌*◌, if◌then◌else◌, List, [], ◌∷◌, length, replicate, codes, slice_set, Option, Some, None, Result, Ok, Err, ◌≤◌, ◌<◌, ◌^◌}
-use Rattle.qd_text.specs.Tokens.{Lexeme, tokens_from}
+use Rattle.qd_text.specs.Tokens.{Lexeme}
 use Rattle.qd_text.specs.Numbers.{value}
 use Rattle.qd_text.specs.declared.expected.Expected.TheVariants.{Qdouble, One, Order, Table, Roots, Omega}
 use Rattle.qd_doc.specs.Kinds.{What, Word, Natural, OrderNumber, RootsNumber, FormWord, ElementBelow, EndWord, NoToken, is_word, refusal, missing}

@@ -45,3 +45,11 @@ impl From<group_table::Memory> for DocRefusal {
         DocRefusal::Memory
     }
 }
+
+impl From<qd_text::Memory> for DocRefusal {
+    ghost from_gives = { λ _ e. e ≡ Memory };
+
+    fn from(_error: qd_text::Memory) -> DocRefusal {
+        DocRefusal::Memory
+    }
+}

@@ -1,3 +1,5 @@
+ghost use Rattle.std.specs.Prelude.{◌<◌, ◌^◌, vec_len, IfOk};
+
 use super::*;
 use qd_text::Expected;
 use std::test::*;
@@ -5,13 +7,26 @@ use std::test::*;
 const SEMION: &str =
     "qdouble 1\norder 2\ntable\n0 1\n1 0\nroots 2\nomega dense\n0 0\n0 0\n0 0\n0 1\nend\n";
 
-fn read(rt: &HostRuntime, text: &str) -> Result<Document, DocRefusal> {
+fn bytes_of(rt: &HostRuntime, text: &str) -> Result<Vec<u8>, DocRefusal>
+    ensures few { IfOk result (λ bytes. vec_len bytes < 2 ^ 32) }
+{
     let bytes = Vec::from_slice(rt.alloc(), text.as_bytes())?;
     if bytes.len() < 4194304 {
-        parse(rt.alloc(), &bytes, Form::Bare)
+        Ok(bytes)
     } else {
         Err(DocRefusal::Memory)
     }
+}
+
+fn read(rt: &HostRuntime, text: &str) -> Result<Document, DocRefusal> {
+    let bytes = bytes_of(rt, text)?;
+    parse(rt.alloc(), &bytes, Form::Bare)
+}
+
+fn printed(rt: &HostRuntime, text: &str) -> Result<Vec<u8>, DocRefusal> {
+    let bytes = bytes_of(rt, text)?;
+    let document = parse(rt.alloc(), &bytes, Form::Bare)?;
+    Ok(print(rt.alloc(), &document)?)
 }
 
 #[test]
@@ -95,7 +110,7 @@ fn refusals(rt: HostRuntime) {
 
 #[test]
 fn canonical(rt: HostRuntime) -> Result<(), Fail> {
-    for (text, printed) in [
+    for (text, canonical) in [
         (
             "qdouble 1 order 2 table 0 1 1 0 roots 2 omega sparse 2 0 0 1 4 1 1 1 131 end",
             SEMION,
@@ -105,9 +120,8 @@ fn canonical(rt: HostRuntime) -> Result<(), Fail> {
             "qdouble 1\norder 1\ntable\n0\nroots 3\nomega trivial\nend\n",
         ),
     ] {
-        let document = read(&rt, text).ok().ok_or("the text is a document")?;
-        let out = print(rt.alloc(), &document)?;
-        assert_eq!(rt; out.as_slice(), printed.as_bytes());
+        let out = printed(&rt, text).ok().ok_or("the text is a document")?;
+        assert_eq!(rt; out.as_slice(), canonical.as_bytes());
     }
     Ok(())
 }

@@ -1,5 +1,5 @@
-use Rattle.std.proofs.Common.{◌≡◌, ℕ, ◌∙◌, List, length, Option, Some, None, Result, Ok, Err, refl, sym, ap}
-use Rattle.qd_text.specs.Tokens.{tokens, tokens_from}
+use Rattle.std.proofs.Common.{◌≡◌, ℕ, List, length, None, Result, Ok, Err}
+use Rattle.qd_text.specs.Tokens.{tokens}
 use Rattle.qd_doc.specs.declared.document.Document.{Document}
 use Rattle.qd_doc.specs.declared.document.Form.{Form}
 use Rattle.qd_doc.specs.declared.document.Form.TheVariants.{Bare}
@@ -7,7 +7,7 @@ use Rattle.qd_doc.specs.declared.refusal.DocRefusal.{DocRefusal}
 use Rattle.qd_doc.specs.declared.refusal.DocRefusal.TheVariants.{Syntax, Wide, Section, Order, Roots, Memory}
 use Rattle.qd_doc.specs.Grammar.{first_refusal, stop_of}
 use Rattle.qd_doc.specs.Contents.{Parses, document_of}
-use Rattle.qd_doc.specs.Reading.{Gives, Fails, read_document}
+use Rattle.qd_doc.specs.Reading.{Gives, read_document}
 use Rattle.qd_doc.proofs.Places.{Reads, reads_document}
 use Rattle.qd_doc.proofs.reading.parse.Goals as goal
 
