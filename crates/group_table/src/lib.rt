@@ -9,6 +9,8 @@ mod laws;
 mod memory;
 mod nats;
 mod powers;
+#[cfg(test)]
+mod tests;
 
 pub use fault::{GroupFault, GroupRefusal};
 pub use group::Group;
