@@ -13,3 +13,6 @@ mod stop;
 
 pub use answer::{Answer, Why};
 pub use running::run;
+
+#[cfg(test)]
+mod tests;
