@@ -37,19 +37,3 @@ impl<T: Drop> From<AllocFailed<T>> for DocRefusal {
         DocRefusal::Memory
     }
 }
-
-impl From<group_table::Memory> for DocRefusal {
-    ghost from_gives = { λ _ e. e ≡ Memory };
-
-    fn from(_error: group_table::Memory) -> DocRefusal {
-        DocRefusal::Memory
-    }
-}
-
-impl From<qd_text::Memory> for DocRefusal {
-    ghost from_gives = { λ _ e. e ≡ Memory };
-
-    fn from(_error: qd_text::Memory) -> DocRefusal {
-        DocRefusal::Memory
-    }
-}
