@@ -5,3 +5,4 @@ pub mod Sparse
 pub mod Places
 pub mod Lines
 pub mod RoundTrip
+pub mod Shapes

@@ -37,7 +37,7 @@ first_found {A} (suc n) i at x below before here =
           rw (first-suc n at, before_n) here_n
     ]
 
-or_none : {A : Type 0} (front last : Option A) → option_or front last ≡ None → (front ≡ None) × (last ≡ None)
+pub or_none : {A : Type 0} (front last : Option A) → option_or front last ≡ None → (front ≡ None) × (last ≡ None)
 or_none None last e = (refl, e)
 or_none (Some x) last e = absurd cc
 
@@ -89,11 +89,11 @@ first_some (suc n) at x found =
 pub all_below-step : (i : ℕ) (test : ℕ → Bool) → all_below i test ≡ true → test i ≡ true → all_below (i + 1) test ≡ true
 all_below-step i test before here = rw (add-one, all_below-suc i test, before) here
 
-and_true : (a b : Bool) → (a && b) ≡ true → (a ≡ true) × (b ≡ true)
+pub and_true : (a b : Bool) → (a && b) ≡ true → (a ≡ true) × (b ≡ true)
 and_true true b e = (refl, e)
 and_true false b e = absurd cc
 
-and_false : (a b : Bool) → b ≡ false → (a && b) ≡ false
+pub and_false : (a b : Bool) → b ≡ false → (a && b) ≡ false
 and_false true b e = e
 and_false false b e = refl
 
