@@ -1,0 +1,154 @@
+-- Laws of finite sums, picks, multiples and powers in a commutative ring.
+use Rattle.std.proofs.Common.{◌≡◌, ℕ, zero, suc, ◌+◌, ◌*◌, ◌<◌, ◌≤◌, inl, inr, Bool, true, false, refl, sym, ◌∙◌, ap, arith}
+use Rattle.std.proofs.Math.Dec.{eqb}
+use Rattle.std.proofs.lemmas.Bool.{eq-eqb, ne_eqb, eqb-true, cases_eq}
+use Rattle.std.specs.Prelude.{◌&&◌}
+use Rattle.algebra.specs.Structures.{CommRing}
+use Rattle.algebra.specs.Sums.{sum_below, pick, multiple, power}
+use Rattle.algebra.proofs.RingLaws.{nought_add, add_nought, add_assoc, add_comm, add_left_comm, mul_add, add_mul, mul_nought, nought_mul, mul_assoc, mul_comm, mul_left_comm, mul_one, one_mul, neg_add, neg_nought, sum_rules, product_rules, ring_rules}
+
+-- the recursions of the definitions
+module _ {A : Type 0} (R : CommRing A) where
+  pub sum_zero : (f : ℕ → A) → sum_below R zero f ≡ R.nought
+  unfolding sum_below
+  sum_zero f = refl
+
+  pub sum_suc : (n : ℕ) (f : ℕ → A) → sum_below R (suc n) f ≡ R.add (sum_below R n f) (f n)
+  unfolding sum_below
+  sum_suc n f = refl
+
+  pub pick_true : (x : A) → pick R true x ≡ x
+  unfolding pick
+  pick_true x = refl
+
+  pub pick_false : (x : A) → pick R false x ≡ R.nought
+  unfolding pick
+  pick_false x = refl
+
+  pub multiple_zero : (x : A) → multiple R zero x ≡ R.nought
+  unfolding multiple
+  multiple_zero x = refl
+
+  pub multiple_suc : (n : ℕ) (x : A) → multiple R (suc n) x ≡ R.add (multiple R n x) x
+  unfolding multiple
+  multiple_suc n x = refl
+
+  pub power_zero : (x : A) → power R x zero ≡ R.one
+  unfolding power
+  power_zero x = refl
+
+  pub power_suc : (x : A) (n : ℕ) → power R x (suc n) ≡ R.mul (power R x n) x
+  unfolding power
+  power_suc x n = refl
+
+-- picks by a test
+module _ {A : Type 0} (R : CommRing A) where
+  pub pick_of : (b : Bool) (x : A) → b ≡ true → pick R b x ≡ x
+  pick_of b x h = rw h (pick_true R x)
+
+  pub pick_off : (b : Bool) (x : A) → b ≡ false → pick R b x ≡ R.nought
+  pick_off b x h = rw h (pick_false R x)
+
+  -- under the test, the picked element may be replaced by an equal one
+  pub pick_cong : (b : Bool) (x y : A) → (b ≡ true → x ≡ y) → pick R b x ≡ pick R b y
+  pick_cong true x y h = ap (λ z. pick R true z) (h refl)
+  pick_cong false x y h = pick_false R x ∙ sym (pick_false R y)
+
+  pub pick_nought : (b : Bool) → pick R b R.nought ≡ R.nought
+  pick_nought true = pick_true R R.nought
+  pick_nought false = pick_false R R.nought
+
+  pub pick_add : (b : Bool) (x y : A) → pick R b (R.add x y) ≡ R.add (pick R b x) (pick R b y)
+  pick_add true x y = simp pick_true
+  pick_add false x y = simp (pick_false, R.add_nought)
+
+  pub pick_neg : (b : Bool) (x : A) → pick R b (R.neg x) ≡ R.neg (pick R b x)
+  pick_neg true x = simp pick_true
+  pick_neg false x = simp (pick_false, neg_nought)
+
+  pub mul_pick : (b : Bool) (c x : A) → R.mul c (pick R b x) ≡ pick R b (R.mul c x)
+  mul_pick true c x = simp pick_true
+  mul_pick false c x = simp (pick_false, mul_nought)
+
+  pub pick_mul : (b : Bool) (x c : A) → R.mul (pick R b x) c ≡ pick R b (R.mul x c)
+  pick_mul true x c = simp pick_true
+  pick_mul false x c = simp (pick_false, nought_mul)
+
+  pub pick_pick : (b c : Bool) (x : A) → pick R b (pick R c x) ≡ pick R (b && c) x
+  pick_pick true c x = simp pick_true
+  pick_pick false c x = simp pick_false
+
+  pub pick_swap : (b c : Bool) (x : A) → pick R b (pick R c x) ≡ pick R c (pick R b x)
+  pick_swap true c x = simp pick_true
+  pick_swap false c x = pick_false R (pick R c x) ∙ sym (ap (λ z. pick R c z) (pick_false R x) ∙ pick_nought c)
+
+  -- two tests that agree pick the same
+  pub pick_same : (b c : Bool) (x : A) → (b ≡ true → c ≡ true) → (c ≡ true → b ≡ true) → pick R b x ≡ pick R c x
+  pick_same true true x p q = refl
+  pick_same false false x p q = refl
+  pick_same true false x p q = ap (λ b. pick R b x) (sym (p refl))
+  pick_same false true x p q = ap (λ b. pick R b x) (q refl)
+
+  -- pick by a test is the product with the picked one
+  pub pick_is_mul : (b : Bool) (x : A) → pick R b x ≡ R.mul (pick R b R.one) x
+  pick_is_mul b x = simp (pick_mul, one_mul)
+
+-- sums over the numbers below n
+module _ {A : Type 0} (R : CommRing A) where
+  pub sum_ext : (n : ℕ) (f g : ℕ → A) → ((i : ℕ) → i < n → f i ≡ g i) → sum_below R n f ≡ sum_below R n g
+  sum_ext zero f g h = sum_zero R f ∙ sym (sum_zero R g)
+  sum_ext (suc n) f g h =
+      let front : sum_below R n f ≡ sum_below R n g = sum_ext n f g (λ i p. h i (omega arith)) in
+      let last : f n ≡ g n = h n (omega arith) in
+      simp (sum_suc, front, last)
+
+  pub sum_nought : (n : ℕ) → sum_below R n (λ i. R.nought) ≡ R.nought
+  sum_nought zero = sum_zero R (λ i. R.nought)
+  sum_nought (suc n) = simp (sum_suc, sum_nought n, R.add_nought)
+
+  pub sum_add : (n : ℕ) (f g : ℕ → A) → sum_below R n (λ i. R.add (f i) (g i)) ≡ R.add (sum_below R n f) (sum_below R n g)
+  sum_add zero f g = simp (sum_zero, R.add_nought)
+  sum_add (suc n) f g = simp (sum_suc, sum_add n f g, sum_rules)
+
+  pub sum_neg : (n : ℕ) (f : ℕ → A) → sum_below R n (λ i. R.neg (f i)) ≡ R.neg (sum_below R n f)
+  sum_neg zero f = simp (sum_zero, neg_nought)
+  sum_neg (suc n) f = simp (sum_suc, sum_neg n f, neg_add)
+
+  -- a constant factor goes into a sum, on either side
+  pub mul_sum : (n : ℕ) (c : A) (f : ℕ → A) → R.mul c (sum_below R n f) ≡ sum_below R n (λ i. R.mul c (f i))
+  mul_sum zero c f = simp (sum_zero, mul_nought)
+  mul_sum (suc n) c f = simp (sum_suc, ← mul_sum n c f, mul_add)
+
+  pub sum_mul : (n : ℕ) (f : ℕ → A) (c : A) → R.mul (sum_below R n f) c ≡ sum_below R n (λ i. R.mul (f i) c)
+  sum_mul zero f c = simp (sum_zero, nought_mul)
+  sum_mul (suc n) f c = simp (sum_suc, ← sum_mul n f c, add_mul)
+
+  pub pick_sum : (n : ℕ) (b : Bool) (f : ℕ → A) → pick R b (sum_below R n f) ≡ sum_below R n (λ i. pick R b (f i))
+  pick_sum n true f = simp pick_true
+  pick_sum n false f = simp (pick_false, sum_nought n)
+
+  pub sum_exchange : (n m : ℕ) (f : ℕ → ℕ → A) → sum_below R n (λ i. sum_below R m (λ j. f i j)) ≡ sum_below R m (λ j. sum_below R n (λ i. f i j))
+  sum_exchange zero m f = simp (sum_zero, sum_nought m)
+  sum_exchange (suc n) m f = simp (sum_suc, sum_exchange n m f, sum_add)
+
+  pub sum_constant : (n : ℕ) (x : A) → sum_below R n (λ i. x) ≡ multiple R n x
+  sum_constant zero x = simp (sum_zero, multiple_zero)
+  sum_constant (suc n) x = simp (sum_suc, multiple_suc, sum_constant n x)
+
+  -- a sum in which the test leaves nothing
+  pub sum_pick_none : (n a : ℕ) (f : ℕ → A) → n ≤ a → sum_below R n (λ i. pick R (eqb i a) (f i)) ≡ R.nought
+  sum_pick_none n a f h =
+      sum_ext n (λ i. pick R (eqb i a) (f i)) (λ i. R.nought) (λ i p. pick_off R (eqb i a) (f i) (ne_eqb i a (λ e. omega arith))) ∙ sum_nought n
+
+  -- a sum with one term, at a
+  pub sum_pick : (n a : ℕ) (f : ℕ → A) → a < n → sum_below R n (λ i. pick R (eqb i a) (f i)) ≡ f a
+  sum_pick zero a f h = absurd (omega arith)
+  sum_pick (suc n) a f h = elim (cases_eq n a) [
+    inl e ↦
+      let none : sum_below R n (λ i. pick R (eqb i a) (f i)) ≡ R.nought = sum_pick_none n a f (omega arith) in
+      let here : pick R (eqb n a) (f n) ≡ f a = pick_of R (eqb n a) (f n) (eq-eqb n a e) ∙ ap f e in
+      simp (sum_suc, none, here, nought_add)
+    | inr d ↦
+      let below : sum_below R n (λ i. pick R (eqb i a) (f i)) ≡ f a = sum_pick n a f (omega arith) in
+      let off : pick R (eqb n a) (f n) ≡ R.nought = pick_off R (eqb n a) (f n) (ne_eqb n a d) in
+      simp (sum_suc, below, off, R.add_nought) ]
