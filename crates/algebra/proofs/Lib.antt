@@ -1,2 +1,6 @@
 pub mod RingLaws
 pub mod SumLaws
+pub mod TotalLaws
+pub mod GroupLaws
+pub mod BelowLaws
+pub mod CongruenceLaws

@@ -1,2 +1,6 @@
 pub mod Structures
 pub mod Sums
+pub mod Totals
+pub mod Groups
+pub mod Below
+pub mod Congruences
