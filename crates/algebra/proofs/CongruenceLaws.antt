@@ -1,5 +1,5 @@
 -- Congruences are added, turned round and cancelled.
-use Rattle.std.proofs.Common.{◌≡◌, ℕ, zero, suc, ◌+◌, ◌-◌, ◌*◌, ◌%◌, ◌<◌, refl, sym, ◌∙◌, ap, arith}
+use Rattle.std.proofs.Common.{◌≡◌, ℕ, zero, suc, ◌+◌, ◌*◌, ◌%◌, ◌<◌, refl, sym, ◌∙◌, ap, arith}
 use Rattle.std.proofs.Math.Nat.{mod-add-mod, add-mod-mod, add-mul-mod_self_right, mod-eq_of_lt, mod-mod}
 use Rattle.std.proofs.lemmas.Nat.{mul-mod_second, mul-mod_first}
 use Rattle.algebra.specs.Congruences.{Same}

@@ -4,3 +4,4 @@ pub mod TotalLaws
 pub mod GroupLaws
 pub mod BelowLaws
 pub mod CongruenceLaws
+pub mod ConvolutionLaws

@@ -1,5 +1,5 @@
 -- Laws that follow from those of a commutative ring, and sets of them for `simp`.
-use Rattle.std.proofs.Common.{◌≡◌, refl, sym, ◌∙◌, ap}
+use Rattle.std.proofs.Common.{◌≡◌, sym, ◌∙◌, ap}
 use mathlib.Core.Path.{ap₂}
 use Rattle.algebra.specs.Structures.{CommRing}
 

@@ -1,11 +1,11 @@
 -- Laws of finite sums, picks, multiples and powers in a commutative ring.
-use Rattle.std.proofs.Common.{◌≡◌, ℕ, zero, suc, ◌+◌, ◌*◌, ◌<◌, ◌≤◌, inl, inr, Bool, true, false, refl, sym, ◌∙◌, ap, arith}
+use Rattle.std.proofs.Common.{◌≡◌, ℕ, zero, suc, ◌<◌, ◌≤◌, inl, inr, Bool, true, false, refl, sym, ◌∙◌, ap, arith}
 use Rattle.std.proofs.Math.Dec.{eqb}
-use Rattle.std.proofs.lemmas.Bool.{eq-eqb, ne_eqb, eqb-true, cases_eq}
+use Rattle.std.proofs.lemmas.Bool.{eq-eqb, ne_eqb, cases_eq}
 use Rattle.std.specs.Prelude.{◌&&◌}
 use Rattle.algebra.specs.Structures.{CommRing}
 use Rattle.algebra.specs.Sums.{sum_below, pick, multiple, power}
-use Rattle.algebra.proofs.RingLaws.{nought_add, add_nought, add_assoc, add_comm, add_left_comm, mul_add, add_mul, mul_nought, nought_mul, mul_assoc, mul_comm, mul_left_comm, mul_one, one_mul, neg_add, neg_nought, sum_rules, product_rules, ring_rules}
+use Rattle.algebra.proofs.RingLaws.{nought_add, mul_add, add_mul, mul_nought, nought_mul, one_mul, neg_add, neg_nought, sum_rules}
 
 -- the recursions of the definitions
 module _ {A : Type 0} (R : CommRing A) where

@@ -1,12 +1,12 @@
 -- Laws of sums over a finite type.
-use Rattle.std.proofs.Common.{◌≡◌, ℕ, ◌<◌, Bool, true, false, refl, sym, ◌∙◌, ap}
+use Rattle.std.proofs.Common.{◌≡◌, Bool, true, false, refl, sym, ◌∙◌, ap}
 use Rattle.std.proofs.Math.Dec.{eqb}
 use Rattle.std.proofs.lemmas.Bool.{eq-eqb, eqb-true}
 use mathlib.Core.Path.{fun_ext}
 use Rattle.algebra.specs.Structures.{CommRing}
 use Rattle.algebra.specs.Sums.{sum_below, pick, multiple}
 use Rattle.algebra.specs.Totals.{Finite, equals, total}
-use Rattle.algebra.proofs.SumLaws.{sum_ext, sum_nought, sum_add, sum_neg, mul_sum, sum_mul, pick_sum, sum_exchange, sum_constant, sum_pick, pick_cong, pick_same, pick_true, pick_false}
+use Rattle.algebra.proofs.SumLaws.{sum_ext, sum_nought, sum_add, sum_neg, mul_sum, sum_mul, pick_sum, sum_exchange, sum_constant, sum_pick}
 
 -- equality of elements as a test
 module _ {G : Type 0} (F : Finite G) where

@@ -4,3 +4,5 @@ pub mod Totals
 pub mod Groups
 pub mod Below
 pub mod Congruences
+pub mod Roots
+pub mod Convolution
