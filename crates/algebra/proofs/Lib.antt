@@ -5,3 +5,4 @@ pub mod GroupLaws
 pub mod BelowLaws
 pub mod CongruenceLaws
 pub mod ConvolutionLaws
+pub mod RootLaws

@@ -1,11 +1,13 @@
 -- Laws of finite sums, picks, multiples and powers in a commutative ring.
 use Rattle.std.proofs.Common.{◌≡◌, ℕ, zero, suc, ◌<◌, ◌≤◌, inl, inr, Bool, true, false, refl, sym, ◌∙◌, ap, arith}
+use Rattle.std.proofs.Common.{◌+◌, ◌*◌, eqb-true}
+use Rattle.std.proofs.Math.Nat.{add-zero, add-suc, zero-mul, suc-mul, mul-zero, mul-suc}
 use Rattle.std.proofs.Math.Dec.{eqb}
 use Rattle.std.proofs.lemmas.Bool.{eq-eqb, ne_eqb, cases_eq}
 use Rattle.std.specs.Prelude.{◌&&◌}
 use Rattle.algebra.specs.Structures.{CommRing}
 use Rattle.algebra.specs.Sums.{sum_below, pick, multiple, power}
-use Rattle.algebra.proofs.RingLaws.{nought_add, mul_add, add_mul, mul_nought, nought_mul, one_mul, neg_add, neg_nought, sum_rules}
+use Rattle.algebra.proofs.RingLaws.{nought_add, mul_add, add_mul, mul_nought, nought_mul, one_mul, neg_add, neg_nought, sum_rules, product_rules}
 
 -- the recursions of the definitions
 module _ {A : Type 0} (R : CommRing A) where
@@ -152,3 +154,75 @@ module _ {A : Type 0} (R : CommRing A) where
       let below : sum_below R n (λ i. pick R (eqb i a) (f i)) ≡ f a = sum_pick n a f (omega arith) in
       let off : pick R (eqb n a) (f n) ≡ R.nought = pick_off R (eqb n a) (f n) (ne_eqb n a d) in
       simp (sum_suc, below, off, R.add_nought) ]
+
+  -- a sum along a map of the numbers below n that has an inverse there
+  pub sum_reindex : (n : ℕ) (p q : ℕ → ℕ) → ((i : ℕ) → i < n → p i < n) → ((i : ℕ) → i < n → q i < n) → ((i : ℕ) → i < n → q (p i) ≡ i) → ((i : ℕ) → i < n → p (q i) ≡ i) → (f : ℕ → A) → sum_below R n (λ i. f (p i)) ≡ sum_below R n f
+  sum_reindex n p q p_below q_below qp pq f =
+      sum_ext n (λ i. f (p i)) (λ i. sum_below R n (λ j. pick R (eqb j (p i)) (f j))) (λ i h. sym (sum_pick n (p i) f (p_below i h)))
+      ∙ sum_exchange n n (λ i j. pick R (eqb j (p i)) (f j))
+      ∙ sum_ext n (λ j. sum_below R n (λ i. pick R (eqb j (p i)) (f j))) f
+          (λ j h. sum_ext n (λ i. pick R (eqb j (p i)) (f j)) (λ i. pick R (eqb i (q j)) (f j))
+              (λ i k. pick_same R (eqb j (p i)) (eqb i (q j)) (f j)
+                (λ e. eq-eqb i (q j) (sym (qp i k) ∙ ap q (sym (eqb-true j (p i) e))))
+                (λ e. eq-eqb j (p i) (sym (pq j h) ∙ ap p (sym (eqb-true i (q j) e)))))
+            ∙ sum_pick n (q j) (λ i. f j) (q_below j h))
+
+  -- a sum in two parts
+  pub sum_split : (n m : ℕ) (f : ℕ → A) → sum_below R (n + m) f ≡ R.add (sum_below R n f) (sum_below R m (λ i. f (n + i)))
+  sum_split n zero f = simp (add-zero, sum_zero, R.add_nought)
+  sum_split n (suc m) f = simp (add-suc, sum_suc, sum_split n m f, sum_rules)
+
+-- multiples and powers
+module _ {A : Type 0} (R : CommRing A) where
+  pub multiple_one : (x : A) → multiple R 1 x ≡ x
+  multiple_one x = multiple_suc R 0 x ∙ simp (multiple_zero, nought_add)
+
+  pub multiple_nought : (n : ℕ) → multiple R n R.nought ≡ R.nought
+  multiple_nought n = sym (sum_constant R n R.nought) ∙ sum_nought R n
+
+  pub multiple_of_add : (n : ℕ) (x y : A) → multiple R n (R.add x y) ≡ R.add (multiple R n x) (multiple R n y)
+  multiple_of_add zero x y = simp (multiple_zero, R.add_nought)
+  multiple_of_add (suc n) x y = simp (multiple_suc, multiple_of_add n x y, sum_rules)
+
+  pub multiple_add : (n m : ℕ) (x : A) → multiple R (n + m) x ≡ R.add (multiple R n x) (multiple R m x)
+  multiple_add n zero x = simp (add-zero, multiple_zero, R.add_nought)
+  multiple_add n (suc m) x = simp (add-suc, multiple_suc, multiple_add n m x, R.add_assoc)
+
+  pub multiple_multiple : (n m : ℕ) (x : A) → multiple R n (multiple R m x) ≡ multiple R (n * m) x
+  multiple_multiple zero m x = simp (zero-mul, multiple_zero)
+  multiple_multiple (suc n) m x = simp (multiple_suc, multiple_multiple n m x, suc-mul, multiple_add)
+
+  pub multiple_neg : (n : ℕ) (x : A) → multiple R n (R.neg x) ≡ R.neg (multiple R n x)
+  multiple_neg zero x = simp (multiple_zero, neg_nought)
+  multiple_neg (suc n) x = simp (multiple_suc, multiple_neg n x, neg_add)
+
+  -- a multiple of a product is a product with a multiple
+  pub mul_multiple : (n : ℕ) (x y : A) → R.mul x (multiple R n y) ≡ multiple R n (R.mul x y)
+  mul_multiple zero x y = simp (multiple_zero, mul_nought)
+  mul_multiple (suc n) x y = simp (multiple_suc, mul_add, mul_multiple n x y)
+
+  pub multiple_mul : (n : ℕ) (x y : A) → R.mul (multiple R n x) y ≡ multiple R n (R.mul x y)
+  multiple_mul n x y = R.mul_comm (multiple R n x) y ∙ mul_multiple n y x ∙ ap (λ z. multiple R n z) (R.mul_comm y x)
+
+  -- the multiple by n is the product with the whole number n of the ring
+  pub multiple_is_mul : (n : ℕ) (x : A) → multiple R n x ≡ R.mul (multiple R n R.one) x
+  multiple_is_mul n x = sym (multiple_mul n R.one x ∙ ap (λ z. multiple R n z) (one_mul R x))
+
+  pub power_one : (x : A) → power R x 1 ≡ x
+  power_one x = power_suc R x 0 ∙ simp (power_zero, one_mul)
+
+  pub one_power : (n : ℕ) → power R R.one n ≡ R.one
+  one_power zero = power_zero R R.one
+  one_power (suc n) = simp (power_suc, one_power n, R.mul_one)
+
+  pub power_add : (x : A) (n m : ℕ) → power R x (n + m) ≡ R.mul (power R x n) (power R x m)
+  power_add x n zero = simp (add-zero, power_zero, R.mul_one)
+  power_add x n (suc m) = simp (add-suc, power_suc, power_add x n m, R.mul_assoc)
+
+  pub power_mul : (x : A) (n m : ℕ) → power R x (n * m) ≡ power R (power R x n) m
+  power_mul x n zero = simp (mul-zero, power_zero)
+  power_mul x n (suc m) = simp (mul-suc, power_suc, power_add, power_mul x n m)
+
+  pub mul_power : (x y : A) (n : ℕ) → power R (R.mul x y) n ≡ R.mul (power R x n) (power R y n)
+  mul_power x y zero = simp (power_zero, R.mul_one)
+  mul_power x y (suc n) = simp (power_suc, mul_power x y n, product_rules, R)
