@@ -1,18 +1,12 @@
 -- The numbers below n as a finite type and, under the laws of a group, as a group.
 use Rattle.std.proofs.Common.{◌≡◌, ℕ, ◌%◌, ◌<◌, ap}
 use Rattle.std.proofs.Math.Nat.{mod-lt, mod-eq_of_lt}
-use Rattle.std.proofs.Math.Bridge.{le_prop}
-use mathlib.Core.HLevel.{is_prop→PathP}
 use Rattle.algebra.specs.Structures.{CommRing}
 use Rattle.algebra.specs.Sums.{sum_below}
 use Rattle.algebra.specs.Totals.{Finite, total}
 use Rattle.algebra.specs.Groups.{Group}
-use Rattle.algebra.specs.Below.{Below, IsGroupBelow}
+use Rattle.algebra.specs.Below.{Below, IsGroupBelow, below_equal}
 use Rattle.algebra.proofs.SumLaws.{sum_ext}
-
--- numbers below n with one value are one
-pub below_equal : {n : ℕ} → (x y : Below n) → x.value ≡ y.value → x ≡ y
-below_equal {n} x y e = λ i. record { value = e i; below = is_prop→PathP (λ j. e j < n) (λ j. le_prop) x.below y.below i }
 
 -- the numbers below n are numbered by themselves
 abbrev pub finite_below : (n : ℕ) → 0 < n → Finite (Below n)

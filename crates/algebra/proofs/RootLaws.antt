@@ -1,13 +1,12 @@
 -- An element whose n-th power is one gives roots with exponents modulo n.
-use Rattle.std.proofs.Common.{◌≡◌, ℕ, ◌+◌, ◌*◌, ◌/◌, ◌%◌, ◌<◌, refl, sym, ◌∙◌, ap}
-use Rattle.std.proofs.Math.Nat.{div-add-mod, zero-mul}
+use Rattle.std.proofs.Common.{◌≡◌, ℕ, ◌*◌, ◌/◌, ◌%◌, sym, ◌∙◌, ap}
+use Rattle.std.proofs.Math.Nat.{div-add-mod}
 use Rattle.algebra.specs.Structures.{CommRing}
 use Rattle.algebra.specs.Sums.{power}
 use Rattle.algebra.specs.Congruences.{Same}
 use Rattle.algebra.specs.Roots.{Roots}
 use Rattle.algebra.proofs.RingLaws.{one_mul}
 use Rattle.algebra.proofs.SumLaws.{power_zero, power_add, power_mul, one_power}
-use Rattle.algebra.proofs.CongruenceLaws.{same_mul_right}
 
 module _ {A : Type 0} (R : CommRing A) (z : A) (n : ℕ) (cycle : power R z n ≡ R.one) where
   -- a power depends on the exponent modulo n alone

@@ -1,12 +1,15 @@
 -- Laws of finite sums, picks, multiples and powers in a commutative ring.
 use Rattle.std.proofs.Common.{◌≡◌, ℕ, zero, suc, ◌<◌, ◌≤◌, inl, inr, Bool, true, false, refl, sym, ◌∙◌, ap, arith}
-use Rattle.std.proofs.Common.{◌+◌, ◌*◌, eqb-true}
-use Rattle.std.proofs.Math.Nat.{add-zero, add-suc, zero-mul, suc-mul, mul-zero, mul-suc}
+use Rattle.std.proofs.Common.{◌+◌, ◌*◌, eqb-true, List, [], ◌∷◌, ◌++◌}
+use Rattle.std.specs.Prelude.{map}
+use Rattle.std.specs.List.{range_with_len}
+use Rattle.std.proofs.Math.Numerals.{add-one}
+use Rattle.std.proofs.Math.Nat.{add-zero, add-suc, suc-add, zero-mul, suc-mul, mul-zero, mul-suc}
 use Rattle.std.proofs.Math.Dec.{eqb}
 use Rattle.std.proofs.lemmas.Bool.{eq-eqb, ne_eqb, cases_eq}
 use Rattle.std.specs.Prelude.{◌&&◌}
 use Rattle.algebra.specs.Structures.{CommRing}
-use Rattle.algebra.specs.Sums.{sum_below, pick, multiple, power}
+use Rattle.algebra.specs.Sums.{sum_below, pick, multiple, power, sum_list}
 use Rattle.algebra.proofs.RingLaws.{nought_add, mul_add, add_mul, mul_nought, nought_mul, one_mul, neg_add, neg_nought, sum_rules, product_rules}
 
 -- the recursions of the definitions
@@ -226,3 +229,37 @@ module _ {A : Type 0} (R : CommRing A) where
   pub mul_power : (x y : A) (n : ℕ) → power R (R.mul x y) n ≡ R.mul (power R x n) (power R y n)
   mul_power x y zero = simp (power_zero, R.mul_one)
   mul_power x y (suc n) = simp (power_suc, mul_power x y n, product_rules, R)
+
+-- sums of lists
+module _ {A : Type 0} (R : CommRing A) where
+  pub sum_list_nil : sum_list R [] ≡ R.nought
+  unfolding sum_list
+  sum_list_nil = refl
+
+  pub sum_list_cons : (x : A) (xs : List A) → sum_list R (x ∷ xs) ≡ R.add x (sum_list R xs)
+  unfolding sum_list
+  sum_list_cons x xs = refl
+
+  pub sum_list_append : (xs ys : List A) → sum_list R (xs ++ ys) ≡ R.add (sum_list R xs) (sum_list R ys)
+  sum_list_append [] ys = simp (sum_list_nil, nought_add)
+  sum_list_append (x ∷ xs) ys = simp (sum_list_cons, sum_list_append xs ys, R.add_assoc)
+
+  pub sum_list_single : (x : A) → sum_list R (x ∷ []) ≡ x
+  sum_list_single x = simp (sum_list_cons, sum_list_nil, R.add_nought)
+
+  -- one more element at the end
+  pub sum_list_push : (xs : List A) (x : A) → sum_list R (xs ++ x ∷ []) ≡ R.add (sum_list R xs) x
+  sum_list_push xs x = sum_list_append xs (x ∷ []) ∙ ap (λ y. R.add (sum_list R xs) y) (sum_list_single x)
+
+module _ {A : Type 0} (R : CommRing A) where
+  -- a sum over 0 .. n - 1 that begins with its first term
+  pub sum_first : (n : ℕ) (f : ℕ → A) → sum_below R (suc n) f ≡ R.add (f 0) (sum_below R n (λ i. f (suc i)))
+  sum_first zero f = sum_suc R zero f ∙ simp (sum_zero, sum_rules)
+  sum_first (suc n) f = sum_suc R (suc n) f ∙ ap (λ a. R.add a (f (suc n))) (sum_first n f) ∙ simp (sum_suc, R.add_assoc)
+
+  -- the sum of the listed f a, f (a + 1), .., n of them
+  pub sum_list_range : (a n : ℕ) (f : ℕ → A) → sum_list R (map f (range_with_len a n)) ≡ sum_below R n (λ i. f (a + i))
+  sum_list_range a zero f = simp (sum_list_nil, sum_zero)
+  sum_list_range a (suc n) f =
+      sum_list_cons R (f a) (map f (range_with_len (a + 1) n)) ∙ ap (λ s. R.add (f a) s) (sum_list_range (a + 1) n f)
+      ∙ sym (sum_first n (λ i. f (a + i)) ∙ simp (add-zero, add-suc, add-one, suc-add))

@@ -6,3 +6,4 @@ pub mod Below
 pub mod Congruences
 pub mod Roots
 pub mod Convolution
+pub mod Residues

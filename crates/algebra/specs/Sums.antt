@@ -1,5 +1,5 @@
 -- Finite sums in a commutative ring (textbook).
-use Rattle.std.specs.Prelude.{ℕ, zero, suc, Bool, true, false}
+use Rattle.std.specs.Prelude.{ℕ, zero, suc, Bool, true, false, List, [], ◌∷◌}
 use Rattle.algebra.specs.Structures.{CommRing}
 
 module _ {A : Type 0} (R : CommRing A) where
@@ -22,3 +22,8 @@ module _ {A : Type 0} (R : CommRing A) where
   unfoldable pub power : A → ℕ → A
   power x zero = R.one
   power x (suc n) = R.mul (power x n) x
+
+  -- the sum of the elements of a list
+  unfoldable pub sum_list : List A → A
+  sum_list [] = R.nought
+  sum_list (x ∷ xs) = R.add x (sum_list xs)
