@@ -2,7 +2,9 @@
 #![tactic(auto)]
 
 mod ring;
+mod sum;
 mod unit_group;
 
 pub use ring::Ring;
+pub use sum::try_sum;
 pub use unit_group::UnitGroup;
