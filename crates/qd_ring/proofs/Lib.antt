@@ -1,1 +1,2 @@
 pub mod ListedSums
+pub mod ThirdsLaws

@@ -19,3 +19,6 @@ pub fn try_sum<R: Ring>(ring: &R, terms: &[R::Elem]) -> Option<R::Elem>
     }
     Some(sum)
 }
+
+#[cfg(test)]
+mod tests;
