@@ -1,1 +1,2 @@
-mod Probe
+pub mod Integers
+pub mod Polynomials
