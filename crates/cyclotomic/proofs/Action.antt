@@ -3,7 +3,10 @@ use Rattle.std.proofs.Common.{◌≡◌, ℕ, zero, suc, ◌+◌, ◌*◌, List,
 use Rattle.std.specs.Prelude.{ℤ, pos, negsuc, ◌+ℤ◌, ◌*ℤ◌, neg_ℤ, replicate}
 use mathlib.Core.Path.{ap₂}
 use Rattle.cyclotomic.specs.Polynomial.{zeros, plus, scaled, times, x_to, at_power, leading, lower}
+use Rattle.cyclotomic.specs.Division.{degree, cancelled, remainder}
 use Rattle.cyclotomic.proofs.Integers as Z
+use Rattle.cyclotomic.proofs.Polynomials.{length-lower, leading-nil}
+use Rattle.cyclotomic.proofs.Remainders.{remainder-nil, remainder-cons, length-remainder, zero_not_one}
 
 -- a commutative group with multiples by whole numbers, and a map that respects both
 pub record LinearMap (V : Type 0) : Type 0 where
@@ -165,3 +168,68 @@ module _ {V : Type 0} (M : LinearMap V) where
   act-leading a (b ∷ p) v =
       act-cons a (b ∷ p) v ∙ ap (λ z. M.add (M.scale a v) (M.map z)) (act-leading b p v)
           ∙ simp (act-cons, M.map_add, M.map_scale, iterate-suc, M.add_assoc)
+
+  -- ---- the remainder by a monic polynomial that sends v to nought acts on v as the polynomial
+  act-nothing : (n : ℕ) (v : V) → act M (zeros n) v ≡ M.nought
+  act-nothing zero v = act-nil v
+  act-nothing (suc n) v = act-shifted (zeros n) v ∙ ap M.map (act-nothing n v) ∙ map_nought
+
+  opposite_scaled : (c : ℤ) (u w : V) → M.add u w ≡ M.nought → M.scale (neg_ℤ c) u ≡ M.scale c w
+  opposite_scaled c u w e =
+      let cancels : M.add (M.scale (neg_ℤ c) u) (M.scale c u) ≡ M.nought =
+          sym (M.scale_sum (neg_ℤ c) c u)
+              ∙ ap (λ z. M.scale z u) (Z.plus_comm (neg_ℤ c) c ∙ Z.plus_neg c)
+              ∙ M.scale_zero u in
+      sym (M.add_nought (M.scale (neg_ℤ c) u))
+          ∙ ap (M.add (M.scale (neg_ℤ c) u)) (sym (ap (M.scale c) e ∙ scale_nought c))
+          ∙ ap (M.add (M.scale (neg_ℤ c) u)) (M.scale_add c u w)
+          ∙ sym (M.add_assoc (M.scale (neg_ℤ c) u) (M.scale c u) (M.scale c w))
+          ∙ ap (λ z. M.add z (M.scale c w)) cancels
+          ∙ nought_add (M.scale c w)
+
+  act-cancelled : (b a : ℤ) (m r : List ℤ) (v : V) → leading (b ∷ m) ≡ pos 1 → length r ≡ length m → act M (b ∷ m) v ≡ M.nought → act M (cancelled (b ∷ m) (a ∷ r)) v ≡ act M (a ∷ r) v
+  unfolding cancelled
+  act-cancelled b a m r v monic same vanishes =
+      let c = leading (a ∷ r) in
+      let low = lower (b ∷ m) in
+      let n = length m in
+      let sum : M.add (act M low v) (iterate M.map n v) ≡ M.nought =
+          ap (M.add (act M low v))
+              (sym (M.scale_one (iterate M.map n v)) ∙ ap (λ z. M.scale z (iterate M.map n v)) (sym monic))
+              ∙ sym (act-leading b m v) ∙ vanishes in
+      act-plus (lower (a ∷ r)) (scaled (neg_ℤ c) low) v
+          ∙ ap (M.add (act M (lower (a ∷ r)) v))
+              (act-scaled (neg_ℤ c) low v ∙ opposite_scaled c (act M low v) (iterate M.map n v) sum
+                  ∙ ap (λ k. M.scale c (iterate M.map k v)) (sym same))
+          ∙ sym (act-leading a r v)
+
+  pub act-remainder : (m p : List ℤ) (v : V) → leading m ≡ pos 1 → act M m v ≡ M.nought → act M (remainder m p) v ≡ act M p v
+  act-remainder [] p v monic vanishes = absurd (zero_not_one (sym leading-nil ∙ monic))
+  act-remainder (b ∷ m) [] v monic vanishes =
+      ap (λ z. act M z v) (remainder-nil (b ∷ m)) ∙ act-nothing (degree (b ∷ m)) v ∙ sym (act-nil v)
+  act-remainder (b ∷ m) (a ∷ p) v monic vanishes =
+      let r = remainder (b ∷ m) p in
+      ap (λ z. act M z v) (remainder-cons (b ∷ m) a p)
+          ∙ act-cancelled b a m r v monic (length-remainder (b ∷ m) p ∙ length-lower b m) vanishes
+          ∙ act-cons a r v
+          ∙ ap (λ z. M.add (M.scale a v) (M.map z)) (act-remainder (b ∷ m) p v monic vanishes)
+          ∙ sym (act-cons a p v)
+
+-- the map, t times, is linear too
+abbrev pub map_power : {V : Type 0} → LinearMap V → ℕ → LinearMap V
+map_power M t = record {
+  add = M.add;
+  nought = M.nought;
+  scale = M.scale;
+  map = iterate M.map t;
+  add_assoc = M.add_assoc;
+  add_comm = M.add_comm;
+  add_nought = M.add_nought;
+  scale_add = M.scale_add;
+  scale_sum = M.scale_sum;
+  scale_product = M.scale_product;
+  scale_one = M.scale_one;
+  scale_zero = M.scale_zero;
+  map_add = iterate-add M t;
+  map_scale = iterate-scale M t
+}

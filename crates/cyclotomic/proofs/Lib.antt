@@ -1,3 +1,4 @@
 pub mod Integers
 pub mod Polynomials
+pub mod Remainders
 pub mod Action

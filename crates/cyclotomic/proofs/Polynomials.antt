@@ -106,6 +106,10 @@ unfolding lower
 length-lower a [] = refl
 length-lower a (b ∷ p) = ap suc (length-lower b p)
 
+pub leading-nil : leading [] ≡ pos 0
+unfolding leading
+leading-nil = refl
+
 pub leading-plus : (p q : List ℤ) → length p ≡ length q → leading (plus p q) ≡ leading p +ℤ leading q
 unfolding plus leading
 leading-plus [] [] e = refl
