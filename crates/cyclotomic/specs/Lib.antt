@@ -1,3 +1,5 @@
 pub mod Polynomial
 pub mod Division
 pub mod Cyclotomic
+pub mod Ring
+pub mod Laws

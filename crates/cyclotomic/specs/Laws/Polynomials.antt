@@ -4,7 +4,7 @@ use Rattle.std.specs.Prelude.{ℤ, pos, negsuc, ◌+ℤ◌, ◌*ℤ◌, neg_ℤ,
 use Rattle.std.proofs.lemmas.List.{length-replicate}
 use mathlib.Core.Path.{ap₂}
 use Rattle.cyclotomic.specs.Polynomial.{zeros, plus, scaled, leading, lower}
-use Rattle.cyclotomic.proofs.Integers as Z
+use Rattle.cyclotomic.specs.Laws.Integers as Z
 
 -- ---- sums
 pub plus-nil : (p : List ℤ) → plus p [] ≡ p
@@ -152,3 +152,23 @@ pub lower-zeros : (n : ℕ) → lower (zeros (suc n)) ≡ zeros n
 unfolding lower
 lower-zeros zero = refl
 lower-zeros (suc n) = ap (λ y. pos 0 ∷ y) (lower-zeros n)
+
+-- ---- lists with zeros at the end
+pub leading-padded : (p : List ℤ) (k : ℕ) → leading (p ++ zeros (suc k)) ≡ pos 0
+unfolding leading
+leading-padded [] k = leading-zeros (suc k)
+leading-padded (a ∷ []) k = leading-zeros (suc k)
+leading-padded (a ∷ b ∷ p) k = leading-padded (b ∷ p) k
+
+pub lower-padded : (p : List ℤ) (k : ℕ) → lower (p ++ zeros (suc k)) ≡ p ++ zeros k
+unfolding lower
+lower-padded [] k = lower-zeros k
+lower-padded (a ∷ []) k = ap (λ y. a ∷ y) (lower-zeros k)
+lower-padded (a ∷ b ∷ p) k = ap (λ y. a ∷ y) (lower-padded (b ∷ p) k)
+
+-- a list from its first coefficient and the others
+pub first_and_rest : (a : ℤ) (p : List ℤ) (n : ℕ) → length p ≡ n → plus (scaled a (pos 1 ∷ zeros n)) (pos 0 ∷ p) ≡ a ∷ p
+first_and_rest a p n e =
+    ap (λ z. plus z (pos 0 ∷ p)) (scaled-cons a (pos 1) (zeros n) ∙ ap (λ z. (a *ℤ pos 1) ∷ z) (scaled-zeros a n))
+        ∙ plus-cons (a *ℤ pos 1) (pos 0) (zeros n) p
+        ∙ ap₂ (λ x y. x ∷ y) (Z.plus_zero (a *ℤ pos 1) ∙ Z.times_comm a (pos 1) ∙ Z.one_times a) (plus_comm (zeros n) p ∙ plus-zeros p n e)

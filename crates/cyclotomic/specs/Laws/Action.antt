@@ -1,12 +1,12 @@
 -- Polynomials act on a module with a linear map: p acts as p of the map. Laws of products of polynomials are those of the action.
-use Rattle.std.proofs.Common.{◌≡◌, ℕ, zero, suc, ◌+◌, ◌*◌, List, [], ◌∷◌, ◌++◌, length, refl, sym, ap, ◌∙◌, arith, add-suc, add-zero, zero-add}
+use Rattle.std.proofs.Common.{◌≡◌, ℕ, zero, suc, ◌+◌, ◌*◌, List, [], ◌∷◌, ◌++◌, length, refl, sym, ap, ◌∙◌, arith, add-suc, add-zero, zero-add, mul-zero, mul-suc, add_comm}
 use Rattle.std.specs.Prelude.{ℤ, pos, negsuc, ◌+ℤ◌, ◌*ℤ◌, neg_ℤ, replicate}
 use mathlib.Core.Path.{ap₂}
 use Rattle.cyclotomic.specs.Polynomial.{zeros, plus, scaled, times, x_to, at_power, leading, lower}
 use Rattle.cyclotomic.specs.Division.{degree, cancelled, remainder}
-use Rattle.cyclotomic.proofs.Integers as Z
-use Rattle.cyclotomic.proofs.Polynomials.{length-lower, leading-nil}
-use Rattle.cyclotomic.proofs.Remainders.{remainder-nil, remainder-cons, length-remainder, zero_not_one}
+use Rattle.cyclotomic.specs.Laws.Integers as Z
+use Rattle.cyclotomic.specs.Laws.Polynomials.{length-lower, leading-nil}
+use Rattle.cyclotomic.specs.Laws.Remainders.{remainder-nil, remainder-cons, length-remainder, zero_not_one}
 
 -- a commutative group with multiples by whole numbers, and a map that respects both
 pub record LinearMap (V : Type 0) : Type 0 where
@@ -233,3 +233,34 @@ map_power M t = record {
   map_add = iterate-add M t;
   map_scale = iterate-scale M t
 }
+
+-- p at x^t acts by the map as p acts by its power t
+pub act-at_power : {V : Type 0} (M : LinearMap V) (t : ℕ) (p : List ℤ) (v : V) → act M (at_power t p) v ≡ act (map_power M t) p v
+unfolding at_power act
+act-at_power M t [] v = refl
+act-at_power M t (a ∷ p) v =
+    act-plus M (a ∷ []) (zeros t ++ at_power t p) v
+        ∙ ap₂ M.add (act-constant M a v) (act-zeros M t (at_power t p) v ∙ ap (iterate M.map t) (act-at_power M t p v))
+
+-- powers of a power of the map
+pub iterate-power : {V : Type 0} (M : LinearMap V) (t k : ℕ) (v : V) → iterate (iterate M.map t) k v ≡ iterate M.map (t * k) v
+unfolding iterate
+iterate-power M t zero v = ap (λ n. iterate M.map n v) (sym (mul-zero t))
+iterate-power M t (suc k) v =
+    let e : t + t * k ≡ t * suc k = sym (mul-suc t k ∙ add_comm (t * k) t) in
+    ap (iterate M.map t) (iterate-power M t k v) ∙ sym (iterate-sum M t (t * k) v)
+        ∙ ap (λ n. iterate M.map n v) e
+
+-- maps that agree everywhere act alike
+pub act-same_map : {V : Type 0} (M : LinearMap V) (s t : ℕ) → ((v : V) → iterate M.map s v ≡ iterate M.map t v) → (p : List ℤ) (v : V) → act (map_power M s) p v ≡ act (map_power M t) p v
+unfolding act
+act-same_map M s t same [] v = refl
+act-same_map M s t same (a ∷ p) v =
+    ap (M.add (M.scale a v)) (same (act (map_power M s) p v) ∙ ap (iterate M.map t) (act-same_map M s t same p v))
+
+-- the power t' of the power t
+pub act-power_power : {V : Type 0} (M : LinearMap V) (t t' : ℕ) (p : List ℤ) (v : V) → act (map_power (map_power M t) t') p v ≡ act (map_power M (t * t')) p v
+unfolding act
+act-power_power M t t' [] v = refl
+act-power_power M t t' (a ∷ p) v =
+    ap (M.add (M.scale a v)) (iterate-power M t t' (act (map_power (map_power M t) t') p v) ∙ ap (iterate M.map (t * t')) (act-power_power M t t' p v))

@@ -1,4 +1,0 @@
-pub mod Integers
-pub mod Polynomials
-pub mod Remainders
-pub mod Action
