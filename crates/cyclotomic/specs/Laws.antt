@@ -4,4 +4,3 @@ pub mod Polynomials
 pub mod Remainders
 pub mod Action
 pub mod Values
-pub mod Images
