@@ -7,7 +7,9 @@ use Rattle.cyclotomic.specs.Polynomial.{zeros, plus, scaled, times, x_to, at_pow
 use Rattle.cyclotomic.specs.Division.{degree, cancelled, division, quotient, remainder}
 use Rattle.cyclotomic.specs.Cyclotomic.{divided_by_divisors, next_cyclotomic, cyclotomics, cyclotomic}
 use Rattle.cyclotomic.specs.Conductors.{conductors, reductions, reduction_of, is_conductor, phi_of}
-use Rattle.cyclotomic.proofs.Tests.{same_number, same_list, same_list_means, at_each_conductor}
+use Rattle.cyclotomic.proofs.Gcd.{euclid, euclid_of_prime}
+use Rattle.cyclotomic.proofs.Rows.{rows_from, power_rows, sum_of_rows}
+use Rattle.cyclotomic.proofs.Tests.{same_number, same_list, same_list_means, at_each_conductor, any_below, any_below_means, all_below_means, and_left, and_right}
 
 -- ---- the listed reductions are Phi_K
 is_listed : ℕ → Bool
@@ -20,3 +22,76 @@ all_listed = refl
 pub cyclotomic_is : (k : ℕ) → is_conductor k ≡ true → cyclotomic k ≡ reduction_of k ++ (pos 1 ∷ [])
 unfolding is_listed
 cyclotomic_is k h = same_list_means (cyclotomic k) (reduction_of k ++ (pos 1 ∷ [])) (at_each_conductor is_listed all_listed k h)
+
+-- Phi_K, as it is listed
+abbrev pub listed : ℕ → List ℤ
+listed k = reduction_of k ++ (pos 1 ∷ [])
+
+-- ---- phi is the degree
+has_degree : ℕ → Bool
+has_degree k = length (reduction_of k) == phi_of k
+
+all_degrees : list_all (λ (entry : ℕ × ℕ). has_degree entry.0) conductors ≡ true
+unfolding has_degree conductors reductions reduction_of phi_of
+all_degrees = refl
+
+-- ---- x^K is 1
+has_period : ℕ → Bool
+has_period k = same_list (remainder (listed k) (x_to k)) (remainder (listed k) (pos 1 ∷ []))
+
+all_periods : list_all (λ (entry : ℕ × ℕ). has_period entry.0) conductors ≡ true
+unfolding has_period same_list same_number plus scaled leading lower x_to cancelled division remainder conductors reductions reduction_of
+all_periods = refl
+
+-- ---- sums of powers of x over a divisor of K
+is_proper_divisor : ℕ → ℕ → Bool
+is_proper_divisor k g = elim (g == 0) [ true ↦ false | false ↦ k % g == 0 ]
+
+-- 1 + x^g + x^(2g) + .., the sum of all powers of x whose exponent below K is a multiple of g, where g divides K
+powers_of_multiples : ℕ → ℕ → List ℤ
+powers_of_multiples k g = at_power g (replicate (k / g) (pos 1))
+
+sum_vanishes_at : ℕ → ℕ → Bool
+sum_vanishes_at k g =
+    elim (is_proper_divisor k g) [
+        true ↦ same_list (remainder (listed k) (powers_of_multiples k g)) (zeros (length (reduction_of k)))
+      | false ↦ true ]
+
+all_sums : list_all (λ (entry : ℕ × ℕ). all_below entry.0 (sum_vanishes_at entry.0)) conductors ≡ true
+unfolding sum_vanishes_at is_proper_divisor powers_of_multiples all_below same_list same_number plus scaled leading lower at_power cancelled division remainder conductors reductions reduction_of
+all_sums = refl
+
+-- ---- K divides no e without a multiple of e that is a proper divisor of K, modulo K
+reaches_divisor : ℕ → ℕ → Bool
+reaches_divisor k e = elim (e == 0) [ true ↦ true | false ↦ any_below k (λ a. is_proper_divisor k ((a * e) % k)) ]
+
+all_reach : list_all (λ (entry : ℕ × ℕ). all_below entry.0 (reaches_divisor entry.0)) conductors ≡ true
+unfolding reaches_divisor is_proper_divisor any_below all_below conductors
+all_reach = refl
+
+-- ---- Phi_K divides Phi_K at x^t, for t prime to K
+divides_at : ℕ → List (List ℤ) → ℕ → Bool
+divides_at k rows t =
+    elim (euclid k k t == 1) [
+        true ↦ same_list (sum_of_rows (length (reduction_of k)) rows k t 0 (listed k)) (zeros (length (reduction_of k)))
+      | false ↦ true ]
+
+divides_at_all : ℕ → List (List ℤ) → Bool
+divides_at_all k rows = all_below k (divides_at k rows)
+
+all_divide : list_all (λ (entry : ℕ × ℕ). divides_at_all entry.0 (power_rows (listed entry.0) entry.0)) conductors ≡ true
+unfolding divides_at divides_at_all euclid power_rows rows_from sum_of_rows all_below same_list same_number plus scaled leading lower cancelled division remainder conductors reductions reduction_of
+all_divide = refl
+
+-- ---- reduced powers of x have coefficients -1, 0, 1
+is_ternary : List ℤ → Bool
+is_ternary [] = true
+is_ternary (pos zero ∷ p) = is_ternary p
+is_ternary (pos (suc zero) ∷ p) = is_ternary p
+is_ternary (pos (suc (suc a)) ∷ p) = false
+is_ternary (negsuc zero ∷ p) = is_ternary p
+is_ternary (negsuc (suc a) ∷ p) = false
+
+all_ternary : list_all (λ (entry : ℕ × ℕ). list_all is_ternary (power_rows (listed entry.0) entry.0)) conductors ≡ true
+unfolding is_ternary power_rows rows_from plus scaled leading lower cancelled division remainder conductors reductions reduction_of
+all_ternary = refl

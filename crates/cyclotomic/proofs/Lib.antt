@@ -1,3 +1,5 @@
 pub mod Images
 pub mod Tests
+pub mod Gcd
+pub mod Rows
 pub mod Checks

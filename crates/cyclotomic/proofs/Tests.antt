@@ -55,6 +55,20 @@ all_below_means (suc n) test e i h = elim (cases_eq i n) [
     inl here ↦ ap test here ∙ and_right (all_below n test) (test n) e
   | inr apart ↦ all_below_means n test (and_left (all_below n test) (test n) e) i (omega arith) ]
 
+-- some number below a bound passes
+unfoldable pub any_below : ℕ → (ℕ → Bool) → Bool
+any_below zero test = false
+any_below (suc n) test = any_below n test || test n
+
+pub any_below_means : (n : ℕ) (test : ℕ → Bool) → any_below n test ≡ true → (i : ℕ) × (test i ≡ true)
+unfolding any_below
+any_below_means zero test e = cc
+any_below_means (suc n) test e = from (any_below n test) (any_below_means n test) e
+  where
+  from : (b : Bool) → (b ≡ true → (i : ℕ) × (test i ≡ true)) → (b || test n) ≡ true → (i : ℕ) × (test i ≡ true)
+  from true found h = found refl
+  from false found h = (n, h)
+
 -- ---- each entry of the table
 all_entries : (test : ℕ → Bool) (k : ℕ) (entries : List (ℕ × ℕ)) → list_all (λ (entry : ℕ × ℕ). test entry.0) entries ≡ true → list_any (λ (entry : ℕ × ℕ). entry.0 == k) entries ≡ true → test k ≡ true
 all_entries test k [] all found = cc
