@@ -3,3 +3,4 @@ pub mod Tests
 pub mod Gcd
 pub mod Rows
 pub mod Checks
+pub mod RowLaws
