@@ -172,3 +172,16 @@ first_and_rest a p n e =
     ap (λ z. plus z (pos 0 ∷ p)) (scaled-cons a (pos 1) (zeros n) ∙ ap (λ z. (a *ℤ pos 1) ∷ z) (scaled-zeros a n))
         ∙ plus-cons (a *ℤ pos 1) (pos 0) (zeros n) p
         ∙ ap₂ (λ x y. x ∷ y) (Z.plus_zero (a *ℤ pos 1) ∙ Z.times_comm a (pos 1) ∙ Z.one_times a) (plus_comm (zeros n) p ∙ plus-zeros p n e)
+
+-- ---- a list with one more coefficient at the end
+pub leading-last : (p : List ℤ) (c : ℤ) → leading (p ++ (c ∷ [])) ≡ c
+unfolding leading
+leading-last [] c = refl
+leading-last (a ∷ []) c = refl
+leading-last (a ∷ b ∷ p) c = leading-last (b ∷ p) c
+
+pub lower-last : (p : List ℤ) (c : ℤ) → lower (p ++ (c ∷ [])) ≡ p
+unfolding lower
+lower-last [] c = refl
+lower-last (a ∷ []) c = refl
+lower-last (a ∷ b ∷ p) c = ap (λ y. a ∷ y) (lower-last (b ∷ p) c)
