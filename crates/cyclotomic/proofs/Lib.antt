@@ -1,0 +1,6 @@
+pub mod Images
+pub mod Tests
+pub mod Gcd
+pub mod Rows
+pub mod Checks
+pub mod RowLaws

@@ -1,0 +1,6 @@
+pub mod Polynomial
+pub mod Division
+pub mod Cyclotomic
+pub mod Ring
+pub mod Conductors
+pub mod Laws

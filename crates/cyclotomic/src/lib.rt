@@ -1,0 +1,2 @@
+//! Whole-number polynomials modulo a cyclotomic polynomial: definitions, laws, and the table of conductors.
+#![tactic(auto)]
