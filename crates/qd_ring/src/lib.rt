@@ -2,9 +2,11 @@
 #![tactic(auto)]
 
 mod ring;
+mod root;
 mod sum;
 mod unit_group;
 
 pub use ring::Ring;
+pub use root::Root;
 pub use sum::try_sum;
 pub use unit_group::UnitGroup;
