@@ -1,2 +1,4 @@
 pub mod ListedSums
 pub mod ThirdsLaws
+pub mod ValueTextLaws
+pub mod Fronts
