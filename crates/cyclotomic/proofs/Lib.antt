@@ -4,3 +4,4 @@ pub mod Gcd
 pub mod Rows
 pub mod Checks
 pub mod RowLaws
+pub mod Fields
