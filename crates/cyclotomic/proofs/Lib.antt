@@ -5,3 +5,4 @@ pub mod Rows
 pub mod Checks
 pub mod RowLaws
 pub mod Fields
+pub mod Orthogonality
