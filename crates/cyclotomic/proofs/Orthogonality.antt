@@ -1,7 +1,8 @@
 -- x is a root of unity of order K modulo Phi_K: whole multiples cancel, and sums of its powers over all exponents vanish.
-use Rattle.std.proofs.Common.{◌≡◌, ℕ, zero, suc, ◌+◌, ◌*◌, ◌%◌, ◌/◌, ◌≤◌, ◌<◌, ◌≢◌, List, [], ◌∷◌, ◌++◌, length, Bool, true, false, refl, sym, ap, ◌∙◌, subst, arith, replicate, eqb-true, zero-add, add-zero}
+use Rattle.std.proofs.Common.{◌≡◌, ℕ, zero, suc, ◌+◌, ◌*◌, ◌%◌, ◌/◌, ◌≤◌, ◌<◌, ◌≢◌, List, [], ◌∷◌, ◌++◌, length, Bool, true, false, refl, sym, ap, ◌∙◌, subst, arith, replicate, eqb-true, zero-add, add-zero, inl, inr}
 use Rattle.std.proofs.Math.Nat.{mod-lt, mod-eq_of_lt, zero-mul, suc-mul, add_comm}
 use Rattle.std.proofs.lemmas.Bool.{cases_eq, ne_eqb, eq-eqb}
+use Rattle.std.proofs.lemmas.Nat.{mul-mod_second}
 use Rattle.std.specs.Prelude.{ℤ, pos, negsuc, ◌+ℤ◌, ◌*ℤ◌, ◌==◌}
 use mathlib.Core.Path.{ap₂}
 use borrow.Author.Differences.{up, down, same_in, product_is}
@@ -122,3 +123,65 @@ module _ {A : Type 0} (R : CommRing A) (z : A) (n e : ℕ) (cycle : power R z n 
   unfolding power_sum
   sum_is_fixed_modulo a =
       ap (λ y. R.mul y power_sum) (sym (power_mod R z n cycle (a * e))) ∙ sum_is_fixed_by_powers a
+
+positive_quotient : (k g d : ℕ) → 0 < k → g * d ≡ k → 0 < d
+positive_quotient k g zero h e = absurd (omega (arith, e))
+positive_quotient k g (suc d) h e = omega arith
+
+proper_divisor_means : (k g : ℕ) → is_proper_divisor k g ≡ true → (0 < g) × (k % g ≡ 0)
+unfolding is_proper_divisor
+proper_divisor_means k g h = elim (cases_eq g 0) [
+    inl zero_g ↦ absurd (apart (sym (ap (λ (b : Bool). elim b [ true ↦ false | false ↦ k % g == 0 ]) (eq-eqb g 0 zero_g)) ∙ h))
+  | inr nonzero ↦ (omega arith, eqb-true (k % g) 0 (sym (ap (λ (b : Bool). elim b [ true ↦ false | false ↦ k % g == 0 ]) (ne_eqb g 0 nonzero)) ∙ h)) ]
+  where
+  apart : false ≡ true → ⊥
+  apart e = cc
+
+module _ (k : ℕ) (entry : is_conductor k ≡ true) where
+  pub x_cycle : power (remainder_ring (cyclotomic k)) (value_root (cyclotomic k) 1) k ≡ value_one (cyclotomic k)
+  x_cycle = power-root (cyclotomic k) k ∙ cyclotomic_period k entry
+
+  -- a value that x^g doesn't change, for a proper divisor g of k, is 0
+  fixed_is_nought : (g : ℕ) (u : Value (degree (cyclotomic k))) → g < k → is_proper_divisor k g ≡ true → value_product (cyclotomic k) (value_root (cyclotomic k) g) u ≡ u → u ≡ value_nought
+  unfolding powers_of_multiples
+  fixed_is_nought g u small divides fixed =
+      let m = cyclotomic k in
+      let R = remainder_ring m in
+      let M = times_x m in
+      let d = k / g in
+      let meaning = proper_divisor_means k g divides in
+      let positive : 0 < k = conductor_positive k entry in
+      let whole : g * d ≡ k = omega (arith, meaning.0, meaning.1) in
+      let ones = replicate d (pos 1) in
+      let vanishes : value_multiple (pos d) u ≡ value_nought =
+          sym (multiple-is m d u) ∙ sym (fixed_multiple m g d u fixed) ∙ sym (act-at_power M g ones u)
+              ∙ sym (product-of m (at_power g ones) u)
+              ∙ ap (λ v. value_product m v u) (cyclotomic_sums k entry g small divides)
+              ∙ nought_mul R u in
+      cancel_multiple d u (positive_quotient k g d positive whole) vanishes
+
+  pub x_sum_vanishes : (e : ℕ) → e % k ≢ 0 → sum_below (remainder_ring (cyclotomic k)) k (λ j. power (remainder_ring (cyclotomic k)) (value_root (cyclotomic k) 1) (j * e)) ≡ value_nought
+  x_sum_vanishes e apart =
+      let m = cyclotomic k in
+      let R = remainder_ring m in
+      let z = value_root m 1 in
+      let total = sum_below R k (λ j. power R z (j * e)) in
+      let positive : 0 < k = conductor_positive k entry in
+      let reached = some_divisor k entry (e % k) (mod-lt e positive) apart in
+      let a = reached.0 in
+      let g = (a * e) % k in
+      let divides : is_proper_divisor k g ≡ true =
+          ap (is_proper_divisor k) (sym (mul-mod_second a e k)) ∙ reached.1 in
+      let fixed : value_product m (value_root m g) total ≡ total =
+          ap (λ v. value_product m v total) (sym (power-root m g)) ∙ sum_is_fixed_modulo R z k e x_cycle a in
+      fixed_is_nought g total (mod-lt (a * e) positive) divides fixed
+
+-- x as a root of unity in the ring modulo Phi_K
+abbrev pub x_root : (k : ℕ) → is_conductor k ≡ true → RootOfUnity (remainder_ring (cyclotomic k)) k
+x_root k entry = record {
+  root = value_root (cyclotomic k) 1;
+  positive = conductor_positive k entry;
+  cycle = x_cycle k entry;
+  sum_vanishes = x_sum_vanishes k entry;
+  cancel = λ u e. cancel_multiple k u (conductor_positive k entry) (sym (multiple-is (cyclotomic k) k u) ∙ e)
+}
