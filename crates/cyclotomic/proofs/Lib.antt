@@ -6,3 +6,5 @@ pub mod Checks
 pub mod RowLaws
 pub mod Fields
 pub mod Orthogonality
+pub mod Sizes
+pub mod Bounds

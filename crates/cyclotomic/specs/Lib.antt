@@ -3,4 +3,5 @@ pub mod Division
 pub mod Cyclotomic
 pub mod Ring
 pub mod Conductors
+pub mod Fit
 pub mod Laws
