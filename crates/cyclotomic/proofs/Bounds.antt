@@ -15,7 +15,8 @@ use Rattle.cyclotomic.specs.Conductors.{conductors, is_conductor, phi_of}
 use Rattle.cyclotomic.specs.Ring.{Value, value_sum, value_nought, value_of, value_one, value_product, value_root}
 use Rattle.cyclotomic.specs.Fit.{size_of, value_size, value_fits, product_fits, sizes_overflow, greatest_magnitude}
 use Rattle.cyclotomic.specs.Laws.Action.{iterate}
-use Rattle.cyclotomic.specs.Laws.Values.{value_shift, remainder_ring}
+use Rattle.cyclotomic.specs.CyclotomicRing.{remainder_ring}
+use Rattle.cyclotomic.specs.Laws.Values.{value_shift}
 use Rattle.cyclotomic.proofs.Images.{root_steps, root-mod}
 use Rattle.cyclotomic.proofs.Tests.{and_left, and_right, at_each_conductor}
 use Rattle.cyclotomic.proofs.Rows.{power_rows}

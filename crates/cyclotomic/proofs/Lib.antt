@@ -8,3 +8,4 @@ pub mod Fields
 pub mod Orthogonality
 pub mod Sizes
 pub mod Bounds
+pub mod Inverses

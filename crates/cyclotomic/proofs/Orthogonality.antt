@@ -19,7 +19,8 @@ use Rattle.cyclotomic.specs.Conductors.{is_conductor}
 use Rattle.cyclotomic.specs.Ring.{Value, value_sum, value_multiple, value_nought, value_of, value_one, value_product, value_root}
 use Rattle.cyclotomic.specs.Laws.Action.{LinearMap, map_power, iterate, act, act-nil, act-cons, act-at_power}
 use Rattle.cyclotomic.specs.Laws.Polynomials.{scaled-cons, length-scaled}
-use Rattle.cyclotomic.specs.Laws.Values.{same_value, value_shift, times_x, product-of, remainder_ring}
+use Rattle.cyclotomic.specs.CyclotomicRing.{remainder_ring}
+use Rattle.cyclotomic.specs.Laws.Values.{same_value, value_shift, times_x, product-of}
 use Rattle.cyclotomic.proofs.Images.{root-zero, root-sum, product-root}
 use Rattle.cyclotomic.proofs.Checks.{is_proper_divisor, powers_of_multiples, conductor_positive, some_divisor}
 use Rattle.cyclotomic.proofs.Fields.{cyclotomic_period, cyclotomic_sums}

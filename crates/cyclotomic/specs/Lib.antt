@@ -5,3 +5,4 @@ pub mod Ring
 pub mod Conductors
 pub mod Fit
 pub mod Laws
+pub mod CyclotomicRing
