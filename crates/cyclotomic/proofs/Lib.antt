@@ -9,3 +9,4 @@ pub mod Orthogonality
 pub mod Sizes
 pub mod Bounds
 pub mod Inverses
+pub mod LongDivision
