@@ -7,7 +7,7 @@ use Rattle.std.specs.List.{list_all, list_any}
 use Rattle.scan.specs.First.{all_below}
 use Rattle.cyclotomic.specs.Polynomial.{zeros, plus, scaled, times, x_to, at_power, leading, lower}
 use Rattle.cyclotomic.specs.Division.{degree, cancelled, division, quotient, remainder}
-use Rattle.cyclotomic.specs.Cyclotomic.{divided_by_divisors, next_cyclotomic, cyclotomics, cyclotomic}
+use Rattle.cyclotomic.specs.Cyclotomic.{divided_by_divisors, next_cyclotomic, cyclotomics, cyclotomic, divisor_product, x_to_minus_one}
 use Rattle.cyclotomic.specs.Conductors.{conductors, reductions, reduction_of, is_conductor, phi_of}
 use Rattle.cyclotomic.proofs.Gcd.{euclid, euclid_of_prime}
 use Rattle.cyclotomic.proofs.Rows.{rows_from, power_rows, sum_of_rows}
@@ -98,6 +98,14 @@ all_ternary : list_all (λ (entry : ℕ × ℕ). list_all is_ternary (power_rows
 unfolding is_ternary power_rows rows_from plus scaled leading lower cancelled division remainder conductors reductions reduction_of
 all_ternary = refl
 
+-- ---- x^K - 1 is the product of the Phi_d over the divisors d of K
+is_factored : ℕ → Bool
+is_factored k = same_list (divisor_product k k) (x_to_minus_one k)
+
+all_factored : list_all (λ (entry : ℕ × ℕ). is_factored entry.0) conductors ≡ true
+unfolding is_factored same_list same_number plus scaled times leading lower x_to cancelled division quotient remainder divided_by_divisors next_cyclotomic cyclotomics cyclotomic divisor_product conductors
+all_factored = refl
+
 -- ---- K is positive
 is_positive : ℕ → Bool
 is_positive k = nat_lt 0 k
@@ -111,6 +119,10 @@ module _ (k : ℕ) (entry : is_conductor k ≡ true) where
   pub conductor_positive : 0 < k
   unfolding is_positive
   conductor_positive = ltb-true 0 k (at_each_conductor is_positive all_positive k entry)
+
+  pub factored : divisor_product k k ≡ x_to_minus_one k
+  unfolding is_factored
+  factored = same_list_means (divisor_product k k) (x_to_minus_one k) (at_each_conductor is_factored all_factored k entry)
 
   pub reduction_length : length (reduction_of k) ≡ phi_of k
   unfolding has_degree

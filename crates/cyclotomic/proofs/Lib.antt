@@ -4,3 +4,9 @@ pub mod Gcd
 pub mod Rows
 pub mod Checks
 pub mod RowLaws
+pub mod Fields
+pub mod Orthogonality
+pub mod Sizes
+pub mod Bounds
+pub mod Inverses
+pub mod LongDivision

@@ -1,6 +1,7 @@
 -- The table of conductors, and the polynomials by which values are reduced (Phi_K without its leading 1).
-use Rattle.std.specs.Prelude.{ℕ, ◌%◌, ◌==◌, ℤ, pos, negsuc, Bool, true, false, Option, List, [], ◌∷◌, find, map}
+use Rattle.std.specs.Prelude.{ℕ, ◌%◌, ◌==◌, ℤ, pos, negsuc, Bool, Option, List, [], ◌∷◌, find, map}
 use Rattle.std.specs.List.{list_any}
+use Rattle.std.specs.Option.{option_map_or}
 
 -- the conductors K, each with phi(K), the degree of its cyclotomic polynomial (this project's choice)
 unfoldable pub conductors : List (ℕ × ℕ)
@@ -15,11 +16,7 @@ is_conductor k = list_any (λ (entry : ℕ × ℕ). entry.0 == k) conductors
 
 -- phi(K) of an entry K
 unfoldable pub phi_of : ℕ → ℕ
-phi_of k = phi_in conductors
-  where
-  phi_in : List (ℕ × ℕ) → ℕ
-  phi_in [] = 0
-  phi_in (entry ∷ rest) = elim (entry.0 == k) [ true ↦ entry.1 | false ↦ phi_in rest ]
+phi_of k = option_map_or (λ (entry : ℕ × ℕ). entry.1) (find (λ (entry : ℕ × ℕ). entry.0 == k) conductors) 0
 
 -- for each conductor K the coefficients of Phi_K below its leading 1: x^phi(K) is minus that polynomial
 unfoldable pub reductions : List (ℕ × List ℤ)
@@ -54,11 +51,7 @@ reductions =
 
 -- the entry of K among the reductions
 unfoldable pub reduction_of : ℕ → List ℤ
-reduction_of k = reduction_in reductions
-  where
-  reduction_in : List (ℕ × List ℤ) → List ℤ
-  reduction_in [] = []
-  reduction_in (entry ∷ rest) = elim (entry.0 == k) [ true ↦ entry.1 | false ↦ reduction_in rest ]
+reduction_of k = option_map_or (λ (entry : ℕ × List ℤ). entry.1) (find (λ (entry : ℕ × List ℤ). entry.0 == k) reductions) []
 
 -- the least entry that is a multiple of m
 unfoldable pub least_conductor : ℕ → Option ℕ

@@ -1,7 +1,11 @@
 -- Cyclotomic polynomials (textbook): Phi_d is x^d - 1 divided exactly by the Phi of the proper divisors of d.
-use Rattle.std.specs.Prelude.{ℕ, zero, suc, ◌%◌, ◌==◌, ℤ, negsuc, Bool, true, false, List, [], ◌∷◌, ◌++◌, if◌then◌else◌}
-use Rattle.cyclotomic.specs.Polynomial.{plus, x_to}
+use Rattle.std.specs.Prelude.{ℕ, zero, suc, ◌%◌, ◌==◌, ℤ, pos, negsuc, Bool, true, false, List, [], ◌∷◌, ◌++◌}
+use Rattle.cyclotomic.specs.Polynomial.{plus, times, x_to}
 use Rattle.cyclotomic.specs.Division.{quotient}
+
+-- x^d - 1
+abbrev pub x_to_minus_one : ℕ → List ℤ
+x_to_minus_one d = plus (x_to d) (negsuc 0 ∷ [])
 
 -- p divided by each polynomial of a list whose number divides d; the numbers count up from k
 unfoldable pub divided_by_divisors : ℕ → ℕ → List ℤ → List (List ℤ) → List ℤ
@@ -11,7 +15,7 @@ divided_by_divisors d k p (m ∷ rest) =
 
 -- x^d - 1 divided by those of Phi_1, Phi_2, .. whose number divides d
 unfoldable pub next_cyclotomic : ℕ → List (List ℤ) → List ℤ
-next_cyclotomic d below = divided_by_divisors d 1 (plus (x_to d) (negsuc 0 ∷ [])) below
+next_cyclotomic d below = divided_by_divisors d 1 (x_to_minus_one d) below
 
 -- Phi_1 to Phi_n
 unfoldable pub cyclotomics : ℕ → List (List ℤ)
@@ -25,3 +29,9 @@ cyclotomics (suc n) = add_next (cyclotomics n)
 unfoldable pub cyclotomic : ℕ → List ℤ
 cyclotomic zero = []
 cyclotomic (suc n) = next_cyclotomic (suc n) (cyclotomics n)
+
+-- the product of the Phi_d over those d from 1 to n that divide k
+unfoldable pub divisor_product : ℕ → ℕ → List ℤ
+divisor_product k zero = pos 1 ∷ []
+divisor_product k (suc n) =
+    elim (k % suc n == 0) [ true ↦ times (cyclotomic (suc n)) (divisor_product k n) | false ↦ divisor_product k n ]

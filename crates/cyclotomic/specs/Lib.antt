@@ -3,4 +3,6 @@ pub mod Division
 pub mod Cyclotomic
 pub mod Ring
 pub mod Conductors
+pub mod Fit
 pub mod Laws
+pub mod CyclotomicRing

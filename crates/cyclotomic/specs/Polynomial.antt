@@ -1,6 +1,6 @@
 -- Polynomials over the whole numbers (textbook): a list of coefficients, by ascending powers of x.
 -- Zeros at the end of a list change nothing of the polynomial.
-use Rattle.std.specs.Prelude.{ℕ, ℤ, pos, ◌+ℤ◌, ◌*ℤ◌, List, [], ◌∷◌, ◌++◌, replicate}
+use Rattle.std.specs.Prelude.{◌≡◌, ℕ, zero, suc, ℤ, pos, ◌+ℤ◌, ◌*ℤ◌, List, [], ◌∷◌, ◌++◌, replicate}
 
 -- n coefficients 0
 abbrev pub zeros : ℕ → List ℤ
@@ -42,3 +42,13 @@ unfoldable pub lower : List ℤ → List ℤ
 lower [] = []
 lower (a ∷ []) = []
 lower (a ∷ b ∷ p) = a ∷ lower (b ∷ p)
+
+-- the coefficient of x^i
+unfoldable pub coefficient : List ℤ → ℕ → ℤ
+coefficient [] i = pos 0
+coefficient (a ∷ p) zero = a
+coefficient (a ∷ p) (suc i) = coefficient p i
+
+-- two lists stand for one polynomial
+abbrev pub IsSamePolynomial : List ℤ → List ℤ → Type 0
+IsSamePolynomial p q = (i : ℕ) → coefficient p i ≡ coefficient q i

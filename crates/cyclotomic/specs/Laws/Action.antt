@@ -170,7 +170,7 @@ module _ {V : Type 0} (M : LinearMap V) where
           ∙ simp (act-cons, M.map_add, M.map_scale, iterate-suc, M.add_assoc)
 
   -- ---- the remainder by a monic polynomial that sends v to nought acts on v as the polynomial
-  act-nothing : (n : ℕ) (v : V) → act M (zeros n) v ≡ M.nought
+  pub act-nothing : (n : ℕ) (v : V) → act M (zeros n) v ≡ M.nought
   act-nothing zero v = act-nil v
   act-nothing (suc n) v = act-shifted (zeros n) v ∙ ap M.map (act-nothing n v) ∙ map_nought
 

@@ -190,21 +190,3 @@ module _ (m : List ℤ) where
   value_of-times p q =
       value_of-act (times p q) ∙ act-times (times_x m) p q (value_one m)
           ∙ ap (act (times_x m) p) (sym (value_of-act q)) ∙ sym (product-of p (value_of m q))
-
--- the ring of values modulo m
-abbrev pub remainder_ring : (m : List ℤ) → CommRing (Value (degree m))
-remainder_ring m = record {
-  add = value_sum;
-  nought = value_nought;
-  neg = value_negative;
-  mul = value_product m;
-  one = value_one m;
-  add_assoc = sum_assoc m;
-  add_comm = sum_comm m;
-  add_nought = sum_nought m;
-  add_neg = sum_negative m;
-  mul_assoc = product_assoc m;
-  mul_comm = product_comm m;
-  mul_one = product_one m;
-  mul_add = product_sum m
-}
