@@ -2,3 +2,4 @@ pub mod ListedSums
 pub mod ThirdsLaws
 pub mod ValueTextLaws
 pub mod Fronts
+pub mod ValueReaderLaws

@@ -8,6 +8,7 @@ mod root;
 mod site;
 mod sum;
 mod unit_group;
+mod value_reader;
 mod value_text;
 
 pub use memory::Memory;
