@@ -3,3 +3,5 @@ pub mod ThirdsLaws
 pub mod ValueTextLaws
 pub mod Fronts
 pub mod ValueReaderLaws
+pub mod NumeralLaws
+pub mod TermLaws

@@ -95,15 +95,16 @@ fn with_sign(text: &[u8], magnitude: u128) -> i128
 }
 
 /// The term at the front; `later` says whether one stands before it.
-#[tactic(auto, unfolding(crate::specs::ValueReading::term_of))]
+#[tactic(auto, unfolding(crate::specs::ValueReading::term_of, crate::specs::ValueReading::term_after_sign))]
 fn read_term(text: &[u8], later: bool) -> Option<Term>
     ensures term { result ≡ term_of later text.now }
     ensures within { IfSome result (λ term. term.len ≤ length text.now) }
 {
     let sign = sign_len(text, later)?;
-    let digits = numeral_len(&text[sign..])?;
-    let (power, len) = power_of(&text[sign + digits..])?;
-    let magnitude = capped_number(&text[sign..sign + digits], TOO_GREAT);
+    let rest = &text[sign..];
+    let digits = numeral_len(rest)?;
+    let (power, len) = power_of(&rest[digits..])?;
+    let magnitude = capped_number(&rest[..digits], TOO_GREAT);
     Some(Term {
         coefficient: with_sign(text, magnitude),
         power,
