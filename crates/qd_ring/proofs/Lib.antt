@@ -5,3 +5,4 @@ pub mod Fronts
 pub mod ValueReaderLaws
 pub mod NumeralLaws
 pub mod TermLaws
+pub mod CoefficientLaws

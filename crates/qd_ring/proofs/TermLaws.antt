@@ -25,7 +25,7 @@ front_taken : (xs ys : List ℕ) → take (length xs) (xs ++ ys) ≡ xs
 front_taken [] ys = refl
 front_taken (x ∷ xs) ys = ap (λ zs. x ∷ zs) (front_taken xs ys)
 
-front_dropped : (xs ys : List ℕ) → drop (length xs) (xs ++ ys) ≡ ys
+pub front_dropped : (xs ys : List ℕ) → drop (length xs) (xs ++ ys) ≡ ys
 front_dropped [] ys = refl
 front_dropped (x ∷ xs) ys = front_dropped xs ys
 
