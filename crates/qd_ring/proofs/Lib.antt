@@ -6,3 +6,4 @@ pub mod ValueReaderLaws
 pub mod NumeralLaws
 pub mod TermLaws
 pub mod CoefficientLaws
+pub mod ReadingSteps

@@ -1,6 +1,6 @@
-ghost use Rattle.std.specs.Prelude.{◌≡◌, ◌≤◌, ◌+◌, ◌<◌, ◌^◌, min, pos, length, take, drop, replicate, None, Some, MatchOption, IfSome, ◌==◌, slice_index};
+ghost use Rattle.std.specs.Prelude.{◌≡◌, ◌≤◌, ◌+◌, ◌<◌, ◌^◌, min, pos, length, take, drop, replicate, None, Some, IfNone, IfSome, ◌==◌, ◌-◌, false, slice_index};
 ghost use Rattle.std.specs.List.{prefix_len};
-ghost use Rattle.qd_ring.specs.ValueReading.{is_digit, number, sign_len, numeral_len, power_of, term_of, signed};
+ghost use Rattle.qd_ring.specs.ValueReading.{is_digit, number, sign_len, numeral_len, power_of, term_of, signed, coefficients_of};
 
 /// The first magnitude that is too great for a coefficient.
 const TOO_GREAT: u128 = 1 << 120;
@@ -110,4 +110,29 @@ fn read_term(text: &[u8], later: bool) -> Option<Term>
         power,
         len: sign + digits + len,
     })
+}
+
+/// The coefficients of the terms that the text has, at least one, with powers below `phi`.
+fn read_coefficients(text: &[u8], phi: u32) -> Option<[i128; 42]>
+    requires { phi ≤ 42 }
+    ensures none { IfNone result (coefficients_of phi 0 false text.now ≡ None) }
+    ensures some { IfSome result (λ cs. coefficients_of phi 0 false text.now ≡ Some (take phi cs)) }
+    ensures count { IfSome result (λ cs. length cs ≡ 42) }
+    ensures zeros { IfSome result (λ cs. drop phi cs ≡ replicate (42 - phi) (pos 0)) }
+{
+    let mut coefficients = [0; 42];
+    let mut at: usize = 0;
+    let mut next: u32 = 0;
+    while at < text.len() {
+        let Some(term) = read_term(&text[at..], 0 < at) else {
+            return None;
+        };
+        if term.power < next || phi <= term.power {
+            return None;
+        }
+        coefficients[term.power as usize] = term.coefficient;
+        next = term.power + 1;
+        at += term.len;
+    }
+    if at == 0 { None } else { Some(coefficients) }
 }
