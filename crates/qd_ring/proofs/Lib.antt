@@ -7,3 +7,5 @@ pub mod NumeralLaws
 pub mod TermLaws
 pub mod CoefficientLaws
 pub mod ReadingSteps
+pub mod ValueLaws
+pub mod ValueOutcomeLaws

@@ -2,3 +2,4 @@ pub mod Fit
 pub mod Thirds
 pub mod ValueText
 pub mod ValueReading
+pub mod ValueOutcome

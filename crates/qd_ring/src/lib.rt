@@ -18,4 +18,5 @@ pub use root::Root;
 pub use site::{Part, Site};
 pub use sum::try_sum;
 pub use unit_group::UnitGroup;
+pub use value_reader::read_plain;
 pub use value_text::append_plain;

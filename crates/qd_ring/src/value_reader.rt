@@ -1,6 +1,10 @@
-ghost use Rattle.std.specs.Prelude.{◌≡◌, ◌≤◌, ◌+◌, ◌<◌, ◌^◌, min, pos, length, take, drop, replicate, None, Some, IfNone, IfSome, ◌==◌, ◌-◌, false, slice_index};
+ghost use Rattle.std.specs.Prelude.{ℤ, List, true, ◌↔◌, IfOk, ◌≡◌, ◌≤◌, ◌+◌, ◌<◌, ◌^◌, min, pos, length, take, drop, replicate, None, Some, IfNone, IfSome, ◌==◌, ◌-◌, false, slice_index};
 ghost use Rattle.std.specs.List.{prefix_len};
 ghost use Rattle.qd_ring.specs.ValueReading.{is_digit, number, sign_len, numeral_len, power_of, term_of, signed, coefficients_of};
+ghost use Rattle.qd_ring.specs.ValueText.{are_small, Spells};
+ghost use Rattle.qd_ring.specs.ValueOutcome.{IsRead};
+
+use crate::plain::{Plain, ValueFault};
 
 /// The first magnitude that is too great for a coefficient.
 const TOO_GREAT: u128 = 1 << 120;
@@ -135,4 +139,50 @@ fn read_coefficients(text: &[u8], phi: u32) -> Option<[i128; 42]>
         at += term.len;
     }
     if at == 0 { None } else { Some(coefficients) }
+}
+
+fn are_small(coefficients: &[i128]) -> bool
+    ensures { result ≡ are_small coefficients.now }
+{
+    coefficients
+        .iter()
+        .all(|coefficient| coefficient.unsigned_abs() < TOO_GREAT)
+}
+
+fn read_value(text: &[u8], phi: u32) -> Result<Plain, ValueFault>
+    requires { phi ≤ 42 }
+    ensures { IsRead text.now phi result }
+{
+    if text.len() == 1 && text[0] == b'0' {
+        return Ok(Plain {
+            coefficients: [0; 42],
+        });
+    }
+    let Some(coefficients) = read_coefficients(text, phi) else {
+        return Err(ValueFault::NotValue);
+    };
+    if are_small(&coefficients) {
+        Ok(Plain { coefficients })
+    } else {
+        Err(ValueFault::Wide)
+    }
+}
+
+/// The value whose text stands in `bytes` from `start` on and takes `len` bytes; its coefficients are 0 from that of
+/// `x^phi` on.
+///
+/// The text is exactly the one that is written of the value. `Wide` is the answer where it is so written of whole numbers
+/// of which one is over 2^120 - 1 in magnitude, and `NotValue` where it is written of none.
+pub fn read_plain(bytes: &Vec<u8>, start: u32, len: u32, phi: u32) -> Result<Plain, ValueFault>
+    requires within { start + len ≤ length bytes.now.items }
+    requires powers { phi ≤ 42 }
+    ensures spelled { IfOk result (λ p. Spells (take len (drop start bytes.now.items)) phi p.coefficients) }
+    ensures small { IfOk result (λ p. are_small p.coefficients ≡ true) }
+    ensures value { (cs : List ℤ) → Spells (take len (drop start bytes.now.items)) phi cs → are_small cs ≡ true → result ≡ Ok (record { coefficients = cs }) }
+    ensures wide { (result ≡ Err ValueFault.Wide) ↔ ((cs : List ℤ) × Spells (take len (drop start bytes.now.items)) phi cs × (are_small cs ≡ false)) }
+    ensures not_value { (result ≡ Err ValueFault.NotValue) ↔ ((cs : List ℤ) → Spells (take len (drop start bytes.now.items)) phi cs → ⊥) }
+{
+    let start = start as usize;
+    let end = start + len as usize;
+    read_value(&bytes[start..end], phi)
 }
