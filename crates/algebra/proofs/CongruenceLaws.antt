@@ -22,9 +22,11 @@ pub same_mod : (n a : ℕ) → Same n (a % n) a
 same_mod n a = record { same = mod-mod a n }
 
 pub same_add : {n a b c d : ℕ} → Same n a b → Same n c d → Same n (a + c) (b + d)
-same_add {n} {a} {b} {c} {d} h k = record { same =
-  sym (mod-add-mod a n c) ∙ ap (λ x. (x + c) % n) h.same ∙ mod-add-mod b n c
-  ∙ sym (add-mod-mod b c n) ∙ ap (λ x. (b + x) % n) k.same ∙ add-mod-mod b d n }
+same_add {n} {a} {b} {c} {d} h k = record {
+  same =
+      sym (mod-add-mod a n c) ∙ ap (λ x. (x + c) % n) h.same ∙ mod-add-mod b n c
+      ∙ sym (add-mod-mod b c n) ∙ ap (λ x. (b + x) % n) k.same ∙ add-mod-mod b d n;
+}
 
 pub same_add_left : {n a b : ℕ} (c : ℕ) → Same n a b → Same n (c + a) (c + b)
 same_add_left {n} c h = same_add (same_refl n c) h

@@ -36,7 +36,7 @@ module _ {A G : Type 0} (R : CommRing A) (F : Finite G) (P : Group G) {n : ℕ} 
       let inner : P.op (P.inv z) (P.op z u) ≡ u = inv_op_op P z u in
       let outer : P.op u v ≡ P.op (P.inv z) x = op_inv_op P u (P.op (P.inv z) x) in
       rw (from, inner) (reorder (B.root (t z u)) (B.root (t (P.op z u) v)) (B.root (t z (P.op (P.inv z) x))) (B.root (t u v)) (p z) (r u) (s v)
-        (root_law c z u v ∙ ap (λ k. R.mul (B.root (t z k)) (B.root (t u v))) outer))
+      (root_law c z u v ∙ ap (λ k. R.mul (B.root (t z k)) (B.root (t u v))) outer))
 
   pub convolution_assoc : IsTwoCocycle P n t → (p r s : G → A) (x : G) →
       twisted_convolution R F P B t (twisted_convolution R F P B t p r) s x ≡ twisted_convolution R F P B t p (twisted_convolution R F P B t r s) x
@@ -51,6 +51,6 @@ module _ {A G : Type 0} (R : CommRing A) (F : Finite G) (P : Group G) {n : ℕ} 
       left
       ∙ total_exchange R F F (λ y z. term z y)
       ∙ total_ext R F (λ z. total R F (λ y. term z y)) (λ z. total R F (λ u. goal_term z u))
-          (λ z. sym (total_reindex R F F (λ u. P.op z u) (λ y. P.op (P.inv z) y) (inv_op_op P z) (op_inv_op P z) (term z))
-            ∙ total_ext R F (λ u. term z (P.op z u)) (goal_term z) (λ u. same_term c p r s x z u))
+      (λ z. sym (total_reindex R F F (λ u. P.op z u) (λ y. P.op (P.inv z) y) (inv_op_op P z) (op_inv_op P z) (term z))
+      ∙ total_ext R F (λ u. term z (P.op z u)) (goal_term z) (λ u. same_term c p r s x z u))
       ∙ right

@@ -149,14 +149,15 @@ module _ {A : Type 0} (R : CommRing A) where
   pub sum_pick : (n a : ℕ) (f : ℕ → A) → a < n → sum_below R n (λ i. pick R (eqb i a) (f i)) ≡ f a
   sum_pick zero a f h = absurd (omega arith)
   sum_pick (suc n) a f h = elim (cases_eq n a) [
-    inl e ↦
-      let none : sum_below R n (λ i. pick R (eqb i a) (f i)) ≡ R.nought = sum_pick_none n a f (omega arith) in
-      let here : pick R (eqb n a) (f n) ≡ f a = pick_of R (eqb n a) (f n) (eq-eqb n a e) ∙ ap f e in
-      simp (sum_suc, none, here, nought_add)
+    | inl e ↦
+        let none : sum_below R n (λ i. pick R (eqb i a) (f i)) ≡ R.nought = sum_pick_none n a f (omega arith) in
+        let here : pick R (eqb n a) (f n) ≡ f a = pick_of R (eqb n a) (f n) (eq-eqb n a e) ∙ ap f e in
+        simp (sum_suc, none, here, nought_add)
     | inr d ↦
-      let below : sum_below R n (λ i. pick R (eqb i a) (f i)) ≡ f a = sum_pick n a f (omega arith) in
-      let off : pick R (eqb n a) (f n) ≡ R.nought = pick_off R (eqb n a) (f n) (ne_eqb n a d) in
-      simp (sum_suc, below, off, R.add_nought) ]
+        let below : sum_below R n (λ i. pick R (eqb i a) (f i)) ≡ f a = sum_pick n a f (omega arith) in
+        let off : pick R (eqb n a) (f n) ≡ R.nought = pick_off R (eqb n a) (f n) (ne_eqb n a d) in
+        simp (sum_suc, below, off, R.add_nought)
+  ]
 
   -- a sum along a map of the numbers below n that has an inverse there
   pub sum_reindex : (n : ℕ) (p q : ℕ → ℕ) → ((i : ℕ) → i < n → p i < n) → ((i : ℕ) → i < n → q i < n) → ((i : ℕ) → i < n → q (p i) ≡ i) → ((i : ℕ) → i < n → p (q i) ≡ i) → (f : ℕ → A) → sum_below R n (λ i. f (p i)) ≡ sum_below R n f
@@ -164,11 +165,11 @@ module _ {A : Type 0} (R : CommRing A) where
       sum_ext n (λ i. f (p i)) (λ i. sum_below R n (λ j. pick R (eqb j (p i)) (f j))) (λ i h. sym (sum_pick n (p i) f (p_below i h)))
       ∙ sum_exchange n n (λ i j. pick R (eqb j (p i)) (f j))
       ∙ sum_ext n (λ j. sum_below R n (λ i. pick R (eqb j (p i)) (f j))) f
-          (λ j h. sum_ext n (λ i. pick R (eqb j (p i)) (f j)) (λ i. pick R (eqb i (q j)) (f j))
-              (λ i k. pick_same R (eqb j (p i)) (eqb i (q j)) (f j)
-                (λ e. eq-eqb i (q j) (sym (qp i k) ∙ ap q (sym (eqb-true j (p i) e))))
-                (λ e. eq-eqb j (p i) (sym (pq j h) ∙ ap p (sym (eqb-true i (q j) e)))))
-            ∙ sum_pick n (q j) (λ i. f j) (q_below j h))
+      (λ j h. sum_ext n (λ i. pick R (eqb j (p i)) (f j)) (λ i. pick R (eqb i (q j)) (f j))
+      (λ i k. pick_same R (eqb j (p i)) (eqb i (q j)) (f j)
+      (λ e. eq-eqb i (q j) (sym (qp i k) ∙ ap q (sym (eqb-true j (p i) e))))
+      (λ e. eq-eqb j (p i) (sym (pq j h) ∙ ap p (sym (eqb-true i (q j) e)))))
+      ∙ sum_pick n (q j) (λ i. f j) (q_below j h))
 
   -- a sum in two parts
   pub sum_split : (n m : ℕ) (f : ℕ → A) → sum_below R (n + m) f ≡ R.add (sum_below R n f) (sum_below R m (λ i. f (n + i)))

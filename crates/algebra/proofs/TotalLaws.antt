@@ -99,8 +99,8 @@ module _ {A G H : Type 0} (R : CommRing A) (F : Finite G) (E : Finite H) where
       total_ext R F (λ x. f (p x)) (λ x. total R E (λ y. pick R (equals E y (p x)) (f y))) (λ x. sym (total_pick R E (p x) f))
       ∙ total_exchange (λ x y. pick R (equals E y (p x)) (f y))
       ∙ total_ext R E (λ y. total R F (λ x. pick R (equals E y (p x)) (f y))) f
-          (λ y. total_ext R F (λ x. pick R (equals E y (p x)) (f y)) (λ x. pick R (equals F x (q y)) (f y)) (λ x. ap (λ b. pick R b (f y)) (equals_along F E p q qp pq x y))
-            ∙ total_pick R F (q y) (λ x. f y))
+      (λ y. total_ext R F (λ x. pick R (equals E y (p x)) (f y)) (λ x. pick R (equals F x (q y)) (f y)) (λ x. ap (λ b. pick R b (f y)) (equals_along F E p q qp pq x y))
+      ∙ total_pick R F (q y) (λ x. f y))
 
   -- a total grouped by the values of a map
   pub total_fibres : (p : G → H) (f : G → A) → total R F f ≡ total R E (λ y. total R F (λ x. pick R (equals E y (p x)) (f x)))

@@ -7,3 +7,4 @@ pub mod Congruences
 pub mod Roots
 pub mod Convolution
 pub mod Residues
+pub mod Theorems

@@ -1,1 +1,4 @@
 pub mod Fit
+pub mod Thirds
+pub mod ValueText
+pub mod ValueReading

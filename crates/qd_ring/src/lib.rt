@@ -1,8 +1,21 @@
 //! The coefficients of the calculator: roots of unity, cyclotomic values and the rings that they form, with exact rules of fit.
 #![tactic(auto)]
 
+mod memory;
+mod plain;
 mod ring;
+mod root;
+mod site;
+mod sum;
 mod unit_group;
+mod value_reader;
+mod value_text;
 
+pub use memory::Memory;
+pub use plain::{Plain, ValueFault};
 pub use ring::Ring;
+pub use root::Root;
+pub use site::{Part, Site};
+pub use sum::try_sum;
 pub use unit_group::UnitGroup;
+pub use value_text::append_plain;

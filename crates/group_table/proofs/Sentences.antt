@@ -1,0 +1,96 @@
+-- The laws of a group as plain sentences, from a table that breaks none.
+use Rattle.std.proofs.Common.{◌≡◌, ℕ, ◌<◌, Bool, true, false, nat_eq, nat_lt, cond, Option, Some, None, refl, sym, ap, ◌∙◌, arith}
+use Rattle.std.specs.Prelude.{is_some, unwrap_or}
+use Rattle.std.proofs.lemmas.Bool.{ltb-true, eqb-true}
+use Rattle.scan.proofs.Places.{or_none, and_true, first_none-at, first_some, all_below-at}
+use Rattle.group_table.specs.Group.{Table, product, entry_fault, is_identity, two_sided_identity, identity_of, identity_fault, inverse_of, inverse_fault, associates, associativity_fault, group_fault, IsGroup}
+use Rattle.group_table.specs.declared.fault.GroupFault.TheVariants.{Entry, NoIdentity, NoInverse, NotAssociative}
+
+-- a test that finds nothing wrong
+passes : {A : Type 0} (b : Bool) (x : A) → cond b None (Some x) ≡ None → b ≡ true
+passes true x e = refl
+passes false x e = absurd cc
+
+-- a value that a test let through
+let_through : {A : Type 0} (b : Bool) (x y : A) → cond b (Some x) None ≡ Some y → (b ≡ true) × (x ≡ y)
+let_through true x y e = (refl, cc)
+let_through false x y e = absurd cc
+
+pub product_below : (t : Table) (g h : ℕ) → entry_fault t ≡ None → g < t.order → h < t.order → product t g h < t.order
+product_below t g h lawful g_below h_below =
+    ltb-true _ _ (passes (nat_lt (product t g h) t.order) (Entry g h) (first_none-at t.order h _ (first_none-at t.order g _ lawful g_below) h_below))
+
+-- no law is broken exactly where each one of the four holds
+pub record Laws (t : Table) : Type 0 where
+  pub entries : entry_fault t ≡ None
+  pub has_identity : identity_fault t ≡ None
+  pub inverses : inverse_fault t ≡ None
+  pub associativity : associativity_fault t ≡ None
+
+pub laws_of : (t : Table) → group_fault t ≡ None → Laws t
+unfolding group_fault
+laws_of t lawful =
+    let a = or_none (entry_fault t) _ lawful in
+    let b = or_none (identity_fault t) _ a.1 in
+    let c = or_none (inverse_fault t) _ b.1 in
+    record { entries = a.0; has_identity = b.0; inverses = c.0; associativity = c.1 }
+
+some_of : {A : Type 0} (o : Option A) → is_some o ≡ true → (x : A) × (o ≡ Some x)
+some_of (Some x) e = (x, refl)
+some_of None e = absurd cc
+
+pub record IsIdentity (t : Table) (e : ℕ) : Type 0 where
+  pub below : e < t.order
+  pub left : (h : ℕ) → h < t.order → product t e h ≡ h
+  pub right : (h : ℕ) → h < t.order → product t h e ≡ h
+
+identity_at : (t : Table) (e : ℕ) → two_sided_identity t ≡ Some e → IsIdentity t e
+identity_at t e found =
+    let f = first_some t.order _ e found in
+    let here = let_through (is_identity t f.place) f.place e f.here in
+    let all : is_identity t e ≡ true = sym (ap (is_identity t) here.1) ∙ here.0 in
+    record {
+      below = let b : f.place < t.order = f.below in let same : f.place ≡ e = here.1 in omega arith;
+      left = λ h below. eqb-true _ _ (and_true _ _ (all_below-at t.order h _ all below)).0;
+      right = λ h below. eqb-true _ _ (and_true _ _ (all_below-at t.order h _ all below)).1;
+    }
+
+-- a group has an identity
+pub identity_is : (t : Table) → identity_fault t ≡ None → IsIdentity t (identity_of t)
+identity_is t lawful =
+    let found = some_of (two_sided_identity t) (passes (is_some (two_sided_identity t)) NoIdentity lawful) in
+    let same : identity_of t ≡ found.0 = ap (λ o. unwrap_or o 0) found.1 in
+    rw same (identity_at t found.0 found.1)
+
+-- every element has a right inverse
+pub record IsInverse (t : Table) (g h : ℕ) : Type 0 where
+  pub below : h < t.order
+  pub right : product t g h ≡ identity_of t
+
+pub inverse_at : (t : Table) (g h : ℕ) → inverse_of t g ≡ Some h → IsInverse t g h
+inverse_at t g h found =
+    let f = first_some t.order _ h found in
+    let here = let_through (nat_eq (product t g f.place) (identity_of t)) f.place h f.here in
+    let b : f.place < t.order = f.below in
+    let same : f.place ≡ h = here.1 in
+    record { below = omega arith; right = rw (← same) (eqb-true _ _ here.0) }
+
+pub has_inverse : (t : Table) (g : ℕ) → inverse_fault t ≡ None → g < t.order → (h : ℕ) × (inverse_of t g ≡ Some h)
+has_inverse t g lawful below = some_of (inverse_of t g) (passes (is_some (inverse_of t g)) (NoInverse g) (first_none-at t.order g _ lawful below))
+
+pub associative : (t : Table) (g h k : ℕ) → associativity_fault t ≡ None → g < t.order → h < t.order → k < t.order
+    → product t (product t g h) k ≡ product t g (product t h k)
+associative t g h k lawful g_below h_below k_below =
+    eqb-true _ _
+    (passes (associates t g h k) (NotAssociative g h k) (first_none-at t.order k _ (first_none-at t.order h _ (first_none-at t.order g _ lawful g_below) h_below) k_below))
+
+-- the sentences of a group
+
+pub laws : (t : Table) → IsGroup t → Laws t
+laws t group = laws_of t group.lawful
+
+pub identity_below : (t : Table) → IsGroup t → identity_of t < t.order
+identity_below t group = (identity_is t (laws t group).has_identity).below
+
+pub closed : (t : Table) (g h : ℕ) → IsGroup t → g < t.order → h < t.order → product t g h < t.order
+closed t g h group g_below h_below = product_below t g h (laws t group).entries g_below h_below

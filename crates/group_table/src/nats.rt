@@ -1,0 +1,78 @@
+ghost use Rattle.std.specs.Prelude.{◌≡◌, ℕ, ◌+◌, ◌^◌, ◌<◌, List, [], ◌∷◌, ◌++◌, ◌↔◌, IsTrue, length, slice_index, vec_len, IfOk, OnOk, OnErr};
+
+use crate::memory::Memory;
+use std::alloc::Global;
+use std::marker::Model;
+
+/// A list of natural numbers below 2^32, fewer than 2^32 of them.
+#[derive(Debug, Drop)]
+pub struct Nats {
+    items: Vec<u32>,
+}
+
+impl Model for Nats {
+    ghost Value = { List ℕ };
+
+    ghost view = { λ numbers. numbers.items.items };
+
+    ghost invariant = { λ numbers. vec_len numbers.items < 2 ^ 32 };
+}
+
+impl Nats {
+    /// The empty list, which takes no memory yet.
+    pub fn empty(alloc: Global) -> Nats
+        ensures empty { result ≡ [] }
+    {
+        Nats {
+            items: Vec::new(alloc),
+        }
+    }
+
+    /// Adds a number at the end. After `Memory` the list is as before.
+    pub fn push(&mut self, v: u32) -> Result<(), Memory>
+        requires room { length self.old + 1 < 2 ^ 32 }
+        ensures added { OnOk result (self.new ≡ self.old ++ v ∷ []) }
+        ensures unchanged { OnErr result (self.new ≡ self.old) }
+    {
+        self.items.push(v)?;
+        Ok(())
+    }
+
+    /// How many numbers there are.
+    pub fn len(&self) -> u32
+        ensures count { result ≡ length self.now }
+        ensures small { length self.now < 2 ^ 32 }
+    {
+        self.items.len() as u32
+    }
+
+    /// Whether there is no number.
+    pub fn is_empty(&self) -> bool
+        ensures empty { IsTrue result ↔ (self.now ≡ []) }
+    {
+        self.items.is_empty()
+    }
+
+    /// The number at place `i`, counted from 0.
+    pub fn at(&self, i: u32) -> u32
+        requires in_range { i < length self.now }
+        ensures number { result ≡ slice_index self.now i }
+    {
+        self.items[i as usize]
+    }
+
+    /// The same numbers in a list of their own.
+    pub fn copy(&self, alloc: Global) -> Result<Nats, Memory>
+        ensures same { IfOk result (λ numbers. numbers ≡ self.now) }
+    {
+        let items = Vec::from_slice(alloc, &self.items)?;
+        Ok(Nats { items })
+    }
+
+    /// The numbers, in order.
+    pub fn as_slice(&self) -> &[u32]
+        ensures numbers { result.now ≡ self.now }
+    {
+        self.items.as_slice()
+    }
+}

@@ -1,0 +1,125 @@
+-- Sums over the numbers below a bound, and what a double count gives.
+use Rattle.std.proofs.Common.{◌≡◌, ◌≢◌, ℕ, zero, suc, ◌+◌, ◌*◌, ◌<◌, ◌≤◌, Bool, true, false, cond, eqb, ◌⊎◌, refl, sym, ap, ap₂, ◌∙◌, inl, inr, arith, eq-eqb, ne_eqb, eqb-true, eq-or-lt_of_le}
+
+-- f 0 + .. + f (n - 1)
+unfoldable pub total : ℕ → (ℕ → ℕ) → ℕ
+total zero f = 0
+total (suc n) f = total n f + f n
+
+-- v where the test holds, and otherwise 0
+abbrev pub pick : Bool → ℕ → ℕ
+pick b v = cond b v 0
+
+-- terms that agree have one sum
+pub total_same : (n : ℕ) (f g : ℕ → ℕ) → ((i : ℕ) → i < n → f i ≡ g i) → total n f ≡ total n g
+unfolding total
+total_same zero f g h = refl
+total_same (suc n) f g h = ap₂ (λ a b. a + b) (total_same n f g (λ i p. h i (omega arith))) (h n (omega arith))
+
+-- a sum of noughts
+pub total_nought : (n : ℕ) (f : ℕ → ℕ) → ((i : ℕ) → i < n → f i ≡ 0) → total n f ≡ 0
+unfolding total
+total_nought zero f h = refl
+total_nought (suc n) f h =
+    let before : total n f ≡ 0 = total_nought n f (λ i p. h i (omega arith)) in
+    let here : f n ≡ 0 = h n (omega arith) in
+    omega arith
+
+-- the sum of sums, term by term
+pub total_add : (n : ℕ) (f g : ℕ → ℕ) → total n (λ i. f i + g i) ≡ total n f + total n g
+unfolding total
+total_add zero f g = refl
+total_add (suc n) f g = let before = total_add n f g in omega arith
+
+-- n terms c
+pub total_constant : (n c : ℕ) → total n (λ i. c) ≡ n * c
+unfolding total
+total_constant zero c = omega arith
+total_constant (suc n) c = let before = total_constant n c in omega arith
+
+-- terms that are at most others have a sum that is at most theirs
+pub total_le : (n : ℕ) (f g : ℕ → ℕ) → ((i : ℕ) → i < n → f i ≤ g i) → total n f ≤ total n g
+unfolding total
+total_le zero f g h = omega arith
+total_le (suc n) f g h =
+    let before : total n f ≤ total n g = total_le n f g (λ i p. h i (omega arith)) in
+    let here : f n ≤ g n = h n (omega arith) in
+    omega arith
+
+-- the rows' sums and the columns' sums add up to the same
+pub total_exchange : (n m : ℕ) (f : ℕ → ℕ → ℕ) → total n (λ i. total m (f i)) ≡ total m (λ j. total n (λ i. f i j))
+unfolding total
+total_exchange zero m f = sym (total_nought m (λ j. 0) (λ i p. refl))
+total_exchange (suc n) m f =
+    ap (λ a. a + total m (f n)) (total_exchange n m f) ∙ sym (total_add m (λ j. total n (λ i. f i j)) (f n))
+
+-- a sum with one term that counts
+pub total_at : (n : ℕ) (f : ℕ → ℕ) (p : ℕ) → p < n → ((i : ℕ) → i < n → i ≢ p → f i ≡ 0) → total n f ≡ f p
+unfolding total
+total_at zero f p lt others = absurd (omega arith)
+total_at (suc n) f p lt others =
+    elim (place p n lt) [
+      | inl same ↦
+          let before : total n f ≡ 0 = total_nought n f (λ i q. others i (omega arith) (λ e. omega arith)) in
+          let here : f p ≡ f n = ap f same in
+          omega arith
+      | inr less ↦
+          let before : total n f ≡ f p = total_at n f p less (λ i q d. others i (omega arith) d) in
+          let here : f n ≡ 0 = others n (omega arith) (λ e. omega arith) in
+          omega arith
+    ]
+  where
+    place : (p n : ℕ) → p < suc n → (p ≡ n) ⊎ (p < n)
+    place p n lt = eq-or-lt_of_le (omega arith)
+
+-- the value is picked where the numbers agree
+pick_same : (x y v : ℕ) → x ≡ y → pick (eqb x y) v ≡ v
+pick_same x y v e = rw (eq-eqb x y e)
+
+-- and 0 where they differ
+pick_other : (x y v : ℕ) → x ≢ y → pick (eqb x y) v ≡ 0
+pick_other x y v d = rw (ne_eqb x y d)
+
+-- the one y below n that is p: the value there
+pub total_pick : (n : ℕ) (f : ℕ → ℕ) (p : ℕ) → p < n → total n (λ y. pick (eqb y p) (f y)) ≡ f p
+total_pick n f p lt =
+    total_at n (λ y. pick (eqb y p) (f y)) p lt (λ y q d. pick_other y p (f y) d) ∙ pick_same p p (f p) refl
+
+-- a permutation of the places leaves the sum
+pub total_permuted : (n : ℕ) (f to from : ℕ → ℕ) → ((x : ℕ) → x < n → to x < n) → ((x : ℕ) → x < n → from x < n) →
+    ((x : ℕ) → x < n → from (to x) ≡ x) → ((x : ℕ) → x < n → to (from x) ≡ x) → total n (λ x. f (to x)) ≡ total n f
+total_permuted n f to from to_below from_below back forth =
+    total_same n (λ x. f (to x)) (λ x. total n (λ y. pick (eqb y (to x)) (f y))) (λ x p. sym (total_pick n f (to x) (to_below x p)))
+    ∙ total_exchange n n (λ x y. pick (eqb y (to x)) (f y))
+    ∙ total_same n (λ y. total n (λ x. pick (eqb y (to x)) (f y))) f column
+  where
+    column : (y : ℕ) → y < n → total n (λ x. pick (eqb y (to x)) (f y)) ≡ f y
+    column y p =
+        total_at n (λ x. pick (eqb y (to x)) (f y)) (from y) (from_below y p)
+        (λ x q d. pick_other y (to x) (f y) (λ e. d (sym (back x q) ∙ ap from (sym e))))
+        ∙ pick_same y (to (from y)) (f y) (sym (forth y p))
+
+-- one more place, where the places before it count at most 1, and nothing if it counts
+one_more : {before : ℕ} (b : Bool) → (b ≡ true → before ≡ 0) → before ≤ 1 → before + pick b 1 ≤ 1
+one_more true none most = rw (none refl) (omega arith)
+one_more false none most = omega arith
+
+-- at most one of m numbers that differ is y
+at_most_one : (m : ℕ) (f : ℕ → ℕ) (y : ℕ) → ((i j : ℕ) → i < j → j < m → f i ≢ f j) → total m (λ i. pick (eqb y (f i)) 1) ≤ 1
+unfolding total
+at_most_one zero f y differ = omega arith
+at_most_one (suc m) f y differ =
+    one_more (eqb y (f m))
+    (λ e. total_nought m (λ i. pick (eqb y (f i)) 1)
+    (λ i p. pick_other y (f i) 1 (λ s. differ i m p (omega arith) (sym s ∙ eqb-true y (f m) e))))
+    (at_most_one m f y (λ i j p q. differ i j p (omega arith)))
+
+-- of n + 1 numbers below n two are the same
+pub pigeonhole : (n : ℕ) (f : ℕ → ℕ) → ((i : ℕ) → i < suc n → f i < n) → ((i j : ℕ) → i < j → j < suc n → f i ≢ f j) → ⊥
+pigeonhole n f below differ =
+    let rows : suc n * 1 ≡ total (suc n) (λ i. total n (λ y. pick (eqb y (f i)) 1)) =
+    sym (total_constant (suc n) 1)
+    ∙ total_same (suc n) (λ i. 1) (λ i. total n (λ y. pick (eqb y (f i)) 1)) (λ i p. sym (total_pick n (λ y. 1) (f i) (below i p))) in
+    let columns : total n (λ y. total (suc n) (λ i. pick (eqb y (f i)) 1)) ≤ total n (λ y. 1) =
+    total_le n (λ y. total (suc n) (λ i. pick (eqb y (f i)) 1)) (λ y. 1) (λ y p. at_most_one (suc n) f y differ) in
+    omega (arith, rows, columns, total_exchange (suc n) n (λ i y. pick (eqb y (f i)) 1), total_constant n 1)

@@ -1,0 +1,4 @@
+pub mod Group
+pub mod Order
+pub mod Laws
+pub mod Instances

@@ -1,0 +1,5 @@
+pub mod ListedSums
+pub mod ThirdsLaws
+pub mod ValueTextLaws
+pub mod Fronts
+pub mod ValueReaderLaws
