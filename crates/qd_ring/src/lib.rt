@@ -1,6 +1,7 @@
 //! The coefficients of the calculator: roots of unity, cyclotomic values and the rings that they form, with exact rules of fit.
 #![tactic(auto)]
 
+mod cyc;
 mod memory;
 mod plain;
 mod ring;
@@ -11,6 +12,7 @@ mod unit_group;
 mod value_reader;
 mod value_text;
 
+pub use cyc::Cyc;
 pub use memory::Memory;
 pub use plain::{Plain, ValueFault};
 pub use ring::Ring;
