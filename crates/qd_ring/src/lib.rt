@@ -4,6 +4,7 @@
 mod cyc;
 mod memory;
 mod plain;
+mod reduction;
 mod ring;
 mod root;
 mod site;
