@@ -3,3 +3,4 @@ pub mod ThirdsLaws
 pub mod ValueTextLaws
 pub mod Fronts
 pub mod ValueReaderLaws
+pub mod BufferLaws

@@ -2,6 +2,7 @@
 #![tactic(auto)]
 
 mod cyc;
+mod cyc_buffer;
 mod memory;
 mod plain;
 mod reduction;
