@@ -4,7 +4,8 @@ use Rattle.std.proofs.Math.Numerals.{add-one}
 use Rattle.std.specs.Prelude.{ℤ, pos, negsuc, ◌+ℤ◌, ◌*ℤ◌, neg_ℤ, nat_abs}
 use Rattle.std.proofs.lemmas.Int.{to_z-of_z}
 use mathlib.Core.Path.{ap₂}
-use mir.Syntax.{w128}
+use Rattle.std.proofs.Math.Nat.{mul-le-mul_left}
+use mir.Syntax.{w8, w128}
 use mir.Val.{SFits, to_z, of_z}
 use Rattle.cyclotomic.specs.Polynomial.{zeros, plus, scaled, leading, lower}
 use Rattle.cyclotomic.specs.Division.{degree, cancelled}
@@ -15,7 +16,7 @@ use Rattle.cyclotomic.specs.Laws.Polynomials.{lower-last}
 use Rattle.cyclotomic.specs.Laws.Action.{LinearMap, iterate, act, act-nil, act-cons, add_left_comm, iterate-zero, iterate-suc, map_nought, nought_add}
 use Rattle.cyclotomic.specs.Laws.Values.{value_shift, times_x, value_of-act}
 use Rattle.cyclotomic.proofs.Images.{root_steps}
-use Rattle.cyclotomic.proofs.Sizes.{total_of, magnitude-sum, magnitude-product}
+use Rattle.cyclotomic.proofs.Sizes.{total_of, magnitude-sum, magnitude-product, magnitude-negative}
 
 -- ---- numbers of 128 bits
 pub fits_128 : (z : ℤ) → nat_abs z < 2 ^ 127 → SFits w128 z
@@ -149,3 +150,52 @@ unfolding cancelled
 mixed-cancels low w e =
     mixed-all (leading w) low w e
         ∙ ap (λ z. plus (lower w) (scaled (neg_ℤ (leading w)) z) ++ (leading w ∷ [])) (sym (lower-last low (pos 1)))
+
+pub mixed-nothing : (low w : List ℤ) → mixed (pos 0) low w ≡ w
+unfolding mixed
+mixed-nothing [] w = refl
+mixed-nothing (l ∷ low) [] = refl
+mixed-nothing (l ∷ low) (a ∷ w) = ap₂ (λ x y. x ∷ y) (ap (λ z. a +ℤ z) (Z.zero_times l) ∙ Z.plus_zero a) (mixed-nothing low w)
+
+pub read_8 : (z : ℤ) → nat_abs z ≤ 1 → to_z w8 (of_z w8 z) ≡ z
+read_8 (pos n) h = to_z-of_z w8 (pos n) (record { sfits = omega arith })
+read_8 (negsuc n) h = to_z-of_z w8 (negsuc n) (record { sfits = omega arith })
+
+-- ---- the loop of a step, over plain lists
+module _ (low w : List ℤ) (size : length w ≡ suc (length low)) (ternary : size_of low ≤ 1) (small : size_of w < 2 ^ 126) where
+  pub cancel_last : to_z w128 (of_z w128 (get_or w (length low) (pos 0))) ≡ leading w
+  cancel_last = read_128 (get_or w (length low) (pos 0)) (omega (arith, size_at w (length low))) ∙ last_is_leading w (length low) size
+
+  pub leading_small : nat_abs (leading w) < 2 ^ 126
+  leading_small =
+      subst (λ z. nat_abs z < 2 ^ 126) (last_is_leading w (length low) size) (omega (arith, size_at w (length low)))
+
+  pub cancel_read : (lw : List ℤ) (j : ℕ) → lw ≡ mixed (leading w) (take j low) w → to_z w128 (of_z w128 (get_or lw j (pos 0))) ≡ get_or w j (pos 0)
+  cancel_read lw j e =
+      ap (λ z. to_z w128 (of_z w128 (get_or z j (pos 0)))) e
+          ∙ ap (λ z. to_z w128 (of_z w128 z)) (mixed-at (leading w) low w j)
+          ∙ read_128 (get_or w j (pos 0)) (omega (arith, size_at w j))
+
+  pub cancel_sign : (j : ℕ) → to_z w8 (of_z w8 (get_or low j (pos 0))) ≡ get_or low j (pos 0)
+  cancel_sign j = read_8 (get_or low j (pos 0)) (omega (arith, size_at low j))
+
+  pub cancel_step : (lw : List ℤ) (j : ℕ) (r : ℤ) → j < length low → lw ≡ mixed (leading w) (take j low) w → r ≡ to_z w128 (of_z w128 (get_or lw j (pos 0))) +ℤ (neg_ℤ (to_z w128 (of_z w128 (get_or w (length low) (pos 0)))) *ℤ to_z w8 (of_z w8 (get_or low j (pos 0)))) → set lw j (to_z w128 (of_z w128 r)) ≡ mixed (leading w) (take (j + 1) low) w
+  cancel_step lw j r h e is =
+      let a = get_or w j (pos 0) in
+      let s = get_or low j (pos 0) in
+      let product = neg_ℤ (leading w) *ℤ s in
+      let r_is : r ≡ a +ℤ product =
+          is ∙ ap₂ (λ x y. x +ℤ y) (cancel_read lw j e) (ap₂ (λ x y. neg_ℤ x *ℤ y) cancel_last (cancel_sign j)) in
+      let factor : nat_abs (leading w) * nat_abs s ≤ nat_abs (leading w) * 1 =
+          mul-le-mul_left (nat_abs (leading w)) (omega (arith, size_at low j)) in
+      let bound : nat_abs (a +ℤ product) < 2 ^ 127 =
+          omega (arith, size_at w j, leading_small, factor, magnitude-sum a product, magnitude-product (neg_ℤ (leading w)) s, ap (λ n. n * nat_abs s) (magnitude-negative (leading w))) in
+      ap (λ z. set lw j (to_z w128 (of_z w128 z))) r_is
+          ∙ ap (set lw j) (read_128 (a +ℤ product) bound)
+          ∙ ap (λ z. set z j (a +ℤ product)) e
+          ∙ mixed-step (leading w) low w j h
+          ∙ ap (λ n. mixed (leading w) (take n low) w) (sym (add-one j))
+
+  pub cancel_nothing : to_z w128 (of_z w128 (get_or w (length low) (pos 0))) ≡ pos 0 → w ≡ cancelled (low ++ (pos 1 ∷ [])) w ++ (leading w ∷ [])
+  cancel_nothing e =
+      sym (mixed-nothing low w) ∙ ap (λ z. mixed z low w) (sym e ∙ cancel_last) ∙ mixed-cancels low w size
