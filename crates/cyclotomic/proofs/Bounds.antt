@@ -1,7 +1,7 @@
 -- Reduced powers of x have size 1, and a product of two values fits where the product of their sizes is below 2^108.
-use Rattle.std.proofs.Common.{◌≡◌, ℕ, zero, suc, ◌+◌, ◌-◌, ◌*◌, ◌^◌, ◌%◌, ◌≤◌, ◌<◌, max, List, [], ◌∷◌, ◌++◌, length, get_or, Bool, true, false, refl, sym, ap, ◌∙◌, subst, arith, sum_by, IsPermutation}
+use Rattle.std.proofs.Common.{◌≡◌, ℕ, zero, suc, ◌*◌, ◌^◌, ◌%◌, ◌≤◌, ◌<◌, List, [], ◌∷◌, ◌++◌, length, get_or, Bool, true, false, refl, sym, ap, ◌∙◌, subst, arith, sum_by, IsPermutation}
 use Rattle.std.proofs.Math.Nat.{mod-lt, mul-le-mul, mul-le-mul_right}
-use Rattle.std.specs.Prelude.{ℤ, pos, negsuc, nat_abs, nat_lt, nat_le, ◌&&◌, ◌||◌, Option, Some, None, is_some, is_none, All}
+use Rattle.std.specs.Prelude.{ℤ, pos, negsuc, nat_lt, ◌||◌, Option, Some, None, is_some, is_none, All}
 use Rattle.std.specs.List.{list_all, list_any}
 use Rattle.std.proofs.lemmas.List.Sums.{sum_by-append, sum_by-cons}
 use Rattle.std.proofs.lemmas.List.Elements.{All-cons}
@@ -9,11 +9,10 @@ use Rattle.std.proofs.lemmas.List.Sorted.{sum_by-IsPermutation}
 use borrow.Author.Tests.{ltb-true, ltb-false, le-leb, le-ltb}
 use Rattle.algebra.specs.Sums.{sum_list}
 use Rattle.algebra.proofs.SumLaws.{sum_list_nil, sum_list_cons}
-use Rattle.cyclotomic.specs.Polynomial.{zeros, plus}
 use Rattle.cyclotomic.specs.Division.{degree}
 use Rattle.cyclotomic.specs.Cyclotomic.{cyclotomic}
 use Rattle.cyclotomic.specs.Conductors.{conductors, is_conductor, phi_of}
-use Rattle.cyclotomic.specs.Ring.{Value, value_sum, value_nought, value_of, value_one, value_product, value_root}
+use Rattle.cyclotomic.specs.Ring.{Value, value_sum, value_nought, value_one, value_product, value_root}
 use Rattle.cyclotomic.specs.Fit.{size_of, value_size, value_fits, product_fits, sizes_overflow, formed_terms, listed_sum_overflows, greatest_magnitude}
 use Rattle.cyclotomic.specs.Laws.Action.{iterate}
 use Rattle.cyclotomic.specs.CyclotomicRing.{remainder_ring}
@@ -62,14 +61,14 @@ module _ (k : ℕ) (entry : is_conductor k ≡ true) where
   small_row i h =
       from_listed k entry (λ m. is_ternary (value_root m i).coefficients ≡ true)
       (ap is_ternary (sym (power_row-at (listed k) k i h))
-          ∙ all_at is_ternary (power_rows (listed k) k) [] (listed_ternary k entry) refl i)
+      ∙ all_at is_ternary (power_rows (listed k) k) [] (listed_ternary k entry) refl i)
 
   -- each reduced power of x has coefficients -1, 0 and 1
   pub root_ternary : (v : ℕ) → is_ternary (value_root (cyclotomic k) v).coefficients ≡ true
   root_ternary v =
       let positive : 0 < k = conductor_positive k entry in
       ap (λ u. is_ternary u.coefficients) (root-mod (cyclotomic k) k (cyclotomic_period k entry) positive v)
-          ∙ small_row (v % k) (mod-lt v positive)
+      ∙ small_row (v % k) (mod-lt v positive)
 
   pub root_size : (v : ℕ) → value_size (value_root (cyclotomic k) v) ≤ 1
   root_size v = ternary-size (value_root (cyclotomic k) v).coefficients (root_ternary v)

@@ -1,17 +1,17 @@
 -- Facts about each entry of the table of conductors, by tests that are computed.
-use Rattle.std.proofs.Common.{◌≡◌, ℕ, zero, suc, ◌+◌, ◌*◌, ◌%◌, ◌/◌, ◌≤◌, ◌<◌, List, [], ◌∷◌, ◌++◌, length, get_or, Bool, true, false, refl, sym, ap, ◌∙◌, arith, take, replicate, eqb-true, eq-eqb, ◌≢◌}
+use Rattle.std.proofs.Common.{◌≡◌, ℕ, zero, suc, ◌*◌, ◌%◌, ◌/◌, ◌<◌, List, [], ◌∷◌, ◌++◌, length, Bool, true, false, refl, sym, ap, ◌∙◌, replicate, eqb-true, eq-eqb, ◌≢◌}
 use Rattle.std.proofs.lemmas.Bool.{ne_eqb}
 use borrow.Author.Tests.{ltb-true}
-use Rattle.std.specs.Prelude.{ℤ, pos, negsuc, ◌==◌, ◌&&◌, ◌||◌, nat_lt}
-use Rattle.std.specs.List.{list_all, list_any}
+use Rattle.std.specs.Prelude.{ℤ, pos, negsuc, ◌==◌, nat_lt}
+use Rattle.std.specs.List.{list_all}
 use Rattle.scan.specs.First.{all_below}
 use Rattle.cyclotomic.specs.Polynomial.{zeros, plus, scaled, times, x_to, at_power, leading, lower}
-use Rattle.cyclotomic.specs.Division.{degree, cancelled, division, quotient, remainder}
+use Rattle.cyclotomic.specs.Division.{cancelled, division, quotient, remainder}
 use Rattle.cyclotomic.specs.Cyclotomic.{divided_by_divisors, next_cyclotomic, cyclotomics, cyclotomic, divisor_product, x_to_minus_one}
 use Rattle.cyclotomic.specs.Conductors.{conductors, reductions, reduction_of, is_conductor, phi_of}
-use Rattle.cyclotomic.proofs.Gcd.{euclid, euclid_of_prime}
+use Rattle.cyclotomic.proofs.Gcd.{euclid}
 use Rattle.cyclotomic.proofs.Rows.{rows_from, power_rows, sum_of_rows}
-use Rattle.cyclotomic.proofs.Tests.{same_number, same_list, same_list_means, at_each_conductor, any_below, any_below_means, all_below_means, and_left, and_right}
+use Rattle.cyclotomic.proofs.Tests.{same_number, same_list, same_list_means, at_each_conductor, any_below, any_below_means, all_below_means}
 
 -- ---- the listed reductions are Phi_K
 is_listed : ℕ → Bool
@@ -56,8 +56,9 @@ powers_of_multiples k g = at_power g (replicate (k / g) (pos 1))
 sum_vanishes_at : ℕ → ℕ → Bool
 sum_vanishes_at k g =
     elim (is_proper_divisor k g) [
-        true ↦ same_list (remainder (listed k) (powers_of_multiples k g)) (zeros (length (reduction_of k)))
-      | false ↦ true ]
+      | true ↦ same_list (remainder (listed k) (powers_of_multiples k g)) (zeros (length (reduction_of k)))
+      | false ↦ true
+    ]
 
 all_sums : list_all (λ (entry : ℕ × ℕ). all_below entry.0 (sum_vanishes_at entry.0)) conductors ≡ true
 unfolding sum_vanishes_at is_proper_divisor powers_of_multiples all_below same_list same_number plus scaled leading lower at_power cancelled division remainder conductors reductions reduction_of
@@ -75,8 +76,9 @@ all_reach = refl
 divides_at : ℕ → List (List ℤ) → ℕ → Bool
 divides_at k rows t =
     elim (euclid k k t == 1) [
-        true ↦ same_list (sum_of_rows (length (reduction_of k)) rows k t 0 (listed k)) (zeros (length (reduction_of k)))
-      | false ↦ true ]
+      | true ↦ same_list (sum_of_rows (length (reduction_of k)) rows k t 0 (listed k)) (zeros (length (reduction_of k)))
+      | false ↦ true
+    ]
 
 divides_at_all : ℕ → List (List ℤ) → Bool
 divides_at_all k rows = all_below k (divides_at k rows)
@@ -136,7 +138,7 @@ module _ (k : ℕ) (entry : is_conductor k ≡ true) where
   unfolding sum_vanishes_at
   listed_sums g small divides =
       let passes : sum_vanishes_at k g ≡ true =
-          all_below_means k (sum_vanishes_at k) (at_each_conductor (λ j. all_below j (sum_vanishes_at j)) all_sums k entry) g small in
+      all_below_means k (sum_vanishes_at k) (at_each_conductor (λ j. all_below j (sum_vanishes_at j)) all_sums k entry) g small in
       let sum = same_list (remainder (listed k) (powers_of_multiples k g)) (zeros (length (reduction_of k))) in
       same_list_means (remainder (listed k) (powers_of_multiples k g)) (zeros (length (reduction_of k)))
       (sym (ap (λ (b : Bool). elim b [ true ↦ sum | false ↦ true ]) divides) ∙ passes)
@@ -145,7 +147,7 @@ module _ (k : ℕ) (entry : is_conductor k ≡ true) where
   unfolding reaches_divisor
   some_divisor e small apart =
       let passes : reaches_divisor k e ≡ true =
-          all_below_means k (reaches_divisor k) (at_each_conductor (λ j. all_below j (reaches_divisor j)) all_reach k entry) e small in
+      all_below_means k (reaches_divisor k) (at_each_conductor (λ j. all_below j (reaches_divisor j)) all_reach k entry) e small in
       let found = any_below k (λ a. is_proper_divisor k ((a * e) % k)) in
       any_below_means k (λ a. is_proper_divisor k ((a * e) % k))
       (sym (ap (λ (b : Bool). elim b [ true ↦ true | false ↦ found ]) (ne_eqb e 0 apart)) ∙ passes)
@@ -156,8 +158,8 @@ module _ (k : ℕ) (entry : is_conductor k ≡ true) where
       let rows = power_rows (listed k) k in
       let n = length (reduction_of k) in
       let passes : divides_at k rows t ≡ true =
-          all_below_means k (divides_at k rows)
-          (at_each_conductor (λ j. divides_at_all j (power_rows (listed j) j)) all_divide k entry) t small in
+      all_below_means k (divides_at k rows)
+      (at_each_conductor (λ j. divides_at_all j (power_rows (listed j) j)) all_divide k entry) t small in
       let zero = same_list (sum_of_rows n rows k t 0 (listed k)) (zeros n) in
       same_list_means (sum_of_rows n rows k t 0 (listed k)) (zeros n)
       (sym (ap (λ (b : Bool). elim b [ true ↦ zero | false ↦ true ]) (eq-eqb (euclid k k t) 1 prime)) ∙ passes)

@@ -1,22 +1,21 @@
 -- The facts about Phi_K at each conductor K: it is monic of degree phi(K), x^K is 1, and it divides itself at x^t for t prime to K.
-use Rattle.std.proofs.Common.{◌≡◌, ℕ, zero, suc, ◌+◌, ◌*◌, ◌%◌, ◌/◌, ◌≤◌, ◌<◌, ◌≢◌, List, [], ◌∷◌, ◌++◌, length, Bool, true, false, refl, sym, ap, ◌∙◌, subst, arith, replicate}
-use Rattle.std.proofs.Math.Nat.{mod-lt, mod-eq_of_lt}
-use Rattle.std.specs.Prelude.{ℤ, pos, negsuc}
-use Rattle.std.specs.List.{list_all}
+use Rattle.std.proofs.Common.{◌≡◌, ℕ, ◌%◌, ◌<◌, List, length, true, sym, ap, ◌∙◌, subst}
+use Rattle.std.proofs.Math.Nat.{mod-lt}
+use Rattle.std.specs.Prelude.{ℤ, pos}
 use Rattle.std.specs.Int.{IsGcd}
-use Rattle.cyclotomic.specs.Polynomial.{zeros, plus, scaled, x_to, at_power, leading, lower}
-use Rattle.cyclotomic.specs.Division.{degree, cancelled, remainder}
+use Rattle.cyclotomic.specs.Polynomial.{zeros, at_power, leading, lower}
+use Rattle.cyclotomic.specs.Division.{degree}
 use Rattle.cyclotomic.specs.Cyclotomic.{cyclotomic}
 use Rattle.cyclotomic.specs.Conductors.{reduction_of, is_conductor, phi_of}
-use Rattle.cyclotomic.specs.Ring.{Value, value_sum, value_multiple, value_nought, value_of, value_one, value_root}
-use Rattle.cyclotomic.specs.Laws.Action.{LinearMap, map_power, iterate, iterate-zero, act, act-at_power, act-same_map}
+use Rattle.cyclotomic.specs.Ring.{Value, value_nought, value_of, value_one, value_root}
+use Rattle.cyclotomic.specs.Laws.Action.{map_power, iterate-zero, act, act-at_power, act-same_map}
 use Rattle.cyclotomic.specs.Laws.Polynomials.{leading-last, lower-last}
-use Rattle.cyclotomic.specs.Laws.Values.{same_value, value_shift, times_x, value_of-act}
-use Rattle.cyclotomic.proofs.Images.{root_steps, steps-mod}
+use Rattle.cyclotomic.specs.Laws.Values.{same_value, times_x, value_of-act}
+use Rattle.cyclotomic.proofs.Images.{steps-mod}
 use Rattle.cyclotomic.proofs.Rows.{power_rows, sum_of_rows}
 use Rattle.cyclotomic.proofs.RowLaws.{sum_of_rows-act}
-use Rattle.cyclotomic.proofs.Gcd.{euclid, euclid_of_prime}
-use Rattle.cyclotomic.proofs.Checks.{listed, cyclotomic_is, conductor_positive, reduction_length, listed_period, listed_sums, listed_divides, listed_ternary, is_proper_divisor, powers_of_multiples, is_ternary}
+use Rattle.cyclotomic.proofs.Gcd.{euclid_of_prime}
+use Rattle.cyclotomic.proofs.Checks.{listed, cyclotomic_is, conductor_positive, reduction_length, listed_period, listed_sums, listed_divides, is_proper_divisor, powers_of_multiples}
 
 pub degree_listed : (k : ℕ) → degree (listed k) ≡ length (reduction_of k)
 degree_listed k = ap length (lower-last (reduction_of k) (pos 1))
@@ -64,16 +63,16 @@ module _ (k : ℕ) (entry : is_conductor k ≡ true) where
       let positive : 0 < k = conductor_positive k entry in
       let s = t % k in
       let zero_rows : sum_of_rows (degree m) (power_rows m k) k s 0 m ≡ zeros (length (reduction_of k)) =
-          ap (λ n. sum_of_rows n (power_rows m k) k s 0 m) (degree_listed k)
-              ∙ listed_divides k entry s (mod-lt t positive) (euclid_of_prime t k positive prime) in
+      ap (λ n. sum_of_rows n (power_rows m k) k s 0 m) (degree_listed k)
+      ∙ listed_divides k entry s (mod-lt t positive) (euclid_of_prime t k positive prime) in
       let at_s : act (map_power M s) m (value_one m) ≡ value_nought =
-          value_zeros (act (map_power M s) m (value_one m)) (length (reduction_of k))
-          (ap (λ v. v.coefficients) (sym (iterate-zero M (act (map_power M s) m (value_one m))))
-              ∙ sym (sum_of_rows-act m k positive periodic s m 0 positive) ∙ zero_rows)
-          (sym (degree_listed k)) in
+      value_zeros (act (map_power M s) m (value_one m)) (length (reduction_of k))
+      (ap (λ v. v.coefficients) (sym (iterate-zero M (act (map_power M s) m (value_one m))))
+      ∙ sym (sum_of_rows-act m k positive periodic s m 0 positive) ∙ zero_rows)
+      (sym (degree_listed k)) in
       value_of-act m (at_power t m) ∙ act-at_power M t m (value_one m)
-          ∙ act-same_map M t s (steps-mod m k periodic positive t) m (value_one m)
-          ∙ at_s
+      ∙ act-same_map M t s (steps-mod m k periodic positive t) m (value_one m)
+      ∙ at_s
 
   pub cyclotomic_divides : (t : ℕ) → IsGcd t k 1 → value_of (cyclotomic k) (at_power t (cyclotomic k)) ≡ value_nought
   cyclotomic_divides t prime =

@@ -1,20 +1,20 @@
 -- Images under numbers prime to K respect the ring, and images under numbers inverse to each other undo each other.
-use Rattle.std.proofs.Common.{◌≡◌, ℕ, zero, suc, ◌+◌, ◌-◌, ◌*◌, ◌%◌, ◌≤◌, ◌<◌, List, [], ◌∷◌, Bool, true, false, refl, sym, ap, ◌∙◌, subst, arith, eqb-true, ◌==◌}
+use Rattle.std.proofs.Common.{◌≡◌, ℕ, zero, suc, ◌+◌, ◌-◌, ◌*◌, ◌%◌, ◌<◌, List, Bool, true, refl, sym, ap, ◌∙◌, subst, arith, eqb-true, ◌==◌}
 use Prim.Native.Nat.{◌∣◌}
 use Rattle.std.proofs.Math.Nat.{dvd-mod_iff, one-dvd, dvd-mul_right, dvd-mul_right_of_dvd}
 use Rattle.std.proofs.Math.Numerals.{sub-one}
 use Rattle.std.proofs.lemmas.Nat.Gcd.{mod-eq-zero_of_dvd}
-use Rattle.std.specs.Prelude.{ℤ, pos}
+use Rattle.std.specs.Prelude.{ℤ}
 use Rattle.std.specs.List.{list_all}
 use Rattle.std.specs.Int.{IsGcd}
 use Rattle.cyclotomic.specs.Cyclotomic.{cyclotomic}
 use Rattle.cyclotomic.specs.Conductors.{conductors, is_conductor}
-use Rattle.cyclotomic.specs.Ring.{value_sum, value_product, value_one, value_root, value_image, value_of}
+use Rattle.cyclotomic.specs.Ring.{value_product, value_one, value_of}
 use Rattle.cyclotomic.specs.Polynomial.{at_power}
 use Rattle.cyclotomic.specs.CyclotomicRing.{CyclotomicValue, root, galois_image, conjugate}
 use Rattle.cyclotomic.proofs.Tests.{at_each_conductor}
 use Rattle.cyclotomic.proofs.Checks.{conductor_positive}
-use Rattle.cyclotomic.proofs.Images.{root-sum, root-mod, root-zero, image-mod, image-sum, image-one_power, image-of, image-one, image-product, image-root, image-image}
+use Rattle.cyclotomic.proofs.Images.{root-sum, root-mod, root-zero, image-mod, image-one_power, image-of, image-one, image-product, image-root, image-image}
 use Rattle.cyclotomic.proofs.Fields.{cyclotomic_monic, cyclotomic_period, cyclotomic_divides}
 
 whole_multiple : (k v : ℕ) → 0 < k → v + (k - 1) * v ≡ k * v
@@ -23,9 +23,11 @@ whole_multiple (suc k) v h = omega (arith, ap (λ j. j * v) (sub-one (suc k)))
 
 -- a number with an inverse modulo k is prime to k
 pub prime_of_inverse : (k t s : ℕ) → (t * s) % k ≡ 1 → IsGcd t k 1
-prime_of_inverse k t s e =
-    (one-dvd t, one-dvd k,
-        λ d divides_t divides_k. subst (λ j. d ∣ j) e ((dvd-mod_iff d divides_k).1 (dvd-mul_right_of_dvd d divides_t s)))
+prime_of_inverse k t s e = (
+  one-dvd t,
+  one-dvd k,
+  λ d divides_t divides_k. subst (λ j. d ∣ j) e ((dvd-mod_iff d divides_k).1 (dvd-mul_right_of_dvd d divides_t s)),
+)
 
 -- ---- K - 1 is its own inverse
 is_own_inverse : ℕ → Bool
@@ -66,7 +68,7 @@ module _ (k : ℕ) (entry : is_conductor k ≡ true) where
   pub galois_inverse : (t s : ℕ) → (t * s) % k ≡ 1 → (u : CyclotomicValue k) → galois_image k t (galois_image k s u) ≡ u
   galois_inverse t s e u =
       galois_galois t (prime_of_inverse k t s e) s u ∙ galois_modulo (t * s) u
-          ∙ ap (λ j. galois_image k j u) e ∙ image-one_power (cyclotomic k) u
+      ∙ ap (λ j. galois_image k j u) e ∙ image-one_power (cyclotomic k) u
 
   pub conjugate_conjugate : (u : CyclotomicValue k) → conjugate k (conjugate k u) ≡ u
   conjugate_conjugate = galois_inverse (k - 1) (k - 1) conjugation_inverse
@@ -79,9 +81,9 @@ module _ (k : ℕ) (entry : is_conductor k ≡ true) where
   root_conjugate v =
       let m = cyclotomic k in
       let whole : (v + (k - 1) * v) % k ≡ 0 =
-          ap (λ j. j % k) (whole_multiple k v (conductor_positive k entry)) ∙ mod-eq-zero_of_dvd k (dvd-mul_right k v) in
+      ap (λ j. j % k) (whole_multiple k v (conductor_positive k entry)) ∙ mod-eq-zero_of_dvd k (dvd-mul_right k v) in
       ap (value_product m (root k v)) (galois_root (k - 1) conjugation_prime v)
-          ∙ sym (root-sum m v ((k - 1) * v))
-          ∙ root_modulo (v + (k - 1) * v)
-          ∙ ap (root k) whole
-          ∙ root-zero m
+      ∙ sym (root-sum m v ((k - 1) * v))
+      ∙ root_modulo (v + (k - 1) * v)
+      ∙ ap (root k) whole
+      ∙ root-zero m

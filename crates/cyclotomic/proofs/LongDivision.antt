@@ -1,11 +1,11 @@
 -- Long division is division: a polynomial is the quotient times the divisor, plus the remainder.
-use Rattle.std.proofs.Common.{◌≡◌, ℕ, zero, suc, List, [], ◌∷◌, length, refl, sym, ap, ◌∙◌, arith}
-use Rattle.std.specs.Prelude.{ℤ, pos, negsuc, ◌+ℤ◌, ◌*ℤ◌, neg_ℤ}
+use Rattle.std.proofs.Common.{◌≡◌, ℕ, zero, suc, List, [], ◌∷◌, length, refl, sym, ap, ◌∙◌}
+use Rattle.std.specs.Prelude.{ℤ, pos, ◌+ℤ◌, ◌*ℤ◌, neg_ℤ}
 use mathlib.Core.Path.{ap₂, fun_ext}
 use Rattle.cyclotomic.specs.Polynomial.{plus, times, scaled, leading, lower, coefficient, IsSamePolynomial}
 use Rattle.cyclotomic.specs.Division.{cancelled, division, remainder}
 use Rattle.cyclotomic.specs.Laws.Integers as Z
-use Rattle.cyclotomic.specs.Laws.Polynomials.{leading-nil, length-lower, plus-nil}
+use Rattle.cyclotomic.specs.Laws.Polynomials.{leading-nil, length-lower}
 use Rattle.cyclotomic.specs.Laws.Remainders.{zero_not_one, length-remainder}
 use Rattle.cyclotomic.specs.Laws.Action.{LinearMap, iterate, act, act-nil, act-cons, act-plus, act-scaled, act-times, act-leading, act-nothing, nought_add, add_left_comm}
 
@@ -39,7 +39,7 @@ sequences = record {
   scale_one = λ f. fun_ext (λ i. Z.one_times (f i));
   scale_zero = λ f. fun_ext (λ i. Z.zero_times (f i));
   map_add = λ f g. fun_ext (shifted-add f g);
-  map_scale = λ c f. fun_ext (shifted-scale c f)
+  map_scale = λ c f. fun_ext (shifted-scale c f);
 }
 
 -- the sequence of the polynomial 1
@@ -65,21 +65,21 @@ module _ {V : Type 0} (M : LinearMap V) where
       let top = iterate M.map (length m) v in
       let rest = act M (lower (a ∷ r)) v in
       let divisor : act M (b ∷ m) v ≡ M.add low top =
-          act-leading M b m v ∙ ap (λ z. M.add low (M.scale z top)) monic ∙ ap (M.add low) (M.scale_one top) in
+      act-leading M b m v ∙ ap (λ z. M.add low (M.scale z top)) monic ∙ ap (M.add low) (M.scale_one top) in
       let opposite : M.add (M.scale c low) (M.scale (neg_ℤ c) low) ≡ M.nought =
-          sym (M.scale_sum c (neg_ℤ c) low) ∙ ap (λ z. M.scale z low) (Z.plus_neg c) ∙ M.scale_zero low in
+      sym (M.scale_sum c (neg_ℤ c) low) ∙ ap (λ z. M.scale z low) (Z.plus_neg c) ∙ M.scale_zero low in
       let left : act M (a ∷ r) v ≡ M.add rest (M.scale c top) =
-          act-leading M a r v ∙ ap (λ n. M.add rest (M.scale c (iterate M.map n v))) same in
+      act-leading M a r v ∙ ap (λ n. M.add rest (M.scale c (iterate M.map n v))) same in
       let right : M.add (M.scale c (act M (b ∷ m) v)) (act M (plus (lower (a ∷ r)) (scaled (neg_ℤ c) (lower (b ∷ m)))) v) ≡ M.add (M.add (M.scale c low) (M.scale c top)) (M.add rest (M.scale (neg_ℤ c) low)) =
-          ap₂ M.add (ap (M.scale c) divisor ∙ M.scale_add c low top)
-              (act-plus M (lower (a ∷ r)) (scaled (neg_ℤ c) (lower (b ∷ m))) v ∙ ap (M.add rest) (act-scaled M (neg_ℤ c) (lower (b ∷ m)) v)) in
+      ap₂ M.add (ap (M.scale c) divisor ∙ M.scale_add c low top)
+      (act-plus M (lower (a ∷ r)) (scaled (neg_ℤ c) (lower (b ∷ m))) v ∙ ap (M.add rest) (act-scaled M (neg_ℤ c) (lower (b ∷ m)) v)) in
       left ∙ sym (right ∙ regroup (M.scale c low) (M.scale c top) rest (M.scale (neg_ℤ c) low) opposite)
     where
-    regroup : (l t r n : V) → M.add l n ≡ M.nought → M.add (M.add l t) (M.add r n) ≡ M.add r t
-    regroup l t r n e =
-        M.add_assoc l t (M.add r n) ∙ ap (M.add l) (ap (M.add t) (M.add_comm r n) ∙ add_left_comm M t n r)
-            ∙ sym (M.add_assoc l n (M.add t r)) ∙ ap (λ z. M.add z (M.add t r)) e
-            ∙ nought_add M (M.add t r) ∙ M.add_comm t r
+      regroup : (l t r n : V) → M.add l n ≡ M.nought → M.add (M.add l t) (M.add r n) ≡ M.add r t
+      regroup l t r n e =
+          M.add_assoc l t (M.add r n) ∙ ap (M.add l) (ap (M.add t) (M.add_comm r n) ∙ add_left_comm M t n r)
+          ∙ sym (M.add_assoc l n (M.add t r)) ∙ ap (λ z. M.add z (M.add t r)) e
+          ∙ nought_add M (M.add t r) ∙ M.add_comm t r
 
   pub division-sum : (m p : List ℤ) (v : V) → leading m ≡ pos 1 → act M p v ≡ M.add (act M (division m p).0 (act M m v)) (act M (division m p).1 v)
   unfolding division remainder
@@ -95,14 +95,14 @@ module _ {V : Type 0} (M : LinearMap V) where
       let quotient_part = M.map (act M q w) in
       let cut = act M (cancelled (b ∷ m) (a ∷ r)) v in
       let left : act M (a ∷ p) v ≡ M.add quotient_part (act M (a ∷ r) v) =
-          act-cons M a p v ∙ ap (λ z. M.add (M.scale a v) (M.map z)) (division-sum (b ∷ m) p v monic)
-              ∙ ap (M.add (M.scale a v)) (M.map_add (act M q w) (act M r v))
-              ∙ add_left_comm M (M.scale a v) quotient_part (M.map (act M r v))
-              ∙ ap (M.add quotient_part) (sym (act-cons M a r v)) in
+      act-cons M a p v ∙ ap (λ z. M.add (M.scale a v) (M.map z)) (division-sum (b ∷ m) p v monic)
+      ∙ ap (M.add (M.scale a v)) (M.map_add (act M q w) (act M r v))
+      ∙ add_left_comm M (M.scale a v) quotient_part (M.map (act M r v))
+      ∙ ap (M.add quotient_part) (sym (act-cons M a r v)) in
       left ∙ ap (M.add quotient_part) (cancelled-sum b a m r v monic same)
-          ∙ add_left_comm M quotient_part (M.scale c w) cut
-          ∙ sym (M.add_assoc (M.scale c w) quotient_part cut)
-          ∙ ap (λ z. M.add z cut) (sym (act-cons M c q w))
+      ∙ add_left_comm M quotient_part (M.scale c w) cut
+      ∙ sym (M.add_assoc (M.scale c w) quotient_part cut)
+      ∙ ap (λ z. M.add z cut) (sym (act-cons M c q w))
 
 -- p = q m + r
 pub long_division : (m p : List ℤ) → leading m ≡ pos 1 → IsSamePolynomial p (plus (times (division m p).0 m) (division m p).1)
@@ -110,6 +110,6 @@ long_division m p monic i =
     let q = (division m p).0 in
     let r = (division m p).1 in
     let both : act sequences p first_place ≡ act sequences (plus (times q m) r) first_place =
-        division-sum sequences m p first_place monic
-            ∙ sym (act-plus sequences (times q m) r first_place ∙ ap (λ f. sequences.add f (act sequences r first_place)) (act-times sequences q m first_place)) in
+    division-sum sequences m p first_place monic
+    ∙ sym (act-plus sequences (times q m) r first_place ∙ ap (λ f. sequences.add f (act sequences r first_place)) (act-times sequences q m first_place)) in
     coefficient-act p i ∙ ap (λ f. f i) both ∙ sym (coefficient-act (plus (times q m) r) i)

@@ -1,24 +1,23 @@
 -- x is a root of unity of order K modulo Phi_K: whole multiples cancel, and sums of its powers over all exponents vanish.
-use Rattle.std.proofs.Common.{◌≡◌, ℕ, zero, suc, ◌+◌, ◌*◌, ◌%◌, ◌/◌, ◌≤◌, ◌<◌, ◌≢◌, List, [], ◌∷◌, ◌++◌, length, Bool, true, false, refl, sym, ap, ◌∙◌, subst, arith, replicate, eqb-true, zero-add, add-zero, inl, inr}
-use Rattle.std.proofs.Math.Nat.{mod-lt, mod-eq_of_lt, zero-mul, suc-mul, add_comm}
+use Rattle.std.proofs.Common.{◌≡◌, ℕ, zero, suc, ◌+◌, ◌*◌, ◌%◌, ◌/◌, ◌<◌, ◌≢◌, List, [], ◌∷◌, length, Bool, true, false, refl, sym, ap, ◌∙◌, arith, replicate, eqb-true, inl, inr}
+use Rattle.std.proofs.Math.Nat.{mod-lt, zero-mul, suc-mul}
 use Rattle.std.proofs.lemmas.Bool.{cases_eq, ne_eqb, eq-eqb}
 use Rattle.std.proofs.lemmas.Nat.{mul-mod_second}
-use Rattle.std.specs.Prelude.{ℤ, pos, negsuc, ◌+ℤ◌, ◌*ℤ◌, ◌==◌}
+use Rattle.std.specs.Prelude.{ℤ, pos, ◌+ℤ◌, ◌*ℤ◌, ◌==◌}
 use mathlib.Core.Path.{ap₂}
 use borrow.Author.Differences.{up, down, same_in, product_is}
 use Rattle.algebra.specs.Structures.{CommRing}
 use Rattle.algebra.specs.Sums.{sum_below, multiple, power}
 use Rattle.algebra.specs.Roots.{RootOfUnity}
 use Rattle.algebra.proofs.RingLaws.{one_mul, add_cancel, nought_mul}
-use Rattle.algebra.proofs.SumLaws.{sum_suc, sum_first, sum_ext, mul_sum, multiple_zero, multiple_suc, mul_multiple, power_zero, power_suc, power_add, power_mul, one_power, power_one}
+use Rattle.algebra.proofs.SumLaws.{sum_suc, sum_first, sum_ext, mul_sum, multiple_zero, multiple_suc, mul_multiple, power_zero, power_suc, power_add, power_mul, one_power}
 use Rattle.algebra.proofs.RootLaws.{power_mod}
-use Rattle.cyclotomic.specs.Polynomial.{zeros, plus, scaled, x_to, at_power, leading, lower}
-use Rattle.cyclotomic.specs.Division.{degree, cancelled, remainder}
+use Rattle.cyclotomic.specs.Polynomial.{zeros, scaled, at_power}
+use Rattle.cyclotomic.specs.Division.{degree}
 use Rattle.cyclotomic.specs.Cyclotomic.{cyclotomic}
 use Rattle.cyclotomic.specs.Conductors.{is_conductor}
-use Rattle.cyclotomic.specs.Ring.{Value, value_sum, value_multiple, value_nought, value_of, value_one, value_product, value_root}
-use Rattle.cyclotomic.specs.Laws.Action.{LinearMap, map_power, iterate, act, act-nil, act-cons, act-at_power}
-use Rattle.cyclotomic.specs.Laws.Polynomials.{scaled-cons, length-scaled}
+use Rattle.cyclotomic.specs.Ring.{Value, value_sum, value_multiple, value_nought, value_one, value_product, value_root}
+use Rattle.cyclotomic.specs.Laws.Action.{map_power, iterate, act, act-nil, act-cons, act-at_power}
 use Rattle.cyclotomic.specs.CyclotomicRing.{remainder_ring}
 use Rattle.cyclotomic.specs.Laws.Values.{same_value, value_shift, times_x, product-of}
 use Rattle.cyclotomic.proofs.Images.{root-zero, root-sum, product-root}
@@ -66,9 +65,9 @@ module _ (m : List ℤ) where
       let M = times_x m in
       let e : pos d +ℤ pos 1 ≡ pos (suc d) = ap pos (omega arith) in
       multiple_suc (remainder_ring m) d u
-          ∙ ap₂ value_sum (multiple-is d u) (sym (M.scale_one u))
-          ∙ sym (M.scale_sum (pos d) (pos 1) u)
-          ∙ ap (λ c. value_multiple c u) e
+      ∙ ap₂ value_sum (multiple-is d u) (sym (M.scale_one u))
+      ∙ sym (M.scale_sum (pos d) (pos 1) u)
+      ∙ ap (λ c. value_multiple c u) e
 
   -- powers of x
   pub power-root : (v : ℕ) → power (remainder_ring m) (value_root m 1) v ≡ value_root m v
@@ -76,8 +75,8 @@ module _ (m : List ℤ) where
   power-root (suc v) =
       let e : v + 1 ≡ suc v = omega arith in
       power_suc (remainder_ring m) (value_root m 1) v
-          ∙ ap (λ u. value_product m u (value_root m 1)) (power-root v)
-          ∙ sym (root-sum m v 1) ∙ ap (value_root m) e
+      ∙ ap (λ u. value_product m u (value_root m 1)) (power-root v)
+      ∙ sym (root-sum m v 1) ∙ ap (value_root m) e
 
   -- the powers x^0, x^g, .., d of them, times what x^g doesn't change
   pub fixed_multiple : (g d : ℕ) (u : Value (degree m)) → value_product m (value_root m g) u ≡ u → act (map_power (times_x m) g) (replicate d (pos 1)) u ≡ multiple (remainder_ring m) d u
@@ -86,10 +85,10 @@ module _ (m : List ℤ) where
       let R = remainder_ring m in
       let M = times_x m in
       act-cons (map_power M g) (pos 1) (replicate d (pos 1)) u
-          ∙ ap₂ (λ x y. value_sum x (iterate (value_shift m) g y)) (M.scale_one u) (fixed_multiple g d u fixed)
-          ∙ ap (value_sum u) (sym (product-root m g (multiple R d u)) ∙ mul_multiple R d (value_root m g) u ∙ ap (multiple R d) fixed)
-          ∙ R.add_comm u (multiple R d u)
-          ∙ sym (multiple_suc R d u)
+      ∙ ap₂ (λ x y. value_sum x (iterate (value_shift m) g y)) (M.scale_one u) (fixed_multiple g d u fixed)
+      ∙ ap (value_sum u) (sym (product-root m g (multiple R d u)) ∙ mul_multiple R d (value_root m g) u ∙ ap (multiple R d) fixed)
+      ∙ R.add_comm u (multiple R d u)
+      ∙ sym (multiple_suc R d u)
 
 -- ---- the sum over all exponents
 module _ {A : Type 0} (R : CommRing A) (z : A) (n e : ℕ) (cycle : power R z n ≡ R.one) where
@@ -104,21 +103,21 @@ module _ {A : Type 0} (R : CommRing A) (z : A) (n e : ℕ) (cycle : power R z n 
       let last : f n ≡ R.one = power_mul R z n e ∙ ap (λ y. power R y e) cycle ∙ one_power R e in
       let first : f 0 ≡ R.one = ap (power R z) (zero-mul e) ∙ power_zero R z in
       let moved : R.mul (power R z e) (sum_below R n f) ≡ sum_below R n (λ j. f (suc j)) =
-          mul_sum R n (power R z e) f
-              ∙ sum_ext R n (λ j. R.mul (power R z e) (f j)) (λ j. f (suc j))
-                  (λ j h. R.mul_comm (power R z e) (f j) ∙ sym (power_add R z (j * e) e) ∙ ap (power R z) (sym (suc-mul j e))) in
+      mul_sum R n (power R z e) f
+      ∙ sum_ext R n (λ j. R.mul (power R z e) (f j)) (λ j. f (suc j))
+      (λ j h. R.mul_comm (power R z e) (f j) ∙ sym (power_add R z (j * e) e) ∙ ap (power R z) (sym (suc-mul j e))) in
       let both : R.add R.one (sum_below R n (λ j. f (suc j))) ≡ R.add R.one (sum_below R n f) =
-          ap (λ y. R.add y (sum_below R n (λ j. f (suc j)))) (sym first) ∙ sym (sum_first R n f)
-              ∙ sum_suc R n f ∙ ap (R.add (sum_below R n f)) last ∙ R.add_comm (sum_below R n f) R.one in
+      ap (λ y. R.add y (sum_below R n (λ j. f (suc j)))) (sym first) ∙ sym (sum_first R n f)
+      ∙ sum_suc R n f ∙ ap (R.add (sum_below R n f)) last ∙ R.add_comm (sum_below R n f) R.one in
       moved ∙ add_cancel R R.one (sum_below R n (λ j. f (suc j))) (sum_below R n f) both
 
   sum_is_fixed_by_powers : (a : ℕ) → R.mul (power R z (a * e)) power_sum ≡ power_sum
   sum_is_fixed_by_powers zero = ap (λ y. R.mul y power_sum) (ap (power R z) (zero-mul e) ∙ power_zero R z) ∙ one_mul R power_sum
   sum_is_fixed_by_powers (suc a) =
       ap (λ y. R.mul y power_sum) (ap (power R z) (suc-mul a e) ∙ power_add R z (a * e) e)
-          ∙ R.mul_assoc (power R z (a * e)) (power R z e) power_sum
-          ∙ ap (R.mul (power R z (a * e))) sum_is_fixed
-          ∙ sum_is_fixed_by_powers a
+      ∙ R.mul_assoc (power R z (a * e)) (power R z e) power_sum
+      ∙ ap (R.mul (power R z (a * e))) sum_is_fixed
+      ∙ sum_is_fixed_by_powers a
 
   pub sum_is_fixed_modulo : (a : ℕ) → R.mul (power R z ((a * e) % n)) (sum_below R n (λ j. power R z (j * e))) ≡ sum_below R n (λ j. power R z (j * e))
   unfolding power_sum
@@ -132,11 +131,12 @@ positive_quotient k g (suc d) h e = omega arith
 proper_divisor_means : (k g : ℕ) → is_proper_divisor k g ≡ true → (0 < g) × (k % g ≡ 0)
 unfolding is_proper_divisor
 proper_divisor_means k g h = elim (cases_eq g 0) [
-    inl zero_g ↦ absurd (apart (sym (ap (λ (b : Bool). elim b [ true ↦ false | false ↦ k % g == 0 ]) (eq-eqb g 0 zero_g)) ∙ h))
-  | inr nonzero ↦ (omega arith, eqb-true (k % g) 0 (sym (ap (λ (b : Bool). elim b [ true ↦ false | false ↦ k % g == 0 ]) (ne_eqb g 0 nonzero)) ∙ h)) ]
+  | inl zero_g ↦ absurd (apart (sym (ap (λ (b : Bool). elim b [ true ↦ false | false ↦ k % g == 0 ]) (eq-eqb g 0 zero_g)) ∙ h))
+  | inr nonzero ↦ (omega arith, eqb-true (k % g) 0 (sym (ap (λ (b : Bool). elim b [ true ↦ false | false ↦ k % g == 0 ]) (ne_eqb g 0 nonzero)) ∙ h))
+]
   where
-  apart : false ≡ true → ⊥
-  apart e = cc
+    apart : false ≡ true → ⊥
+    apart e = cc
 
 module _ (k : ℕ) (entry : is_conductor k ≡ true) where
   pub x_cycle : power (remainder_ring (cyclotomic k)) (value_root (cyclotomic k) 1) k ≡ value_one (cyclotomic k)
@@ -155,10 +155,10 @@ module _ (k : ℕ) (entry : is_conductor k ≡ true) where
       let whole : g * d ≡ k = omega (arith, meaning.0, meaning.1) in
       let ones = replicate d (pos 1) in
       let vanishes : value_multiple (pos d) u ≡ value_nought =
-          sym (multiple-is m d u) ∙ sym (fixed_multiple m g d u fixed) ∙ sym (act-at_power M g ones u)
-              ∙ sym (product-of m (at_power g ones) u)
-              ∙ ap (λ v. value_product m v u) (cyclotomic_sums k entry g small divides)
-              ∙ nought_mul R u in
+      sym (multiple-is m d u) ∙ sym (fixed_multiple m g d u fixed) ∙ sym (act-at_power M g ones u)
+      ∙ sym (product-of m (at_power g ones) u)
+      ∙ ap (λ v. value_product m v u) (cyclotomic_sums k entry g small divides)
+      ∙ nought_mul R u in
       cancel_multiple d u (positive_quotient k g d positive whole) vanishes
 
   pub x_sum_vanishes : (e : ℕ) → e % k ≢ 0 → sum_below (remainder_ring (cyclotomic k)) k (λ j. power (remainder_ring (cyclotomic k)) (value_root (cyclotomic k) 1) (j * e)) ≡ value_nought
@@ -172,9 +172,9 @@ module _ (k : ℕ) (entry : is_conductor k ≡ true) where
       let a = reached.0 in
       let g = (a * e) % k in
       let divides : is_proper_divisor k g ≡ true =
-          ap (is_proper_divisor k) (sym (mul-mod_second a e k)) ∙ reached.1 in
+      ap (is_proper_divisor k) (sym (mul-mod_second a e k)) ∙ reached.1 in
       let fixed : value_product m (value_root m g) total ≡ total =
-          ap (λ v. value_product m v total) (sym (power-root m g)) ∙ sum_is_fixed_modulo R z k e x_cycle a in
+      ap (λ v. value_product m v total) (sym (power-root m g)) ∙ sum_is_fixed_modulo R z k e x_cycle a in
       fixed_is_nought g total (mod-lt (a * e) positive) divides fixed
 
 -- x as a root of unity in the ring modulo Phi_K
@@ -184,5 +184,5 @@ x_root k entry = record {
   positive = conductor_positive k entry;
   cycle = x_cycle k entry;
   sum_vanishes = x_sum_vanishes k entry;
-  cancel = λ u e. cancel_multiple k u (conductor_positive k entry) (sym (multiple-is (cyclotomic k) k u) ∙ e)
+  cancel = λ u e. cancel_multiple k u (conductor_positive k entry) (sym (multiple-is (cyclotomic k) k u) ∙ e);
 }

@@ -1,13 +1,13 @@
 -- Sizes of sums, multiples and products of values.
-use Rattle.std.proofs.Common.{◌≡◌, ℕ, zero, suc, ◌+◌, ◌*◌, ◌≤◌, ◌<◌, max, List, [], ◌∷◌, ◌++◌, length, Bool, true, false, refl, sym, ap, ◌∙◌, subst, arith, sum_by}
-use Rattle.std.proofs.Math.Nat.{mul-le-mul_left, mul-le-mul_right}
+use Rattle.std.proofs.Common.{◌≡◌, ℕ, zero, suc, ◌+◌, ◌*◌, ◌≤◌, max, List, [], ◌∷◌, length, refl, sym, ap, ◌∙◌, subst, arith}
+use Rattle.std.proofs.Math.Nat.{mul-le-mul_left}
 use Rattle.std.specs.Prelude.{ℤ, pos, negsuc, ◌+ℤ◌, ◌*ℤ◌, neg_ℤ, nat_abs}
-use borrow.Author.Differences.{up, down, sum_is_lem, product_is, abs_is}
+use borrow.Author.Differences.{sum_is_lem, abs_is}
 use Rattle.cyclotomic.specs.Polynomial.{zeros, plus, scaled}
 use Rattle.cyclotomic.specs.Division.{degree}
 use Rattle.cyclotomic.specs.Ring.{Value, value_sum, value_multiple, value_nought, value_one, value_product}
 use Rattle.cyclotomic.specs.Fit.{size_of, value_size}
-use Rattle.cyclotomic.specs.Laws.Action.{LinearMap, iterate, iterate-zero, iterate-suc, iterate-sum, iterate-inner, act, act-nil, act-cons, act-map, act-iterate}
+use Rattle.cyclotomic.specs.Laws.Action.{iterate, iterate-zero, iterate-suc, iterate-sum, iterate-inner, act, act-nil, act-cons, act-map, act-iterate}
 use Rattle.cyclotomic.specs.Laws.Values.{value_shift, times_x, act-itself, product-act}
 
 pub magnitude-sum : (a b : ℤ) → nat_abs (a +ℤ b) ≤ nat_abs a + nat_abs b
@@ -71,11 +71,11 @@ module _ (m : List ℤ) where
   size-act (a ∷ p) w b bounded =
       let M = times_x m in
       let is : act M (a ∷ p) w ≡ value_sum (value_multiple a w) (act M p (value_shift m w)) =
-          act-cons M a p w ∙ ap (value_sum (value_multiple a w)) (sym (act-map M p w)) in
+      act-cons M a p w ∙ ap (value_sum (value_multiple a w)) (sym (act-map M p w)) in
       let here : value_size w ≤ b = subst (λ v. value_size v ≤ b) (iterate-zero M w) (bounded 0) in
       let rest : value_size (act M p (value_shift m w)) ≤ total_of p * b =
-          size-act p (value_shift m w) b
-          (λ i. subst (λ v. value_size v ≤ b) (sym (iterate-inner M i w)) (subst (λ v. value_size v ≤ b) (iterate-suc M i w) (bounded (suc i)))) in
+      size-act p (value_shift m w) b
+      (λ i. subst (λ v. value_size v ≤ b) (sym (iterate-inner M i w)) (subst (λ v. value_size v ≤ b) (iterate-suc M i w) (bounded (suc i)))) in
       let first : nat_abs a * value_size w ≤ nat_abs a * b = mul-le-mul_left (nat_abs a) here in
       omega
       (arith, ap (λ v. value_size v) is, size-plus (scaled a w.coefficients) (act M p (value_shift m w)).coefficients, size-scaled a w.coefficients, first, rest)
@@ -85,10 +85,10 @@ module _ (m : List ℤ) where
   size-steps small v i =
       let M = times_x m in
       let is : iterate (value_shift m) i v ≡ act M v.coefficients (iterate (value_shift m) i (value_one m)) =
-          ap (iterate (value_shift m) i) (sym (act-itself m v)) ∙ sym (act-iterate M v.coefficients i (value_one m)) in
+      ap (iterate (value_shift m) i) (sym (act-itself m v)) ∙ sym (act-iterate M v.coefficients i (value_one m)) in
       let bound : value_size (act M v.coefficients (iterate (value_shift m) i (value_one m))) ≤ total_of v.coefficients * 1 =
-          size-act v.coefficients (iterate (value_shift m) i (value_one m)) 1
-          (λ j. subst (λ u. value_size u ≤ 1) (iterate-sum M j i (value_one m)) (small (j + i))) in
+      size-act v.coefficients (iterate (value_shift m) i (value_one m)) 1
+      (λ j. subst (λ u. value_size u ≤ 1) (iterate-sum M j i (value_one m)) (small (j + i))) in
       omega (arith, ap (λ u. value_size u) is, bound)
 
   pub size-product : ((i : ℕ) → value_size (iterate (value_shift m) i (value_one m)) ≤ 1) → (u v : Value (degree m)) → value_size (value_product m u v) ≤ total_of u.coefficients * total_of v.coefficients

@@ -1,6 +1,5 @@
 -- Tests that compute over the table of conductors, and what they mean.
-use Rattle.std.proofs.Common.{◌≡◌, ℕ, zero, suc, ◌+◌, ◌*◌, ◌%◌, ◌/◌, ◌≤◌, ◌<◌, List, [], ◌∷◌, ◌++◌, length, get_or, Bool, true, false, refl, sym, ap, ◌∙◌, arith, inl, inr, ◌⊎◌, eqb-true, eq-eqb}
-use Rattle.std.proofs.Math.Decide.{dec_lt}
+use Rattle.std.proofs.Common.{◌≡◌, ℕ, zero, suc, ◌<◌, List, [], ◌∷◌, Bool, true, false, refl, sym, ap, ◌∙◌, arith, inl, inr, eqb-true}
 use Rattle.std.proofs.lemmas.Bool.{cases_eq, ne_eqb}
 use Rattle.std.specs.Prelude.{ℤ, pos, negsuc, ◌==◌, ◌&&◌, ◌||◌}
 use Rattle.std.specs.List.{list_all, list_any}
@@ -52,8 +51,9 @@ pub all_below_means : (n : ℕ) (test : ℕ → Bool) → all_below n test ≡ t
 unfolding all_below
 all_below_means zero test e i h = absurd (omega arith)
 all_below_means (suc n) test e i h = elim (cases_eq i n) [
-    inl here ↦ ap test here ∙ and_right (all_below n test) (test n) e
-  | inr apart ↦ all_below_means n test (and_left (all_below n test) (test n) e) i (omega arith) ]
+  | inl here ↦ ap test here ∙ and_right (all_below n test) (test n) e
+  | inr apart ↦ all_below_means n test (and_left (all_below n test) (test n) e) i (omega arith)
+]
 
 -- some number below a bound passes
 unfoldable pub any_below : ℕ → (ℕ → Bool) → Bool
@@ -65,17 +65,18 @@ unfolding any_below
 any_below_means zero test e = cc
 any_below_means (suc n) test e = from (any_below n test) (any_below_means n test) e
   where
-  from : (b : Bool) → (b ≡ true → (i : ℕ) × (test i ≡ true)) → (b || test n) ≡ true → (i : ℕ) × (test i ≡ true)
-  from true found h = found refl
-  from false found h = (n, h)
+    from : (b : Bool) → (b ≡ true → (i : ℕ) × (test i ≡ true)) → (b || test n) ≡ true → (i : ℕ) × (test i ≡ true)
+    from true found h = found refl
+    from false found h = (n, h)
 
 -- ---- each entry of the table
 all_entries : (test : ℕ → Bool) (k : ℕ) (entries : List (ℕ × ℕ)) → list_all (λ (entry : ℕ × ℕ). test entry.0) entries ≡ true → list_any (λ (entry : ℕ × ℕ). entry.0 == k) entries ≡ true → test k ≡ true
 all_entries test k [] all found = cc
 all_entries test k (entry ∷ rest) all found = elim (cases_eq entry.0 k) [
-    inl here ↦ ap test (sym here) ∙ and_left (test entry.0) (list_all (λ (e : ℕ × ℕ). test e.0) rest) all
+  | inl here ↦ ap test (sym here) ∙ and_left (test entry.0) (list_all (λ (e : ℕ × ℕ). test e.0) rest) all
   | inr apart ↦ all_entries test k rest (and_right (test entry.0) (list_all (λ (e : ℕ × ℕ). test e.0) rest) all)
-        (sym (ap (λ b. b || list_any (λ (e : ℕ × ℕ). e.0 == k) rest) (ne_eqb entry.0 k apart)) ∙ found) ]
+      (sym (ap (λ b. b || list_any (λ (e : ℕ × ℕ). e.0 == k) rest) (ne_eqb entry.0 k apart)) ∙ found)
+]
 
 pub at_each_conductor : (test : ℕ → Bool) → list_all (λ (entry : ℕ × ℕ). test entry.0) conductors ≡ true → (k : ℕ) → is_conductor k ≡ true → test k ≡ true
 unfolding is_conductor

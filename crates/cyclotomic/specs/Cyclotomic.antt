@@ -1,5 +1,5 @@
 -- Cyclotomic polynomials (textbook): Phi_d is x^d - 1 divided exactly by the Phi of the proper divisors of d.
-use Rattle.std.specs.Prelude.{ℕ, zero, suc, ◌%◌, ◌==◌, ℤ, pos, negsuc, Bool, true, false, List, [], ◌∷◌, ◌++◌}
+use Rattle.std.specs.Prelude.{ℕ, zero, suc, ◌%◌, ◌==◌, ℤ, pos, negsuc, true, false, List, [], ◌∷◌, ◌++◌}
 use Rattle.cyclotomic.specs.Polynomial.{plus, times, x_to}
 use Rattle.cyclotomic.specs.Division.{quotient}
 
@@ -22,8 +22,8 @@ unfoldable pub cyclotomics : ℕ → List (List ℤ)
 cyclotomics zero = []
 cyclotomics (suc n) = add_next (cyclotomics n)
   where
-  add_next : List (List ℤ) → List (List ℤ)
-  add_next below = below ++ (next_cyclotomic (suc n) below ∷ [])
+    add_next : List (List ℤ) → List (List ℤ)
+    add_next below = below ++ (next_cyclotomic (suc n) below ∷ [])
 
 -- Phi_d, for d from 1
 unfoldable pub cyclotomic : ℕ → List ℤ

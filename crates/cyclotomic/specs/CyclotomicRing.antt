@@ -21,7 +21,7 @@ remainder_ring m = record {
   mul_assoc = product_assoc m;
   mul_comm = product_comm m;
   mul_one = product_one m;
-  mul_add = product_sum m
+  mul_add = product_sum m;
 }
 
 -- lists of phi(K) whole numbers, the polynomials modulo Phi_K

@@ -16,8 +16,8 @@ unfoldable pub division : List ℤ → List ℤ → List ℤ × List ℤ
 division m [] = ([], zeros (degree m))
 division m (a ∷ p) = next (division m p)
   where
-  next : List ℤ × List ℤ → List ℤ × List ℤ
-  next d = (leading (a ∷ d.1) ∷ d.0, cancelled m (a ∷ d.1))
+    next : List ℤ × List ℤ → List ℤ × List ℤ
+    next d = (leading (a ∷ d.1) ∷ d.0, cancelled m (a ∷ d.1))
 
 -- the remainder of p by the monic polynomial m: a list of degree m coefficients
 unfoldable pub remainder : List ℤ → List ℤ → List ℤ

@@ -1,5 +1,5 @@
 -- Rules of fit: which results are given, and which listed sums overflow (this project's choice).
-use Rattle.std.specs.Prelude.{ℕ, ◌+◌, ◌-◌, ◌*◌, ◌^◌, max, nat_le, nat_lt, ◌||◌, ℤ, nat_abs, Bool, true, false, Option, Some, None, List, [], ◌∷◌, sum_by, is_none}
+use Rattle.std.specs.Prelude.{ℕ, ◌-◌, ◌*◌, ◌^◌, max, nat_le, nat_lt, ◌||◌, ℤ, nat_abs, Bool, Option, Some, None, List, [], ◌∷◌, sum_by, is_none}
 use Rattle.std.specs.List.{list_any}
 use Rattle.cyclotomic.specs.Ring.{Value}
 

@@ -15,13 +15,13 @@ pub record Value (n : ℕ) : Type 0 where
 unfoldable pub value_sum : {n : ℕ} → Value n → Value n → Value n
 value_sum u v = record {
   coefficients = plus u.coefficients v.coefficients;
-  count = length-plus u.coefficients v.coefficients (u.count ∙ sym v.count) ∙ u.count
+  count = length-plus u.coefficients v.coefficients (u.count ∙ sym v.count) ∙ u.count;
 }
 
 unfoldable pub value_multiple : {n : ℕ} → ℤ → Value n → Value n
 value_multiple c u = record {
   coefficients = scaled c u.coefficients;
-  count = length-scaled c u.coefficients ∙ u.count
+  count = length-scaled c u.coefficients ∙ u.count;
 }
 
 abbrev pub value_negative : {n : ℕ} → Value n → Value n

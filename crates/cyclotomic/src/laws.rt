@@ -15,8 +15,7 @@ ghost use Rattle.cyclotomic.specs.Fit.{value_size, value_fits, product_fits, siz
 pub fn division_laws()
     ensures parts { (m p : List ℤ) → leading m ≡ pos 1 → IsSamePolynomial p (plus (times (division m p).0 m) (remainder m p)) }
     ensures below { (m p : List ℤ) → length (remainder m p) ≡ degree m }
-{
-}
+{}
 
 /// Taking the remainder by m respects sums, multiples and products, and a value is its own remainder.
 pub fn remainder_laws()
@@ -24,8 +23,7 @@ pub fn remainder_laws()
     ensures multiple { (m : List ℤ) (c : ℤ) (p : List ℤ) → value_of m (scaled c p) ≡ value_multiple c (value_of m p) }
     ensures product { (m p q : List ℤ) → value_of m (times p q) ≡ value_product m (value_of m p) (value_of m q) }
     ensures itself { (m : List ℤ) (u : Value (degree m)) → value_of m u.coefficients ≡ u }
-{
-}
+{}
 
 /// The values modulo m are a commutative ring with one.
 pub fn ring_laws()
@@ -37,8 +35,7 @@ pub fn ring_laws()
     ensures product_commutative { (m : List ℤ) (u v : Value (degree m)) → value_product m u v ≡ value_product m v u }
     ensures product_one { (m : List ℤ) (u : Value (degree m)) → value_product m u (value_one m) ≡ u }
     ensures distributive { (m : List ℤ) (u v w : Value (degree m)) → value_product m u (value_sum v w) ≡ value_sum (value_product m u v) (value_product m u w) }
-{
-}
+{}
 
 /// At each conductor K: x^K - 1 is the product of the Phi_d over the divisors d of K, and Phi_K is monic, of degree phi(K),
 /// with the listed lower coefficients.
@@ -47,8 +44,7 @@ pub fn conductor_laws()
     ensures monic { (k : ℕ) → is_conductor k ≡ true → leading (cyclotomic k) ≡ pos 1 }
     ensures degree { (k : ℕ) → is_conductor k ≡ true → degree (cyclotomic k) ≡ phi_of k }
     ensures reduction { (k : ℕ) → is_conductor k ≡ true → cyclotomic k ≡ reduction_of k ++ (pos 1 ∷ []) }
-{
-}
+{}
 
 /// x is a root of unity of order K modulo Phi_K, its powers have coefficients -1, 0 and 1, the sum of its powers vanishes
 /// at every exponent that isn't a multiple of K, and a whole multiple from 1 that is 0 comes from 0.
@@ -59,8 +55,7 @@ pub fn root_laws()
     ensures coefficients { (k : ℕ) → is_conductor k ≡ true → (v : ℕ) → value_size (root k v) ≤ 1 }
     ensures vanishing { (k : ℕ) → is_conductor k ≡ true → (e : ℕ) → e % k ≢ 0 → sum_below (cyclotomic_ring k) k (λ j. root k (j * e)) ≡ value_nought }
     ensures cancelling { (k d : ℕ) (u : CyclotomicValue k) → 0 < d → value_multiple (pos d) u ≡ value_nought → u ≡ value_nought }
-{
-}
+{}
 
 /// The image under a number t prime to K respects the ring: it is the polynomial at x^t. It depends on t modulo K alone, and
 /// the images under numbers that are inverse modulo K undo each other. Conjugation is the image under K - 1.
@@ -75,8 +70,7 @@ pub fn image_laws()
     ensures conjugate { (k : ℕ) → is_conductor k ≡ true → IsGcd (k - 1) k 1 }
     ensures twice { (k : ℕ) → is_conductor k ≡ true → (u : CyclotomicValue k) → conjugate k (conjugate k u) ≡ u }
     ensures modulus { (k : ℕ) → is_conductor k ≡ true → (v : ℕ) → value_product (cyclotomic k) (root k v) (conjugate k (root k v)) ≡ value_one (cyclotomic k) }
-{
-}
+{}
 
 /// A product of two values that fit together fits. Where a listed sum doesn't overflow, each term is formed, the sum of
 /// any of them in any order doesn't overflow, and the sum fits.
@@ -87,5 +81,4 @@ pub fn fit_laws()
     ensures front { (k : ℕ) (terms more : List (CyclotomicValue k)) → sizes_overflow (terms ++ more) ≡ false → sizes_overflow terms ≡ false }
     ensures order { (k : ℕ) (terms others : List (CyclotomicValue k)) → IsPermutation terms others → sizes_overflow terms ≡ false → sizes_overflow others ≡ false }
     ensures sum { (k : ℕ) (terms : List (CyclotomicValue k)) → sizes_overflow terms ≡ false → value_fits (sum_list (cyclotomic_ring k) terms) ≡ true }
-{
-}
+{}

@@ -8,6 +8,4 @@
 pub mod laws;
 mod table;
 
-pub use table::NoConductor;
-pub use table::conductor;
-pub use table::phi;
+pub use table::{NoConductor, conductor, phi};

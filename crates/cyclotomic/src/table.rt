@@ -78,3 +78,40 @@ pub fn phi(k: u32) -> u32
         None => 0,
     }
 }
+
+#[cfg(test)]
+mod tests {
+    use super::*;
+
+    // From the table of conductors as it is stated outside the code.
+    #[test]
+    fn finds_the_least_conductor(rt: HostRuntime) {
+        for (multiple, wanted) in [
+            (1, 4),
+            (5, 20),
+            (12, 12),
+            (13, 0),
+            (11, 0),
+            (21, 42),
+            (0, 0),
+            (120, 120),
+            (121, 0),
+        ] {
+            match conductor(multiple) {
+                Ok(k) => assert_eq!(rt; k, wanted),
+                Err(error) => {
+                    assert_eq!(rt; 0, wanted);
+                    assert_eq!(rt; error.multiple, multiple);
+                }
+            }
+        }
+    }
+
+    #[test]
+    #[tactic(auto, unfolding(crate::specs::Conductors::is_conductor, crate::specs::Conductors::conductors))]
+    fn knows_phi(rt: HostRuntime) {
+        assert_eq!(rt; phi(4), 2);
+        assert_eq!(rt; phi(49), 42);
+        assert_eq!(rt; phi(120), 32);
+    }
+}

@@ -9,3 +9,4 @@ pub mod CoefficientLaws
 pub mod ReadingSteps
 pub mod ValueLaws
 pub mod ValueOutcomeLaws
+pub mod BufferLaws

@@ -1,4 +1,5 @@
 pub mod Fit
+pub mod CycArrays
 pub mod Thirds
 pub mod ValueText
 pub mod ValueReading

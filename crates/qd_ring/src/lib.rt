@@ -1,8 +1,11 @@
 //! The coefficients of the calculator: roots of unity, cyclotomic values and the rings that they form, with exact rules of fit.
 #![tactic(auto)]
 
+mod cyc;
+mod cyc_buffer;
 mod memory;
 mod plain;
+mod reduction;
 mod ring;
 mod root;
 mod site;
@@ -11,6 +14,7 @@ mod unit_group;
 mod value_reader;
 mod value_text;
 
+pub use cyc::Cyc;
 pub use memory::Memory;
 pub use plain::{Plain, ValueFault};
 pub use ring::Ring;

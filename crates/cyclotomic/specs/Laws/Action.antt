@@ -1,6 +1,6 @@
 -- Polynomials act on a module with a linear map: p acts as p of the map. Laws of products of polynomials are those of the action.
-use Rattle.std.proofs.Common.{◌≡◌, ℕ, zero, suc, ◌+◌, ◌*◌, List, [], ◌∷◌, ◌++◌, length, refl, sym, ap, ◌∙◌, arith, add-suc, add-zero, zero-add, mul-zero, mul-suc, add_comm}
-use Rattle.std.specs.Prelude.{ℤ, pos, negsuc, ◌+ℤ◌, ◌*ℤ◌, neg_ℤ, replicate}
+use Rattle.std.proofs.Common.{◌≡◌, ℕ, zero, suc, ◌+◌, ◌*◌, List, [], ◌∷◌, ◌++◌, length, refl, sym, ap, ◌∙◌, arith, zero-add, mul-zero, mul-suc, add_comm}
+use Rattle.std.specs.Prelude.{ℤ, pos, ◌+ℤ◌, ◌*ℤ◌, neg_ℤ}
 use mathlib.Core.Path.{ap₂}
 use Rattle.cyclotomic.specs.Polynomial.{zeros, plus, scaled, times, x_to, at_power, leading, lower}
 use Rattle.cyclotomic.specs.Division.{degree, cancelled, remainder}
@@ -73,7 +73,7 @@ module _ {V : Type 0} (M : LinearMap V) where
   pub scale_nought : (c : ℤ) → M.scale c M.nought ≡ M.nought
   scale_nought c =
       ap (M.scale c) (sym (M.scale_zero M.nought)) ∙ sym (M.scale_product c (pos 0) M.nought)
-          ∙ ap (λ z. M.scale z M.nought) (Z.times_zero c) ∙ M.scale_zero M.nought
+      ∙ ap (λ z. M.scale z M.nought) (Z.times_zero c) ∙ M.scale_zero M.nought
 
   pub map_nought : M.map M.nought ≡ M.nought
   map_nought = ap M.map (sym (M.scale_zero M.nought)) ∙ M.map_scale (pos 0) M.nought ∙ M.scale_zero (M.map M.nought)
@@ -167,7 +167,7 @@ module _ {V : Type 0} (M : LinearMap V) where
       simp (act-cons, act-nil, iterate-zero, map_nought, M.add_nought, nought_add)
   act-leading a (b ∷ p) v =
       act-cons a (b ∷ p) v ∙ ap (λ z. M.add (M.scale a v) (M.map z)) (act-leading b p v)
-          ∙ simp (act-cons, M.map_add, M.map_scale, iterate-suc, M.add_assoc)
+      ∙ simp (act-cons, M.map_add, M.map_scale, iterate-suc, M.add_assoc)
 
   -- ---- the remainder by a monic polynomial that sends v to nought acts on v as the polynomial
   pub act-nothing : (n : ℕ) (v : V) → act M (zeros n) v ≡ M.nought
@@ -177,15 +177,15 @@ module _ {V : Type 0} (M : LinearMap V) where
   opposite_scaled : (c : ℤ) (u w : V) → M.add u w ≡ M.nought → M.scale (neg_ℤ c) u ≡ M.scale c w
   opposite_scaled c u w e =
       let cancels : M.add (M.scale (neg_ℤ c) u) (M.scale c u) ≡ M.nought =
-          sym (M.scale_sum (neg_ℤ c) c u)
-              ∙ ap (λ z. M.scale z u) (Z.plus_comm (neg_ℤ c) c ∙ Z.plus_neg c)
-              ∙ M.scale_zero u in
+      sym (M.scale_sum (neg_ℤ c) c u)
+      ∙ ap (λ z. M.scale z u) (Z.plus_comm (neg_ℤ c) c ∙ Z.plus_neg c)
+      ∙ M.scale_zero u in
       sym (M.add_nought (M.scale (neg_ℤ c) u))
-          ∙ ap (M.add (M.scale (neg_ℤ c) u)) (sym (ap (M.scale c) e ∙ scale_nought c))
-          ∙ ap (M.add (M.scale (neg_ℤ c) u)) (M.scale_add c u w)
-          ∙ sym (M.add_assoc (M.scale (neg_ℤ c) u) (M.scale c u) (M.scale c w))
-          ∙ ap (λ z. M.add z (M.scale c w)) cancels
-          ∙ nought_add (M.scale c w)
+      ∙ ap (M.add (M.scale (neg_ℤ c) u)) (sym (ap (M.scale c) e ∙ scale_nought c))
+      ∙ ap (M.add (M.scale (neg_ℤ c) u)) (M.scale_add c u w)
+      ∙ sym (M.add_assoc (M.scale (neg_ℤ c) u) (M.scale c u) (M.scale c w))
+      ∙ ap (λ z. M.add z (M.scale c w)) cancels
+      ∙ nought_add (M.scale c w)
 
   act-cancelled : (b a : ℤ) (m r : List ℤ) (v : V) → leading (b ∷ m) ≡ pos 1 → length r ≡ length m → act M (b ∷ m) v ≡ M.nought → act M (cancelled (b ∷ m) (a ∷ r)) v ≡ act M (a ∷ r) v
   unfolding cancelled
@@ -194,14 +194,14 @@ module _ {V : Type 0} (M : LinearMap V) where
       let low = lower (b ∷ m) in
       let n = length m in
       let sum : M.add (act M low v) (iterate M.map n v) ≡ M.nought =
-          ap (M.add (act M low v))
-              (sym (M.scale_one (iterate M.map n v)) ∙ ap (λ z. M.scale z (iterate M.map n v)) (sym monic))
-              ∙ sym (act-leading b m v) ∙ vanishes in
+      ap (M.add (act M low v))
+      (sym (M.scale_one (iterate M.map n v)) ∙ ap (λ z. M.scale z (iterate M.map n v)) (sym monic))
+      ∙ sym (act-leading b m v) ∙ vanishes in
       act-plus (lower (a ∷ r)) (scaled (neg_ℤ c) low) v
-          ∙ ap (M.add (act M (lower (a ∷ r)) v))
-              (act-scaled (neg_ℤ c) low v ∙ opposite_scaled c (act M low v) (iterate M.map n v) sum
-                  ∙ ap (λ k. M.scale c (iterate M.map k v)) (sym same))
-          ∙ sym (act-leading a r v)
+      ∙ ap (M.add (act M (lower (a ∷ r)) v))
+      (act-scaled (neg_ℤ c) low v ∙ opposite_scaled c (act M low v) (iterate M.map n v) sum
+      ∙ ap (λ k. M.scale c (iterate M.map k v)) (sym same))
+      ∙ sym (act-leading a r v)
 
   pub act-remainder : (m p : List ℤ) (v : V) → leading m ≡ pos 1 → act M m v ≡ M.nought → act M (remainder m p) v ≡ act M p v
   act-remainder [] p v monic vanishes = absurd (zero_not_one (sym leading-nil ∙ monic))
@@ -210,10 +210,10 @@ module _ {V : Type 0} (M : LinearMap V) where
   act-remainder (b ∷ m) (a ∷ p) v monic vanishes =
       let r = remainder (b ∷ m) p in
       ap (λ z. act M z v) (remainder-cons (b ∷ m) a p)
-          ∙ act-cancelled b a m r v monic (length-remainder (b ∷ m) p ∙ length-lower b m) vanishes
-          ∙ act-cons a r v
-          ∙ ap (λ z. M.add (M.scale a v) (M.map z)) (act-remainder (b ∷ m) p v monic vanishes)
-          ∙ sym (act-cons a p v)
+      ∙ act-cancelled b a m r v monic (length-remainder (b ∷ m) p ∙ length-lower b m) vanishes
+      ∙ act-cons a r v
+      ∙ ap (λ z. M.add (M.scale a v) (M.map z)) (act-remainder (b ∷ m) p v monic vanishes)
+      ∙ sym (act-cons a p v)
 
 -- the map, t times, is linear too
 abbrev pub map_power : {V : Type 0} → LinearMap V → ℕ → LinearMap V
@@ -231,7 +231,7 @@ map_power M t = record {
   scale_one = M.scale_one;
   scale_zero = M.scale_zero;
   map_add = iterate-add M t;
-  map_scale = iterate-scale M t
+  map_scale = iterate-scale M t;
 }
 
 -- p at x^t acts by the map as p acts by its power t
@@ -240,7 +240,7 @@ unfolding at_power act
 act-at_power M t [] v = refl
 act-at_power M t (a ∷ p) v =
     act-plus M (a ∷ []) (zeros t ++ at_power t p) v
-        ∙ ap₂ M.add (act-constant M a v) (act-zeros M t (at_power t p) v ∙ ap (iterate M.map t) (act-at_power M t p v))
+    ∙ ap₂ M.add (act-constant M a v) (act-zeros M t (at_power t p) v ∙ ap (iterate M.map t) (act-at_power M t p v))
 
 -- powers of a power of the map
 pub iterate-power : {V : Type 0} (M : LinearMap V) (t k : ℕ) (v : V) → iterate (iterate M.map t) k v ≡ iterate M.map (t * k) v
@@ -249,7 +249,7 @@ iterate-power M t zero v = ap (λ n. iterate M.map n v) (sym (mul-zero t))
 iterate-power M t (suc k) v =
     let e : t + t * k ≡ t * suc k = sym (mul-suc t k ∙ add_comm (t * k) t) in
     ap (iterate M.map t) (iterate-power M t k v) ∙ sym (iterate-sum M t (t * k) v)
-        ∙ ap (λ n. iterate M.map n v) e
+    ∙ ap (λ n. iterate M.map n v) e
 
 -- maps that agree everywhere act alike
 pub act-same_map : {V : Type 0} (M : LinearMap V) (s t : ℕ) → ((v : V) → iterate M.map s v ≡ iterate M.map t v) → (p : List ℤ) (v : V) → act (map_power M s) p v ≡ act (map_power M t) p v

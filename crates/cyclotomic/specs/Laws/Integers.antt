@@ -1,7 +1,6 @@
 -- Laws of the whole numbers that the library lacks: the product is associative and distributes over sums.
-use Rattle.std.proofs.Common.{◌≡◌, ℕ, ◌+◌, ◌*◌, refl, sym, ap, ◌∙◌, arith}
+use Rattle.std.proofs.Common.{◌≡◌, ◌*◌, sym, ap, ◌∙◌, arith}
 use Rattle.std.specs.Prelude.{ℤ, pos, negsuc, ◌+ℤ◌, ◌*ℤ◌, neg_ℤ}
-use Rattle.std.proofs.lemmas.Int.{ints}
 use borrow.Author.Differences.{up, down, same_in, sum_is_lem, neg_is, product_is}
 use lib.IntN.{+ℤ_assoc, +ℤ_comm, +ℤ_idl, +ℤ_idr, +ℤ_invr, *ℤ_comm}
 
@@ -32,14 +31,14 @@ times_assoc a b c =
     let r = product_is b c in
     same_in ((a *ℤ b) *ℤ c) (a *ℤ (b *ℤ c))
     (omega
-        (arith, product_is (a *ℤ b) c, product_is a (b *ℤ c), ap (λ z. z * up c) l.0, ap (λ z. z * down c) l.0, ap (λ z. z * up c) l.1, ap (λ z. z * down c) l.1, ap (λ z. up a * z) r.0, ap (λ z. down a * z) r.0, ap (λ z. up a * z) r.1, ap (λ z. down a * z) r.1))
+    (arith, product_is (a *ℤ b) c, product_is a (b *ℤ c), ap (λ z. z * up c) l.0, ap (λ z. z * down c) l.0, ap (λ z. z * up c) l.1, ap (λ z. z * down c) l.1, ap (λ z. up a * z) r.0, ap (λ z. down a * z) r.0, ap (λ z. up a * z) r.1, ap (λ z. down a * z) r.1))
 
 pub times_plus : (a b c : ℤ) → a *ℤ (b +ℤ c) ≡ a *ℤ b +ℤ a *ℤ c
 times_plus a b c =
     let s = sum_is_lem b c in
     same_in (a *ℤ (b +ℤ c)) (a *ℤ b +ℤ a *ℤ c)
     (omega
-        (arith, product_is a (b +ℤ c), ap (λ z. up a * z) s, ap (λ z. down a * z) s, product_is a b, product_is a c, sum_is_lem (a *ℤ b) (a *ℤ c)))
+    (arith, product_is a (b +ℤ c), ap (λ z. up a * z) s, ap (λ z. down a * z) s, product_is a b, product_is a c, sum_is_lem (a *ℤ b) (a *ℤ c)))
 
 pub plus_times : (a b c : ℤ) → (a +ℤ b) *ℤ c ≡ a *ℤ c +ℤ b *ℤ c
 plus_times a b c = *ℤ_comm (a +ℤ b) c ∙ times_plus c a b ∙ ap (λ z. z +ℤ c *ℤ b) (*ℤ_comm c a) ∙ ap (λ z. a *ℤ c +ℤ z) (*ℤ_comm c b)
@@ -66,7 +65,7 @@ neg_times a b =
     let n = neg_is a in
     same_in (neg_ℤ a *ℤ b) (neg_ℤ (a *ℤ b))
     (omega
-        (arith, neg_is (a *ℤ b), product_is (neg_ℤ a) b, product_is a b, ap (λ z. z * up b) n.0, ap (λ z. z * down b) n.0, ap (λ z. z * up b) n.1, ap (λ z. z * down b) n.1))
+    (arith, neg_is (a *ℤ b), product_is (neg_ℤ a) b, product_is a b, ap (λ z. z * up b) n.0, ap (λ z. z * down b) n.0, ap (λ z. z * up b) n.1, ap (λ z. z * down b) n.1))
 
 pub times_neg : (a b : ℤ) → a *ℤ neg_ℤ b ≡ neg_ℤ (a *ℤ b)
 times_neg a b = *ℤ_comm a (neg_ℤ b) ∙ neg_times b a ∙ ap neg_ℤ (*ℤ_comm b a)

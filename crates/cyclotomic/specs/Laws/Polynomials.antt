@@ -1,6 +1,6 @@
 -- Laws of sums and multiples of lists of coefficients, and of their last coefficient and the others.
-use Rattle.std.proofs.Common.{◌≡◌, ℕ, zero, suc, pred, ◌+◌, ◌≤◌, List, [], ◌∷◌, ◌++◌, length, refl, sym, ap, ◌∙◌, arith}
-use Rattle.std.specs.Prelude.{ℤ, pos, negsuc, ◌+ℤ◌, ◌*ℤ◌, neg_ℤ, replicate}
+use Rattle.std.proofs.Common.{◌≡◌, ℕ, zero, suc, pred, List, [], ◌∷◌, ◌++◌, length, refl, sym, ap, ◌∙◌, arith}
+use Rattle.std.specs.Prelude.{ℤ, pos, negsuc, ◌+ℤ◌, ◌*ℤ◌}
 use Rattle.std.proofs.lemmas.List.{length-replicate}
 use mathlib.Core.Path.{ap₂}
 use Rattle.cyclotomic.specs.Polynomial.{zeros, plus, scaled, leading, lower}
@@ -170,8 +170,8 @@ lower-padded (a ∷ b ∷ p) k = ap (λ y. a ∷ y) (lower-padded (b ∷ p) k)
 pub first_and_rest : (a : ℤ) (p : List ℤ) (n : ℕ) → length p ≡ n → plus (scaled a (pos 1 ∷ zeros n)) (pos 0 ∷ p) ≡ a ∷ p
 first_and_rest a p n e =
     ap (λ z. plus z (pos 0 ∷ p)) (scaled-cons a (pos 1) (zeros n) ∙ ap (λ z. (a *ℤ pos 1) ∷ z) (scaled-zeros a n))
-        ∙ plus-cons (a *ℤ pos 1) (pos 0) (zeros n) p
-        ∙ ap₂ (λ x y. x ∷ y) (Z.plus_zero (a *ℤ pos 1) ∙ Z.times_comm a (pos 1) ∙ Z.one_times a) (plus_comm (zeros n) p ∙ plus-zeros p n e)
+    ∙ plus-cons (a *ℤ pos 1) (pos 0) (zeros n) p
+    ∙ ap₂ (λ x y. x ∷ y) (Z.plus_zero (a *ℤ pos 1) ∙ Z.times_comm a (pos 1) ∙ Z.one_times a) (plus_comm (zeros n) p ∙ plus-zeros p n e)
 
 -- ---- a list with one more coefficient at the end
 pub leading-last : (p : List ℤ) (c : ℤ) → leading (p ++ (c ∷ [])) ≡ c

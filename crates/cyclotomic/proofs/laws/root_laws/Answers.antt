@@ -1,4 +1,4 @@
-use Rattle.std.proofs.Common.{ℕ, ◌*◌, sym, ◌∙◌}
+use Rattle.std.proofs.Common.{◌*◌, sym, ◌∙◌}
 use Rattle.algebra.proofs.SumLaws.{sum_ext}
 use Rattle.algebra.specs.Sums.{power}
 use Rattle.cyclotomic.specs.Cyclotomic.{cyclotomic}
@@ -25,8 +25,8 @@ returns-clause-coefficients c = root_size
 pub returns-clause-vanishing : goal.returns-clause-vanishing
 returns-clause-vanishing c = λ k entry e apart.
     sum_ext (cyclotomic_ring k) k (λ j. root k (j * e)) (λ j. power (cyclotomic_ring k) (root k 1) (j * e))
-        (λ j h. sym (power-root (cyclotomic k) (j * e)))
-        ∙ x_sum_vanishes k entry e apart
+    (λ j h. sym (power-root (cyclotomic k) (j * e)))
+    ∙ x_sum_vanishes k entry e apart
 
 pub returns-clause-cancelling : goal.returns-clause-cancelling
 returns-clause-cancelling c = λ k d u h e. cancel_multiple d u h e

@@ -1,5 +1,5 @@
 -- The table of the code is the listed one.
-use Rattle.std.proofs.Common.{ℕ, sym, ap}
+use Rattle.std.proofs.Common.{ℕ, ap}
 use Rattle.std.specs.Option.{option_map_or}
 use Rattle.cyclotomic.specs.Conductors.{conductors, phi_of}
 use Rattle.cyclotomic.proofs.table.phi.Goals as goal

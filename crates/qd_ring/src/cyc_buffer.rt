@@ -1,0 +1,51 @@
+//! Polynomials of up to 120 coefficients, in which products and images are formed before they are reduced.
+
+ghost use Rattle.std.specs.Prelude.{◌≡◌, ℕ, ◌+◌, ◌*◌, ◌^◌, ◌<◌, ◌≤◌, ℤ, ◌+ℤ◌, ◌-ℤ◌, ◌*ℤ◌, neg_ℤ, nat_abs, pos, List, [], ◌∷◌, ◌++◌, length};
+ghost use Rattle.cyclotomic.specs.Polynomial.{leading};
+ghost use Rattle.cyclotomic.specs.Division.{cancelled};
+ghost use Rattle.cyclotomic.specs.Fit.{size_of};
+ghost use Rattle.cyclotomic.specs.Ring.{value_of, value_sum, value_multiple, value_root};
+ghost use Rattle.cyclotomic.proofs.Sizes.{total_of};
+
+// a - c * sign, for a sign of -1, 0 or 1.
+fn less_signed(a: i128, c: i128, sign: i8) -> i128
+    requires a_small { nat_abs a < 2 ^ 126 }
+    requires c_small { nat_abs c < 2 ^ 126 }
+    requires ternary { nat_abs sign ≤ 1 }
+    ensures { result ≡ a +ℤ (neg_ℤ c *ℤ sign) }
+{
+    if sign > 0 {
+        a - c
+    } else if sign < 0 {
+        a + c
+    } else {
+        a
+    }
+}
+
+// Adds c at the place v: the multiple c x^v.
+fn add_at(buffer: &mut [i128], v: usize, c: i128)
+    requires place { v < length buffer.old }
+    requires room { total_of buffer.old + nat_abs c < 2 ^ 126 }
+    ensures value { (m : List ℤ) → value_of m buffer.new ≡ value_sum (value_of m buffer.old) (value_multiple c (value_root m v)) }
+    ensures total { total_of buffer.new ≤ total_of buffer.old + nat_abs c }
+{
+    buffer[v] += c;
+}
+
+// One step of long division by the monic polynomial with the lower coefficients `low`, in place: the last number of the
+// window is cancelled, and stays where it was.
+fn cancel(window: &mut [i128], low: &[i8])
+    requires size { length window.old ≡ length low.now + 1 }
+    requires ternary { size_of low.now ≤ 1 }
+    requires room { size_of window.old < 2 ^ 126 }
+    ensures { window.new ≡ cancelled (low.now ++ (pos 1 ∷ [])) window.old ++ (leading window.old ∷ []) }
+{
+    let last = window[low.len()];
+    if last == 0 {
+        return;
+    }
+    for j in 0..low.len() {
+        window[j] = less_signed(window[j], last, low[j]);
+    }
+}
