@@ -2,12 +2,14 @@
 use Rattle.std.proofs.Common.{◌≡◌, ℕ, zero, suc, ◌+◌, ◌-◌, ◌<◌, ◌≤◌, ◌^◌, min, Bool, true, false, ◌&&◌, List, [], ◌∷◌, ◌++◌, length, take, drop, map, get_or, refl, ap, sym, subst, ◌∙◌, inl, inr, ◌⊎◌, arith, eqb, ltb, cond, replicate, append-nil, length-append, take-append-drop, Option, Some, None}
 use Rattle.std.specs.Prelude.{ℤ, pos, negsuc, neg_ℤ, nat_abs}
 use Rattle.std.specs.List.{list_all}
-use Rattle.std.proofs.lemmas.Bool.{cases_Bool, cases_lt, eqb-true, eqb-false, and_parts, lt-ltb, le-ltb, ltb-true, true≢false, false≢true}
+use Rattle.std.proofs.lemmas.Bool.{cases_Bool, cases_lt, eqb-true, eqb-false, and_parts, lt-ltb, le-ltb, le-leb, lt-leb, ltb-true, true≢false, false≢true}
 use Rattle.std.proofs.lemmas.List.{map-append, drop-replicate, length-replicate}
 use Rattle.std.proofs.Math.Nat.{min-eq_left, min-eq_right}
 use Rattle.std.proofs.Common.{length-take}
 use mathlib.Core.Path.{ap₂}
-use Rattle.qd_ring.specs.ValueText.{term_text, terms_text, value_text, or_nought, are_small, Spells}
+use Rattle.cyclotomic.specs.Fit.{size_of}
+use Rattle.qd_ring.specs.CycArrays.{is_small}
+use Rattle.qd_ring.specs.ValueText.{term_text, terms_text, value_text, or_nought, Spells}
 use Rattle.qd_ring.specs.ValueReading.{coefficients_of, term_of, term_after_sign}
 use Rattle.qd_ring.proofs.ValueTextLaws.{terms_nil, terms_nought, terms_term, term_nonempty}
 use Rattle.qd_ring.proofs.TermLaws.{capped, front_dropped}
@@ -53,15 +55,34 @@ capped_same : (c : ℤ) → nat_abs c < 2 ^ 120 → capped c ≡ c
 capped_same (pos n) h = ap pos (min-eq_left (omega arith))
 capped_same (negsuc n) h = ap (λ m. neg_ℤ (pos m)) (min-eq_left (omega arith))
 
-pub small_capped : (cs : List ℤ) → are_small (map capped cs) ≡ are_small cs
-small_capped [] = refl
-small_capped (c ∷ cs) = ap₂ (λ a b. a && b) (capped_small c) (small_capped cs)
+-- each magnitude is below 2^120
+abbrev all_small : List ℤ → Bool
+all_small cs = list_all (λ c. ltb (nat_abs c) (2 ^ 120)) cs
 
-pub capped_all : (cs : List ℤ) → are_small cs ≡ true → map capped cs ≡ cs
-capped_all [] h = refl
-capped_all (c ∷ cs) h =
-    let parts = and_parts (ltb (nat_abs c) (2 ^ 120)) (are_small cs) h in
-    ap₂ (λ d ds. d ∷ ds) (capped_same c (ltb-true (nat_abs c) (2 ^ 120) parts.0)) (capped_all cs parts.1)
+pub small_all : (cs : List ℤ) → is_small cs ≡ all_small cs
+unfolding is_small size_of
+small_all [] = refl
+small_all (c ∷ cs) = elim (cases_lt (nat_abs c) (2 ^ 120)) [
+    inl h ↦ elim (cases_lt (size_of cs) (2 ^ 120)) [
+        inl k ↦ le-leb _ _ (omega arith) ∙ sym (ap₂ (λ a b. a && b) (lt-ltb (nat_abs c) (2 ^ 120) h) (sym (small_all cs) ∙ le-leb _ _ (omega arith)))
+      | inr k ↦ lt-leb _ _ (omega arith) ∙ sym (ap₂ (λ a b. a && b) (lt-ltb (nat_abs c) (2 ^ 120) h) (sym (small_all cs) ∙ lt-leb _ _ (omega arith))) ]
+  | inr h ↦ lt-leb _ _ (omega arith) ∙ sym (ap (λ a. a && all_small cs) (le-ltb (nat_abs c) (2 ^ 120) h)) ]
+
+all_capped : (cs : List ℤ) → all_small (map capped cs) ≡ all_small cs
+all_capped [] = refl
+all_capped (c ∷ cs) = ap₂ (λ a b. a && b) (capped_small c) (all_capped cs)
+
+pub small_capped : (cs : List ℤ) → is_small (map capped cs) ≡ is_small cs
+small_capped cs = small_all (map capped cs) ∙ all_capped cs ∙ sym (small_all cs)
+
+capped_each : (cs : List ℤ) → all_small cs ≡ true → map capped cs ≡ cs
+capped_each [] h = refl
+capped_each (c ∷ cs) h =
+    let parts = and_parts (ltb (nat_abs c) (2 ^ 120)) (all_small cs) h in
+    ap₂ (λ d ds. d ∷ ds) (capped_same c (ltb-true (nat_abs c) (2 ^ 120) parts.0)) (capped_each cs parts.1)
+
+pub capped_all : (cs : List ℤ) → is_small cs ≡ true → map capped cs ≡ cs
+capped_all cs h = capped_each cs (sym (small_all cs) ∙ h)
 
 map_zeros : (n : ℕ) → map capped (replicate n (pos 0)) ≡ replicate n (pos 0)
 map_zeros zero = refl
@@ -137,11 +158,11 @@ module _ (text : List ℕ) (phi : ℕ) (small : phi ≤ 42) where
             absurd (cc (sym none ∙ read_some text phi small ds t d))
         | inr d ↦ ap (map capped) ((none_some text phi small cs s (omega arith)).1 ∙ sym (none_some text phi small ds t (omega arith)).1) ] ]
 
-  pub agree_small : (cs ds : List ℤ) → Spells text phi cs → Spells text phi ds → are_small cs ≡ are_small ds
-  agree_small cs ds s t = sym (small_capped cs) ∙ ap are_small (agree cs ds s t) ∙ small_capped ds
+  pub agree_small : (cs ds : List ℤ) → Spells text phi cs → Spells text phi ds → is_small cs ≡ is_small ds
+  agree_small cs ds s t = sym (small_capped cs) ∙ ap is_small (agree cs ds s t) ∙ small_capped ds
 
   -- small coefficients of one text are equal
-  pub agree_equal : (cs ds : List ℤ) → Spells text phi cs → Spells text phi ds → are_small cs ≡ true → cs ≡ ds
+  pub agree_equal : (cs ds : List ℤ) → Spells text phi cs → Spells text phi ds → is_small cs ≡ true → cs ≡ ds
   agree_equal cs ds s t h =
       sym (capped_all cs h) ∙ agree cs ds s t ∙ capped_all ds (sym (agree_small cs ds s t) ∙ h)
 
@@ -174,17 +195,20 @@ module _ (text : List ℕ) (phi : ℕ) (small : phi ≤ 42) where
       front_dropped_z [] ys = refl
       front_dropped_z (x ∷ xs) ys = front_dropped_z xs ys
 
-  pub found_small : (ds : List ℤ) → length ds ≡ 42 → drop phi ds ≡ replicate (42 - phi) (pos 0) → coefficients_of phi 0 false text ≡ Some (take phi ds) → are_small ds ≡ true → Spells text phi ds
+  pub found_small : (ds : List ℤ) → length ds ≡ 42 → drop phi ds ≡ replicate (42 - phi) (pos 0) → coefficients_of phi 0 false text ≡ Some (take phi ds) → is_small ds ≡ true → Spells text phi ds
   found_small ds count zeros h few =
       let f = found ds count zeros h in
-      let same : f.0 ≡ ds = sym (capped_all f.0 (sym (small_capped f.0) ∙ ap are_small f.2 ∙ few)) ∙ f.2 in
+      let same : f.0 ≡ ds = sym (capped_all f.0 (sym (small_capped f.0) ∙ ap is_small f.2 ∙ few)) ∙ f.2 in
       subst (Spells text phi) same f.1
 
-  pub found_wide : (ds : List ℤ) → length ds ≡ 42 → drop phi ds ≡ replicate (42 - phi) (pos 0) → coefficients_of phi 0 false text ≡ Some (take phi ds) → are_small ds ≡ false
-      → (cs : List ℤ) × Spells text phi cs × (are_small cs ≡ false)
-  found_wide ds count zeros h many = let f = found ds count zeros h in (f.0, f.1, sym (small_capped f.0) ∙ ap are_small f.2 ∙ many)
+  pub found_wide : (ds : List ℤ) → length ds ≡ 42 → drop phi ds ≡ replicate (42 - phi) (pos 0) → coefficients_of phi 0 false text ≡ Some (take phi ds) → is_small ds ≡ false
+      → (cs : List ℤ) × Spells text phi cs × (is_small cs ≡ false)
+  found_wide ds count zeros h many = let f = found ds count zeros h in (f.0, f.1, sym (small_capped f.0) ∙ ap is_small f.2 ∙ many)
 
 pub one_byte : (text : List ℕ) → length text ≡ 1 → get_or text 0 0 ≡ 48 → text ≡ 48 ∷ []
 one_byte [] h e = absurd (omega arith)
 one_byte (x ∷ []) h e = ap (λ c. c ∷ []) e
 one_byte (x ∷ y ∷ text) h e = absurd (omega arith)
+
+pub nought_small : is_small (replicate 42 (pos 0)) ≡ true
+nought_small = small_all (replicate 42 (pos 0))

@@ -1,7 +1,8 @@
-ghost use Rattle.std.specs.Prelude.{ℤ, List, true, ◌↔◌, IfOk, ◌≡◌, ◌≤◌, ◌+◌, ◌<◌, ◌^◌, min, pos, length, take, drop, replicate, None, Some, IfNone, IfSome, ◌==◌, ◌-◌, false, slice_index};
-ghost use Rattle.std.specs.List.{prefix_len};
+ghost use Rattle.std.specs.Prelude.{nat_abs, nat_lt, ℤ, List, true, ◌↔◌, IfOk, ◌≡◌, ◌≤◌, ◌+◌, ◌<◌, ◌^◌, min, pos, length, take, drop, replicate, None, Some, IfNone, IfSome, ◌==◌, ◌-◌, false, slice_index};
+ghost use Rattle.std.specs.List.{list_all, prefix_len};
 ghost use Rattle.qd_ring.specs.ValueReading.{is_digit, number, sign_len, numeral_len, power_of, term_of, signed, coefficients_of};
-ghost use Rattle.qd_ring.specs.ValueText.{are_small, Spells};
+ghost use Rattle.qd_ring.specs.ValueText.{Spells};
+ghost use Rattle.qd_ring.specs.CycArrays.{is_small};
 ghost use Rattle.qd_ring.specs.ValueOutcome.{IsRead};
 
 use crate::plain::{Plain, ValueFault};
@@ -142,7 +143,7 @@ fn read_coefficients(text: &[u8], phi: u32) -> Option<[i128; 42]>
 }
 
 fn are_small(coefficients: &[i128]) -> bool
-    ensures { result ≡ are_small coefficients.now }
+    ensures { result ≡ list_all (λ c. nat_lt (nat_abs c) (2 ^ 120)) coefficients.now }
 {
     coefficients
         .iter()
@@ -177,9 +178,9 @@ pub fn read_plain(bytes: &Vec<u8>, start: u32, len: u32, phi: u32) -> Result<Pla
     requires within { start + len ≤ length bytes.now.items }
     requires powers { phi ≤ 42 }
     ensures spelled { IfOk result (λ p. Spells (take len (drop start bytes.now.items)) phi p.coefficients) }
-    ensures small { IfOk result (λ p. are_small p.coefficients ≡ true) }
-    ensures value { (cs : List ℤ) → Spells (take len (drop start bytes.now.items)) phi cs → are_small cs ≡ true → result ≡ Ok (record { coefficients = cs }) }
-    ensures wide { (result ≡ Err ValueFault.Wide) ↔ ((cs : List ℤ) × Spells (take len (drop start bytes.now.items)) phi cs × (are_small cs ≡ false)) }
+    ensures small { IfOk result (λ p. is_small p.coefficients ≡ true) }
+    ensures value { (cs : List ℤ) → Spells (take len (drop start bytes.now.items)) phi cs → is_small cs ≡ true → result ≡ Ok (record { coefficients = cs }) }
+    ensures wide { (result ≡ Err ValueFault.Wide) ↔ ((cs : List ℤ) × Spells (take len (drop start bytes.now.items)) phi cs × (is_small cs ≡ false)) }
     ensures not_value { (result ≡ Err ValueFault.NotValue) ↔ ((cs : List ℤ) → Spells (take len (drop start bytes.now.items)) phi cs → ⊥) }
 {
     let start = start as usize;
