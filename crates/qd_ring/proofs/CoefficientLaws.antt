@@ -1,11 +1,11 @@
 -- Lists of coefficients, written and read.
-use Rattle.std.proofs.Common.{◌≡◌, ℕ, zero, suc, ◌+◌, ◌-◌, ◌<◌, ◌≤◌, ◌^◌, min, Bool, true, false, ◌&&◌, List, [], ◌∷◌, ◌++◌, length, take, drop, map, get_or, refl, ap, sym, subst, ◌∙◌, inl, inr, arith, eqb, cond, replicate, append-nil, length-append, zero-add, Option, Some, None}
-use Rattle.std.proofs.Math.Nat.{add-zero, add-suc, suc-add}
+use Rattle.std.proofs.Common.{◌≡◌, ℕ, zero, suc, ◌+◌, ◌<◌, ◌≤◌, min, Bool, true, false, ◌&&◌, List, [], ◌∷◌, ◌++◌, length, drop, map, refl, ap, sym, subst, ◌∙◌, inl, inr, arith, eqb, cond, replicate, length-append, zero-add, Option, Some, None}
+use Rattle.std.proofs.Math.Nat.{add-zero, suc-add}
 use Rattle.std.specs.Prelude.{ℤ, pos, negsuc, nat_abs, option_and_then, option_map}
-use Rattle.std.proofs.lemmas.Bool.{cases_Bool, eqb-true, eqb-false, eq-eqb, ne_eqb, true≢false, false≢true}
+use Rattle.std.proofs.lemmas.Bool.{cases_Bool, eqb-true, eqb-false, eq-eqb, ne_eqb, true≢false}
 use Rattle.qd_ring.specs.declared.value_reader.Term.{Term}
 use Rattle.qd_ring.specs.ValueText.{term_text, terms_text}
-use Rattle.qd_ring.specs.ValueReading.{is_digit, term_after_sign, term_of, term_here, coefficients_of}
+use Rattle.qd_ring.specs.ValueReading.{term_after_sign, term_of, term_here, coefficients_of}
 use Rattle.qd_ring.proofs.ValueTextLaws.{terms_nil, terms_nought, terms_term, term_nonempty}
 use Rattle.qd_ring.proofs.TermLaws.{capped, EndsTerm, TermRead, term_written, term_read, front_dropped}
 

@@ -10,3 +10,4 @@ pub mod ReadingSteps
 pub mod ValueLaws
 pub mod ValueOutcomeLaws
 pub mod BufferLaws
+pub mod RowSteps

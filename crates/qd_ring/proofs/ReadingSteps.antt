@@ -1,5 +1,5 @@
 -- Steps of the loop that reads the coefficients of a value.
-use Rattle.std.proofs.Common.{◌≡◌, ℕ, zero, suc, ◌+◌, ◌-◌, ◌<◌, ◌≤◌, Bool, true, false, List, [], ◌∷◌, ◌++◌, length, take, drop, set, refl, ap, sym, ◌∙◌, arith, ltb, replicate, length-set, length-drop, Option, Some, None}
+use Rattle.std.proofs.Common.{◌≡◌, ℕ, suc, ◌+◌, ◌-◌, ◌<◌, ◌≤◌, Bool, true, false, List, [], ◌∷◌, ◌++◌, length, take, drop, set, refl, ap, sym, ◌∙◌, arith, ltb, replicate, length-set, length-drop, Option, Some, None}
 use Rattle.std.proofs.Math.Seq.{take-add}
 use Rattle.std.proofs.lemmas.List.{take_more_set, drop-set-lt, take-replicate, drop-replicate, drop-drop, drop_all, take_all}
 use Rattle.std.proofs.Math.Nat.{sub-zero}
@@ -8,7 +8,7 @@ use Rattle.std.specs.Prelude.{ℤ, pos, option_map}
 use mathlib.Core.List.{append_assoc}
 use Rattle.qd_ring.specs.declared.value_reader.Term.{Term}
 use Rattle.qd_ring.specs.ValueReading.{term_of, coefficients_of}
-use Rattle.qd_ring.proofs.TermLaws.{term_read, TermRead}
+use Rattle.qd_ring.proofs.TermLaws.{term_read}
 use Rattle.qd_ring.proofs.CoefficientLaws.{skipped_to_term, term_missed, no_term_missed, ended, not_begun}
 
 -- what is read of the rest of a text

@@ -1,14 +1,14 @@
 -- Terms of a value, written and read.
-use Rattle.std.proofs.Common.{◌≡◌, ℕ, zero, suc, ◌+◌, ◌-◌, ◌*◌, ◌^◌, ◌<◌, ◌≤◌, min, Bool, true, false, ◌&&◌, List, [], ◌∷◌, ◌++◌, length, take, drop, get_or, refl, ap, sym, subst, ◌∙◌, inl, inr, arith, leb, eqb, cond, append-nil, length-append, take-append-drop, Option, Some, None}
+use Rattle.std.proofs.Common.{◌≡◌, ℕ, zero, suc, ◌+◌, ◌^◌, ◌<◌, ◌≤◌, min, Bool, true, false, ◌&&◌, List, [], ◌∷◌, ◌++◌, length, take, drop, get_or, refl, ap, sym, subst, ◌∙◌, arith, leb, eqb, cond, length-append, take-append-drop, Option, Some, None}
 use Rattle.std.proofs.Math.Numerals.{one-add}
-use Rattle.std.specs.Prelude.{ℤ, pos, negsuc, neg_ℤ, nat_abs, option_and_then}
-use Rattle.std.specs.List.{list_all, prefix_len}
-use Rattle.std.proofs.lemmas.Bool.{cases_Bool, and_parts, and_from, le-leb, lt-leb, leb-true, eqb-true, eq-eqb, ne_eqb, true≢false, false≢true}
+use Rattle.std.specs.Prelude.{ℤ, pos, negsuc, nat_abs, option_and_then}
+use Rattle.std.specs.List.{prefix_len}
+use Rattle.std.proofs.lemmas.Bool.{and_parts, and_from, le-leb, leb-true, eqb-true, ne_eqb}
 use mathlib.Core.List.{append_assoc}
 use Rattle.std.proofs.lemmas.List.{drop-drop}
 use Rattle.qd_ring.specs.declared.value_reader.Term.{Term}
 use Rattle.qd_ring.specs.ValueText.{numeral, sign_text, power_text, term_text}
-use Rattle.qd_ring.specs.ValueReading.{is_digit, number, signed, sign_len, numeral_len, power_of, term_after_sign, term_of}
+use Rattle.qd_ring.specs.ValueReading.{is_digit, number, signed, numeral_len, power_of, term_after_sign, term_of}
 use Rattle.qd_ring.proofs.NumeralLaws.{IsLeading, digits_numeral, number_numeral, leading_numeral, numeral_number, number_positive, digits_front, digits_taken}
 
 -- a whole number whose magnitude is cut at 2^120

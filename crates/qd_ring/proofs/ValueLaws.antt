@@ -1,10 +1,10 @@
 -- Texts of values: which text is that of which coefficients.
-use Rattle.std.proofs.Common.{◌≡◌, ℕ, zero, suc, ◌+◌, ◌-◌, ◌<◌, ◌≤◌, ◌^◌, min, Bool, true, false, ◌&&◌, List, [], ◌∷◌, ◌++◌, length, take, drop, map, get_or, refl, ap, sym, subst, ◌∙◌, inl, inr, ◌⊎◌, arith, eqb, ltb, cond, replicate, append-nil, length-append, take-append-drop, Option, Some, None}
+use Rattle.std.proofs.Common.{◌≡◌, ℕ, zero, suc, ◌-◌, ◌<◌, ◌≤◌, ◌^◌, min, Bool, true, false, ◌&&◌, List, [], ◌∷◌, ◌++◌, length, take, drop, map, get_or, refl, ap, sym, subst, ◌∙◌, inl, inr, arith, eqb, ltb, replicate, length-append, take-append-drop, Some, None}
 use Rattle.std.specs.Prelude.{ℤ, pos, negsuc, neg_ℤ, nat_abs}
 use Rattle.std.specs.List.{list_all}
-use Rattle.std.proofs.lemmas.Bool.{cases_Bool, cases_lt, eqb-true, eqb-false, and_parts, lt-ltb, le-ltb, le-leb, lt-leb, ltb-true, true≢false, false≢true}
+use Rattle.std.proofs.lemmas.Bool.{cases_Bool, cases_lt, eqb-true, eqb-false, and_parts, lt-ltb, le-ltb, le-leb, lt-leb, ltb-true}
 use Rattle.std.proofs.lemmas.List.{map-append, drop-replicate, length-replicate}
-use Rattle.std.proofs.Math.Nat.{min-eq_left, min-eq_right}
+use Rattle.std.proofs.Math.Nat.{min-eq_left}
 use Rattle.std.proofs.Common.{length-take}
 use mathlib.Core.Path.{ap₂}
 use Rattle.cyclotomic.specs.Fit.{size_of}
@@ -12,8 +12,8 @@ use Rattle.qd_ring.specs.CycArrays.{is_small}
 use Rattle.qd_ring.specs.ValueText.{term_text, terms_text, value_text, or_nought, Spells}
 use Rattle.qd_ring.specs.ValueReading.{coefficients_of, term_of, term_after_sign}
 use Rattle.qd_ring.proofs.ValueTextLaws.{terms_nil, terms_nought, terms_term, term_nonempty}
-use Rattle.qd_ring.proofs.TermLaws.{capped, front_dropped}
-use Rattle.qd_ring.proofs.CoefficientLaws.{CoefficientsRead, coefficients_read, coefficients_written, no_term_missed}
+use Rattle.qd_ring.proofs.TermLaws.{capped}
+use Rattle.qd_ring.proofs.CoefficientLaws.{coefficients_read, coefficients_written, no_term_missed}
 
 -- ---- zeros
 

@@ -1,7 +1,7 @@
 -- What a text is read as is determined.
 use Rattle.std.proofs.Math.Nat.{add-sub_cancel_left}
-use Rattle.std.proofs.Common.{◌≡◌, ℕ, ◌+◌, ◌-◌, take, drop, subst, ◌≤◌, Bool, true, false, List, Result, Ok, Err, refl, ap, sym, ◌∙◌}
-use Rattle.std.specs.Prelude.{ℤ, ◌↔◌, OnOk, IfOk}
+use Rattle.std.proofs.Common.{◌≡◌, ℕ, ◌+◌, ◌-◌, take, drop, subst, ◌≤◌, true, false, List, Result, Ok, Err, refl, ap, sym, ◌∙◌}
+use Rattle.std.specs.Prelude.{ℤ, ◌↔◌}
 use Rattle.std.proofs.lemmas.Bool.{true≢false, false≢true}
 use Rattle.qd_ring.specs.declared.plain.Plain.{Plain}
 use Rattle.qd_ring.specs.declared.plain.ValueFault.{ValueFault}

@@ -1,11 +1,10 @@
 -- Laws of the texts of values.
 use Rattle.std.proofs.Common.{◌≡◌, ℕ, zero, suc, ◌+◌, Bool, true, false, List, [], ◌∷◌, ◌++◌, length, take, get_or, refl, sym, ◌∙◌, ap, ◌<◌, arith, eqb}
 use Rattle.std.specs.Prelude.{ℤ, pos, negsuc, nat_abs, codes, ◌||◌}
-use Rattle.std.specs.List.{list_any}
 use mathlib.Core.List.{append_assoc}
 use Rattle.std.proofs.Common.{ltb, length-append, append-nil, inl, inr}
 use Rattle.std.proofs.Math.Nat.{add-zero, add-suc, suc-add}
-use Rattle.std.proofs.lemmas.Bool.{eqb-false, lt-ltb, le-ltb, ne_eqb, eq-eqb, cases_Bool, cases_lt}
+use Rattle.std.proofs.lemmas.Bool.{eqb-false, lt-ltb, le-ltb, ne_eqb, cases_Bool, cases_lt}
 use Rattle.std.proofs.lemmas.List.{take_more}
 use Rattle.std.proofs.Common.{length-take}
 use Rattle.std.proofs.Common.{to_z, of_z}

@@ -4,3 +4,4 @@ pub mod Thirds
 pub mod ValueText
 pub mod ValueReading
 pub mod ValueOutcome
+pub mod RowLists

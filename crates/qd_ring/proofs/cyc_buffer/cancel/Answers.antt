@@ -1,5 +1,5 @@
 -- Each number is changed as in a step of long division, and every number on the way fits.
-use Rattle.std.proofs.Common.{◌≡◌, ◌+◌, ◌^◌, ◌<◌, ◌≤◌, suc, length, take, get_or, ap, sym, subst, ◌∙◌, refl, arith, nat_abs, pos}
+use Rattle.std.proofs.Common.{◌≡◌, ◌^◌, ◌<◌, ◌≤◌, length, take, ap, sym, subst, ◌∙◌, refl, arith, nat_abs}
 use Rattle.std.proofs.Math.Numerals.{add-one}
 use Rattle.std.proofs.Math.Seq.{take-length}
 use mir.Syntax.{w128}

@@ -1,5 +1,5 @@
 -- Each branch has the listed coefficients, and the last is taken at the last of these conductors alone.
-use Rattle.std.proofs.Common.{◌≡◌, ◌≢◌, ℕ, ◌<◌, ◌≤◌, true, sym, ap, ◌∙◌, arith}
+use Rattle.std.proofs.Common.{◌≡◌, ◌≢◌, ℕ, ◌<◌, true, sym, ap, arith}
 use Rattle.std.proofs.lemmas.Bool.Decides.{nat_tests}
 use Rattle.cyclotomic.specs.Conductors.{conductors, is_conductor, reductions, reduction_of}
 use Rattle.qd_ring.proofs.reduction.first_reduction.Goals as goal

@@ -1,4 +1,4 @@
-use Rattle.std.proofs.Common.{◌≡◌, refl, sym, ◌∙◌, ap, subst, arith, [], ◌∷◌, replicate, length, get_or}
+use Rattle.std.proofs.Common.{sym, ◌∙◌, ap, subst, replicate, length, get_or}
 use Rattle.std.specs.Prelude.{pos}
 use Rattle.qd_ring.specs.ValueText.{Spells}
 use Rattle.qd_ring.proofs.ValueLaws.{one_byte, nought_spelled, nought_small, small_all, unread, found_small, found_wide}

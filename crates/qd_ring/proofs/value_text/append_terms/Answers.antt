@@ -1,5 +1,5 @@
-use Rattle.std.proofs.Common.{◌≡◌, ◌≢◌, ◌∙◌, ap, sym, ◌++◌, refl, arith, false, rules, ltb, [], take, length, get_or, to_z, of_z}
-use Rattle.std.specs.Prelude.{pos, nat_abs}
+use Rattle.std.proofs.Common.{◌∙◌, ap, sym, ◌++◌, false, rules, ltb, [], take, length, get_or, to_z, of_z}
+use Rattle.std.specs.Prelude.{pos}
 use Rattle.std.specs.Int.{w128}
 use Rattle.std.proofs.lemmas.Int.{to_z-of_z}
 use mir.Val.{SFits}
