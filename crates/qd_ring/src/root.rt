@@ -85,3 +85,6 @@ impl<const K: u32> UnitGroup for Root<K> {
         }
     }
 }
+
+#[cfg(test)]
+mod tests;

@@ -88,3 +88,6 @@ impl<const K: u32> Rows<K> {
         self.rows[i as usize][p as usize]
     }
 }
+
+#[cfg(test)]
+mod tests;

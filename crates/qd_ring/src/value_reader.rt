@@ -187,3 +187,6 @@ pub fn read_plain(bytes: &Vec<u8>, start: u32, len: u32, phi: u32) -> Result<Pla
     let end = start + len as usize;
     read_value(&bytes[start..end], phi)
 }
+
+#[cfg(test)]
+mod tests;
