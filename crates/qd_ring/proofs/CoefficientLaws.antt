@@ -56,10 +56,10 @@ skipped_to_term zero n p later text term h e =
     rw zero-add (here n p later text term h (e ∙ add-zero p) ∙ ap (λ q. option_map (λ cs. term.coefficient ∷ cs) (coefficients_of n (suc q) true (drop term.len text))) (sym (add-zero p)))
 skipped_to_term (suc k) n p later text term h e =
     rw suc-add
-      (other (k + suc n) p later text term h (λ z. omega arith)
-      ∙ ap skipped (skipped_to_term k n (suc p) later text term h (omega arith))
-      ∙ both (coefficients_of n (suc (suc p + k)) true (drop term.len text))
-      ∙ ap (λ q. option_map (λ cs. pos 0 ∷ (replicate k (pos 0) ++ (term.coefficient ∷ cs))) (coefficients_of n (suc q) true (drop term.len text))) (omega arith))
+    (other (k + suc n) p later text term h (λ z. omega arith)
+    ∙ ap skipped (skipped_to_term k n (suc p) later text term h (omega arith))
+    ∙ both (coefficients_of n (suc (suc p + k)) true (drop term.len text))
+    ∙ ap (λ q. option_map (λ cs. pos 0 ∷ (replicate k (pos 0) ++ (term.coefficient ∷ cs))) (coefficients_of n (suc q) true (drop term.len text))) (omega arith))
   where
     both : (o : Option (List ℤ)) → skipped (option_map (λ cs. replicate k (pos 0) ++ (term.coefficient ∷ cs)) o) ≡ option_map (λ cs. pos 0 ∷ (replicate k (pos 0) ++ (term.coefficient ∷ cs))) o
     both None = refl
@@ -117,7 +117,7 @@ read_nought n p later text cut r = record {
   written = terms_nought later p (pos 0) r.coefficients refl ∙ r.written;
   count = ap suc r.count;
   cut_is = ap (λ cs. pos 0 ∷ cs) r.cut_is;
-  begun = r.begun
+  begun = r.begun;
 }
 
 -- a term before coefficients that are read
@@ -128,10 +128,10 @@ read_more n p later text term cut small t e r =
     record {
       coefficients = t.coefficient ∷ r.coefficients;
       written = terms_term later p t.coefficient r.coefficients (ne_eqb (nat_abs t.coefficient) 0 (λ z. omega (arith, t.some)))
-        ∙ ap (λ w. term_text later p t.coefficient ++ w) r.written ∙ ap (λ q. term_text later q t.coefficient ++ drop term.len text) (sym place) ∙ sym t.written;
+          ∙ ap (λ w. term_text later p t.coefficient ++ w) r.written ∙ ap (λ q. term_text later q t.coefficient ++ drop term.len text) (sym place) ∙ sym t.written;
       count = ap suc r.count;
       cut_is = ap (λ cs. capped t.coefficient ∷ cs) r.cut_is ∙ ap (λ c. c ∷ cut) (sym t.coefficient_is);
-      begun = λ l. omega (arith, length-append (term_text later t.power t.coefficient) (drop term.len text), ap length t.written, term_nonempty later t.power t.coefficient t.some)
+      begun = λ l. omega (arith, length-append (term_text later t.power t.coefficient) (drop term.len text), ap length t.written, term_nonempty later t.power t.coefficient t.some);
     }
 
 pub coefficients_read : (n p : ℕ) (later : Bool) (text : List ℕ) (cut : List ℤ) → p + n ≤ 42 → coefficients_of n p later text ≡ Some cut → CoefficientsRead n p later text cut
@@ -152,21 +152,23 @@ coefficients_read (suc n) p later text cut small h =
         let m = mapped (λ cs. pos 0 ∷ cs) (coefficients_of n (suc p) later text) cut (sym (nothing n p later text e) ∙ h) in
         subst (CoefficientsRead (suc n) p later text) m.2 (read_nought n p later text m.0 (rest m.0 later text m.1))
     by (Some term) e rest = elim (cases_Bool (eqb term.power p)) [
-        inl same ↦
+      | inl same ↦
           let place : term.power ≡ p = eqb-true term.power p same in
           let m = mapped (λ cs. term.coefficient ∷ cs) (coefficients_of n (suc p) true (drop term.len text)) cut (sym (here n p later text term e place) ∙ h) in
           subst (CoefficientsRead (suc n) p later text) m.2 (read_more n p later text term m.0 (omega arith) (term_read later text term e) place (rest m.0 true (drop term.len text) m.1))
       | inr apart ↦
           let m = mapped (λ cs. pos 0 ∷ cs) (coefficients_of n (suc p) later text) cut (sym (other n p later text term e (eqb-false term.power p apart)) ∙ h) in
-          subst (CoefficientsRead (suc n) p later text) m.2 (read_nought n p later text m.0 (rest m.0 later text m.1)) ]
+          subst (CoefficientsRead (suc n) p later text) m.2 (read_nought n p later text m.0 (rest m.0 later text m.1))
+    ]
 
 -- ---- coefficients are read as they were written
 
 ends_terms : (q : ℕ) (cs : List ℤ) → EndsTerm (terms_text true q cs)
 ends_terms q [] = subst EndsTerm (sym (terms_nil true q)) (record { no_digit = refl; no_letter = refl })
 ends_terms q (c ∷ cs) = elim (cases_Bool (eqb (nat_abs c) 0)) [
-    inl e ↦ subst EndsTerm (sym (terms_nought true q c cs e)) (ends_terms (suc q) cs)
-  | inr e ↦ subst EndsTerm (sym (terms_term true q c cs e)) (sign_ends c (terms_text true (suc q) cs)) ]
+  | inl e ↦ subst EndsTerm (sym (terms_nought true q c cs e)) (ends_terms (suc q) cs)
+  | inr e ↦ subst EndsTerm (sym (terms_term true q c cs e)) (sign_ends c (terms_text true (suc q) cs))
+]
   where
     sign_ends : (d : ℤ) (tail : List ℕ) → EndsTerm (term_text true q d ++ tail)
     sign_ends (pos n) tail = record { no_digit = refl; no_letter = refl }
@@ -183,13 +185,14 @@ is_some c e = omega (arith, eqb-false (nat_abs c) 0 e)
 no_lower : (later : Bool) (q : ℕ) (cs : List ℤ) (term : Term) → q + length cs ≤ 42 → term_of later (terms_text later q cs) ≡ Some term → q ≤ term.power
 no_lower later q [] term small h = absurd (cc (sym (no_term_in_nothing later) ∙ ap (term_of later) (sym (terms_nil later q)) ∙ h))
 no_lower later q (c ∷ cs) term small h = elim (cases_Bool (eqb (nat_abs c) 0)) [
-    inl e ↦ omega (arith, no_lower later (suc q) cs term (omega arith) (ap (term_of later) (sym (terms_nought later q c cs e)) ∙ h))
+  | inl e ↦ omega (arith, no_lower later (suc q) cs term (omega arith) (ap (term_of later) (sym (terms_nought later q c cs e)) ∙ h))
   | inr e ↦
       let written = term_written later q c (terms_text true (suc q) cs) (is_some c e) (ends_terms (suc q) cs) in
       let found : Some (record { coefficient = capped c; power = min q 42; len = length (term_text later q c) }) ≡ Some term =
-          sym written ∙ ap (term_of later) (sym (terms_term later q c cs e)) ∙ h in
+      sym written ∙ ap (term_of later) (sym (terms_term later q c cs e)) ∙ h in
       let power : min q 42 ≡ term.power = ap (λ (o : Option Term). elim o [ Some t ↦ t.power | None ↦ 0 ]) found in
-      omega arith ]
+      omega arith
+]
 
 -- a text whose first term, if any, has a higher power
 skips : (n p : ℕ) (later : Bool) (text : List ℕ) (o : Option Term) → term_of later text ≡ o → ((term : Term) → term_of later text ≡ Some term → suc p ≤ term.power)
@@ -205,7 +208,7 @@ coefficients_written n p later [] count small begun =
     by true b = none_left p true []
     by false b = absurd (omega (arith, ap length (terms_nil false p), b refl))
 coefficients_written n p later (c ∷ cs) count small begun = elim (cases_Bool (eqb (nat_abs c) 0)) [
-    inl e ↦
+  | inl e ↦
       let text = terms_text later (suc p) cs in
       let same = terms_nought later p c cs e in
       let rest = coefficients_written (length cs) (suc p) later cs refl (omega arith) (λ l. omega (arith, begun l, ap length same)) in
@@ -220,4 +223,5 @@ coefficients_written n p later (c ∷ cs) count small begun = elim (cases_Bool (
       ap (λ k. coefficients_of k p later (terms_text later p (c ∷ cs))) (sym count) ∙ ap (coefficients_of (suc (length cs)) p later) same
       ∙ here (length cs) p later (term_text later p c ++ tail) (record { coefficient = capped c; power = min p 42; len = length (term_text later p c) }) written (omega arith)
       ∙ ap (λ t. option_map (λ ds. capped c ∷ ds) (coefficients_of (length cs) (suc p) true t)) (front_dropped (term_text later p c) tail)
-      ∙ ap (option_map (λ ds. capped c ∷ ds)) rest ]
+      ∙ ap (option_map (λ ds. capped c ∷ ds)) rest
+]

@@ -18,7 +18,7 @@ module _ {A E : Type 0} (R : CommRing A) (of : E → A) (xs : List E) where
   pub front_fits : (rules : FitRules R) (i : ℕ) → rules.overflows (map of xs) ≡ false → rules.fits (sum_list R (map of (take i xs))) ≡ true
   front_fits rules i h =
       rules.sum_fits (map of (take i xs)) (rules.front (map of (take i xs)) (map of (drop i xs))
-        (ap rules.overflows (sym (map-append of (take i xs) (drop i xs)) ∙ ap (map of) (take-append-drop i xs)) ∙ h))
+      (ap rules.overflows (sym (map-append of (take i xs) (drop i xs)) ∙ ap (map of) (take-append-drop i xs)) ∙ h))
 
   -- where a partial sum doesn't fit, the listed sum overflows
   pub overflow_shown : (rules : FitRules R) (i : ℕ) (s : A) (x : E) → i < length xs → x ≡ get_or xs i x → s ≡ sum_list R (map of (take i xs)) → rules.fits (R.add s (of x)) ≡ false → rules.overflows (map of xs) ≡ true

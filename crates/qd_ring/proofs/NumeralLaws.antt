@@ -13,8 +13,9 @@ use Rattle.qd_ring.proofs.Fronts.{numeral_step, numeral_digit}
 numeral_by_steps : (P : ℕ → List ℕ → Type 0) (one : (n : ℕ) → 0 < n → n < 10 → P n ((48 + n) ∷ [])) (more : (n : ℕ) (ds : List ℕ) → 10 ≤ n → P (n / 10) ds → P n (ds ++ ((48 + n % 10) ∷ []))) → (fuel n : ℕ) → n ≤ fuel → 0 < n → P n (numeral n)
 numeral_by_steps P one more zero n h p = absurd (omega arith)
 numeral_by_steps P one more (suc fuel) n h p = elim (cases_lt n 10) [
-    inl small ↦ subst (P n) (sym (numeral_digit n p small)) (one n p small)
-  | inr big ↦ subst (P n) (sym (numeral_step n p)) (more n (numeral (n / 10)) big (numeral_by_steps P one more fuel (n / 10) (omega arith) (omega arith))) ]
+  | inl small ↦ subst (P n) (sym (numeral_digit n p small)) (one n p small)
+  | inr big ↦ subst (P n) (sym (numeral_step n p)) (more n (numeral (n / 10)) big (numeral_by_steps P one more fuel (n / 10) (omega arith) (omega arith)))
+]
 
 digit_byte : (d : ℕ) → d < 10 → is_digit (48 + d) ≡ true
 digit_byte d h = and_from (leb 48 (48 + d)) (leb (48 + d) 57) (le-leb 48 (48 + d) (omega arith)) (le-leb (48 + d) 57 (omega arith))

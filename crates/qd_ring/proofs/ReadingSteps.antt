@@ -29,7 +29,7 @@ read_nothing phi text cs e = record {
   next_within = omega arith;
   count = ap length e;
   zeros = e;
-  reads = same (coefficients_of phi 0 false text) ∙ ap (λ n. option_map (λ ds. ds) (coefficients_of n 0 false text)) (sym (sub-zero phi))
+  reads = same (coefficients_of phi 0 false text) ∙ ap (λ n. option_map (λ ds. ds) (coefficients_of n 0 false text)) (sym (sub-zero phi));
 }
   where
     same : (o : Option (List ℤ)) → o ≡ option_map (λ ds. ds) o
@@ -58,21 +58,21 @@ module _ (phi : ℕ) (text : List ℕ) (next at : ℕ) (cs : List ℤ) (small : 
       let later : true ≡ ltb 0 (at + term.len) = sym (lt-ltb 0 (at + term.len) (omega (arith, term_longer))) in
       let inside : term.power < length cs = omega (arith, r.count) in
       let list : (ds : List ℤ) → take next cs ++ (replicate k (pos 0) ++ (term.coefficient ∷ ds)) ≡ take (term.power + 1) (set cs term.power term.coefficient) ++ ds =
-          λ ds. sym (append_assoc (take next cs) (replicate k (pos 0)) (term.coefficient ∷ ds)) ∙ ap (λ xs. xs ++ (term.coefficient ∷ ds)) (sym (front low (omega arith)))
-            ∙ sym (append_assoc (take term.power cs) (term.coefficient ∷ []) ds) ∙ ap (λ xs. xs ++ ds) (sym (take_more_set cs term.power term.coefficient inside)) in
+      λ ds. sym (append_assoc (take next cs) (replicate k (pos 0)) (term.coefficient ∷ ds)) ∙ ap (λ xs. xs ++ (term.coefficient ∷ ds)) (sym (front low (omega arith)))
+      ∙ sym (append_assoc (take term.power cs) (term.coefficient ∷ []) ds) ∙ ap (λ xs. xs ++ ds) (sym (take_more_set cs term.power term.coefficient inside)) in
       record {
         at_within = within;
         next_within = omega arith;
         count = length-set cs term.power term.coefficient ∙ r.count;
         zeros = drop-set-lt (term.power + 1) cs term.power term.coefficient (omega arith) ∙ ap (λ m. drop m cs) (omega arith)
-          ∙ sym (drop-drop (k + 1) next cs) ∙ ap (drop (k + 1)) r.zeros ∙ drop-replicate (k + 1) (42 - next) (pos 0) ∙ ap (λ m. replicate m (pos 0)) (omega arith);
+            ∙ sym (drop-drop (k + 1) next cs) ∙ ap (drop (k + 1)) r.zeros ∙ drop-replicate (k + 1) (42 - next) (pos 0) ∙ ap (λ m. replicate m (pos 0)) (omega arith);
         reads = r.reads
-          ∙ ap (λ m. option_map (λ ds. take next cs ++ ds) (coefficients_of m next (ltb 0 at) (drop at text))) count
-          ∙ ap (option_map (λ ds. take next cs ++ ds)) (skipped_to_term k n next (ltb 0 at) (drop at text) term found (sym place))
-          ∙ joined (coefficients_of n (suc (next + k)) true (drop term.len (drop at text))) list
-          ∙ ap (λ q. option_map (λ ds. take (term.power + 1) (set cs term.power term.coefficient) ++ ds) (coefficients_of n q true (drop term.len (drop at text)))) p
-          ∙ ap (λ t. option_map (λ ds. take (term.power + 1) (set cs term.power term.coefficient) ++ ds) (coefficients_of n (term.power + 1) true t)) (drop-drop term.len at text)
-          ∙ ap (λ l. option_map (λ ds. take (term.power + 1) (set cs term.power term.coefficient) ++ ds) (coefficients_of n (term.power + 1) l (drop (at + term.len) text))) later
+            ∙ ap (λ m. option_map (λ ds. take next cs ++ ds) (coefficients_of m next (ltb 0 at) (drop at text))) count
+            ∙ ap (option_map (λ ds. take next cs ++ ds)) (skipped_to_term k n next (ltb 0 at) (drop at text) term found (sym place))
+            ∙ joined (coefficients_of n (suc (next + k)) true (drop term.len (drop at text))) list
+            ∙ ap (λ q. option_map (λ ds. take (term.power + 1) (set cs term.power term.coefficient) ++ ds) (coefficients_of n q true (drop term.len (drop at text)))) p
+            ∙ ap (λ t. option_map (λ ds. take (term.power + 1) (set cs term.power term.coefficient) ++ ds) (coefficients_of n (term.power + 1) true t)) (drop-drop term.len at text)
+            ∙ ap (λ l. option_map (λ ds. take (term.power + 1) (set cs term.power term.coefficient) ++ ds) (coefficients_of n (term.power + 1) l (drop (at + term.len) text))) later;
       }
     where
       joined : (o : Option (List ℤ)) → ((ds : List ℤ) → take next cs ++ (replicate (term.power - next) (pos 0) ++ (term.coefficient ∷ ds)) ≡ take (term.power + 1) (set cs term.power term.coefficient) ++ ds)
@@ -92,7 +92,7 @@ module _ (phi : ℕ) (text : List ℕ) (next at : ℕ) (cs : List ℤ) (small : 
   pub read_no_term : term_of (ltb 0 at) (drop at text) ≡ None → at < length text → coefficients_of phi 0 false text ≡ None
   read_no_term none more =
       r.reads ∙ ap (option_map (λ ds. take next cs ++ ds))
-        (no_term_missed (phi - next) next (ltb 0 at) (drop at text) none (simp length-drop (omega arith)))
+      (no_term_missed (phi - next) next (ltb 0 at) (drop at text) none (simp length-drop (omega arith)))
 
   -- the end of the text
   pub read_all : 0 < at → length text ≤ at → coefficients_of phi 0 false text ≡ Some (take phi cs)

@@ -26,13 +26,14 @@ module _ {A B V : Type 0} (items : V → List A) (seen : A → B) (rows : List V
   pub widths_pushed : (x : A) → items new ≡ items old ++ x ∷ [] → i ≡ length rows - 1 → length (row_at (map (λ r. map seen (items r)) rows) (length (map (λ r. map seen (items r)) rows) - 1)) + 1 < 2 ^ 32
       → ((k : ℕ) (d : V) → k < length rows → length (items (get_or rows k d)) < 2 ^ 32) → (k : ℕ) (d : V) → k < length (set rows i new) → length (items (get_or (set rows i new) k d)) < 2 ^ 32
   widths_pushed x pushed last room small k d h = elim (cases_eq k i) [
-      inl e ↦
+    | inl e ↦
         let count : length (items new) ≡ length (items old) + 1 = ap length pushed ∙ length-append (items old) (x ∷ []) in
         let place : length (map (λ r. map seen (items r)) rows) - 1 ≡ i = ap (λ n. n - 1) (length-map rows (λ r. map seen (items r))) ∙ sym last in
         let width : length (row_at (map (λ r. map seen (items r)) rows) (length (map (λ r. map seen (items r)) rows) - 1)) ≡ length (items old) =
-            ap (λ n. length (row_at (map (λ r. map seen (items r)) rows) n)) place ∙ ap length row_seen ∙ length-map (items old) seen in
+        ap (λ n. length (row_at (map (λ r. map seen (items r)) rows) n)) place ∙ ap length row_seen ∙ length-map (items old) seen in
         subst (λ r. length (items r) < 2 ^ 32) (sym (get_or-set_at rows i k new d e inside)) (omega arith)
-    | inr apart ↦ subst (λ r. length (items r) < 2 ^ 32) (sym (get_or-set_other rows i k new d apart)) (small k d (omega (arith, length-set rows i new))) ]
+    | inr apart ↦ subst (λ r. length (items r) < 2 ^ 32) (sym (get_or-set_other rows i k new d apart)) (small k d (omega (arith, length-set rows i new)))
+  ]
 
 -- what holds anyway holds on an error
 pub on_error : {T E P : Type 0} (r : Result T E) → P → OnErr r P

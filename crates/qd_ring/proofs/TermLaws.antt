@@ -89,7 +89,7 @@ term_written true p (pos n) tail positive ends =
 term_written false p (pos n) tail positive ends =
     let text : List ℕ = (numeral n ++ power_text p) ++ tail in
     let first : get_or text 0 0 ≡ get_or (numeral n) 0 0 =
-        ap (λ t. get_or t 0 0) (append_assoc (numeral n) (power_text p) tail) ∙ front_kept (numeral n) (power_text p ++ tail) (numeral_filled n positive) in
+    ap (λ t. get_or t 0 0) (append_assoc (numeral n) (power_text p) tail) ∙ front_kept (numeral n) (power_text p ++ tail) (numeral_filled n positive) in
     let unsigned : eqb (get_or text 0 0) 45 ≡ false = ne_eqb (get_or text 0 0) 45 (λ e. omega (arith, first, e, (leading_numeral n positive).low)) in
     ap (λ b. option_and_then (λ sign. term_after_sign b sign (drop sign text)) (cond b (Some 1) (Some 0))) unsigned
     ∙ ap (λ t. term_after_sign false 0 t) (append_assoc (numeral n) (power_text p) tail)
@@ -127,7 +127,7 @@ numeral_read (c ∷ text) digits h = by (leb 49 c && leb c 57) refl h
         subst (λ n. NumeralRead (c ∷ text) n) count (record {
           spelled = numeral_number c (take (prefix_len is_digit text) text) lead (digits_taken text);
           positive = number_positive c (take (prefix_len is_digit text) text) lead;
-          filled = omega arith
+          filled = omega arith;
         })
     by false e k = absurd (cc k)
 
@@ -155,10 +155,10 @@ power_read (c ∷ rest) power h = by (eqb c 122) refl (numeral_len rest) refl h
         subst (PowerRead (c ∷ rest)) is (record {
           exact = number (take digits rest);
           spelled = ap (λ x. x ∷ rest) letter ∙ ap (λ xs. 122 ∷ xs) (sym (take-append-drop digits rest))
-            ∙ ap (λ xs. 122 ∷ (xs ++ drop digits rest)) (sym front.spelled)
-            ∙ ap (λ xs. xs ++ drop digits rest) (sym (power_text_positive (number (take digits rest)) front.positive))
-            ∙ ap (λ n. power_text (number (take digits rest)) ++ drop n (c ∷ rest)) (sym (one-add digits));
-          is = refl
+              ∙ ap (λ xs. 122 ∷ (xs ++ drop digits rest)) (sym front.spelled)
+              ∙ ap (λ xs. xs ++ drop digits rest) (sym (power_text_positive (number (take digits rest)) front.positive))
+              ∙ ap (λ n. power_text (number (take digits rest)) ++ drop n (c ∷ rest)) (sym (one-add digits));
+          is = refl;
         })
     by false e o n k = let is : (0, 0) ≡ power = cc k in subst (PowerRead (c ∷ rest)) is (record { exact = 0; spelled = refl; is = refl })
 
@@ -192,13 +192,14 @@ after_sign_read negative sign rest term h = by (numeral_len rest) refl h
           power = back.exact;
           taken = digits + power.1;
           spelled = sym (take-append-drop digits rest) ∙ ap (λ xs. xs ++ drop digits rest) (sym front.spelled)
-            ∙ ap (λ xs. numeral (number (take digits rest)) ++ xs) (back.spelled ∙ ap (λ xs. power_text back.exact ++ xs) (drop-drop power.1 digits rest));
+              ∙ ap (λ xs. numeral (number (take digits rest)) ++ xs) (back.spelled ∙ ap (λ xs. power_text back.exact ++ xs) (drop-drop power.1 digits rest));
           positive = front.positive;
           coefficient_is = refl;
           power_is = back.is;
           len_is = omega arith;
-          longer = omega (arith, front.filled)
+          longer = omega (arith, front.filled);
         })
+
     by : (o : Option ℕ) → numeral_len rest ≡ o → option_and_then (λ digits. option_and_then (λ (power : ℕ × ℕ). Some (term_of_parts negative sign rest digits power)) (power_of (drop digits rest))) o ≡ Some term → AfterSign negative sign rest term
     by None n k = absurd (cc k)
     by (Some digits) n k = at_power digits (numeral_read rest digits n) (power_of (drop digits rest)) refl k
@@ -208,20 +209,20 @@ assembled : (later negative : Bool) (text rest front : List ℕ) (sign : ℕ) (c
 assembled later negative text rest front sign c term a text_is sign_is front_is magnitude_is cut =
     let tail : List ℕ = drop a.taken rest in
     let dropped : drop term.len text ≡ tail =
-        ap (λ t. drop term.len t) text_is ∙ ap (λ n. drop n (front ++ rest)) (a.len_is ∙ ap (λ n. n + a.taken) (sym sign_is))
-        ∙ sym (drop-drop a.taken (length front) (front ++ rest)) ∙ ap (drop a.taken) (front_dropped front rest) in
+    ap (λ t. drop term.len t) text_is ∙ ap (λ n. drop n (front ++ rest)) (a.len_is ∙ ap (λ n. n + a.taken) (sym sign_is))
+    ∙ sym (drop-drop a.taken (length front) (front ++ rest)) ∙ ap (drop a.taken) (front_dropped front rest) in
     record {
       power = a.power;
       coefficient = c;
       written = text_is ∙ ap (λ r. front ++ r) (a.spelled ∙ sym (append_assoc (numeral a.magnitude) (power_text a.power) tail))
-        ∙ sym (append_assoc front (numeral a.magnitude ++ power_text a.power) tail)
-        ∙ ap (λ f. (f ++ (numeral a.magnitude ++ power_text a.power)) ++ tail) (sym front_is)
-        ∙ ap (λ n. (sign_text later c ++ (numeral n ++ power_text a.power)) ++ tail) (sym magnitude_is)
-        ∙ ap (λ t. term_text later a.power c ++ t) (sym dropped);
+          ∙ sym (append_assoc front (numeral a.magnitude ++ power_text a.power) tail)
+          ∙ ap (λ f. (f ++ (numeral a.magnitude ++ power_text a.power)) ++ tail) (sym front_is)
+          ∙ ap (λ n. (sign_text later c ++ (numeral n ++ power_text a.power)) ++ tail) (sym magnitude_is)
+          ∙ ap (λ t. term_text later a.power c ++ t) (sym dropped);
       some = omega (arith, a.positive, magnitude_is);
       power_is = a.power_is;
       coefficient_is = a.coefficient_is ∙ cut;
-      longer = omega (arith, a.len_is, a.longer)
+      longer = omega (arith, a.len_is, a.longer);
     }
 
 -- a minus sign at the front

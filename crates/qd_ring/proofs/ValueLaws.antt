@@ -22,8 +22,9 @@ terms_padded : (later : Bool) (p n : ℕ) (cs : List ℤ) → terms_text later p
 terms_padded later p zero [] = refl
 terms_padded later p (suc n) [] = terms_nought later p (pos 0) (replicate n (pos 0)) refl ∙ terms_padded later (suc p) n [] ∙ terms_nil later (suc p) ∙ sym (terms_nil later p)
 terms_padded later p n (c ∷ cs) = elim (cases_Bool (eqb (nat_abs c) 0)) [
-    inl e ↦ terms_nought later p c (cs ++ replicate n (pos 0)) e ∙ terms_padded later (suc p) n cs ∙ sym (terms_nought later p c cs e)
-  | inr e ↦ terms_term later p c (cs ++ replicate n (pos 0)) e ∙ ap (λ t. term_text later p c ++ t) (terms_padded true (suc p) n cs) ∙ sym (terms_term later p c cs e) ]
+  | inl e ↦ terms_nought later p c (cs ++ replicate n (pos 0)) e ∙ terms_padded later (suc p) n cs ∙ sym (terms_nought later p c cs e)
+  | inr e ↦ terms_term later p c (cs ++ replicate n (pos 0)) e ∙ ap (λ t. term_text later p c ++ t) (terms_padded true (suc p) n cs) ∙ sym (terms_term later p c cs e)
+]
 
 is_nought : (c : ℤ) → eqb (nat_abs c) 0 ≡ true → c ≡ pos 0
 is_nought (pos n) e = ap pos (eqb-true n 0 e)
@@ -33,8 +34,9 @@ is_nought (negsuc n) e = absurd (omega (arith, eqb-true (suc n) 0 e))
 all_nought : (later : Bool) (p : ℕ) (cs : List ℤ) → terms_text later p cs ≡ [] → cs ≡ replicate (length cs) (pos 0)
 all_nought later p [] h = refl
 all_nought later p (c ∷ cs) h = elim (cases_Bool (eqb (nat_abs c) 0)) [
-    inl e ↦ ap (λ d. d ∷ cs) (is_nought c e) ∙ ap (λ ds. pos 0 ∷ ds) (all_nought later (suc p) cs (sym (terms_nought later p c cs e) ∙ h))
-  | inr e ↦ absurd (omega (arith, term_nonempty later p c (omega (arith, eqb-false (nat_abs c) 0 e)), length-append (term_text later p c) (terms_text true (suc p) cs), ap length (sym (terms_term later p c cs e) ∙ h))) ]
+  | inl e ↦ ap (λ d. d ∷ cs) (is_nought c e) ∙ ap (λ ds. pos 0 ∷ ds) (all_nought later (suc p) cs (sym (terms_nought later p c cs e) ∙ h))
+  | inr e ↦ absurd (omega (arith, term_nonempty later p c (omega (arith, eqb-false (nat_abs c) 0 e)), length-append (term_text later p c) (terms_text true (suc p) cs), ap length (sym (terms_term later p c cs e) ∙ h)))
+]
 
 -- ---- cut magnitudes
 
@@ -48,8 +50,9 @@ capped_abs (negsuc n) = signed_abs (min (suc n) (2 ^ 120))
 
 capped_small : (c : ℤ) → ltb (nat_abs (capped c)) (2 ^ 120) ≡ ltb (nat_abs c) (2 ^ 120)
 capped_small c = elim (cases_lt (nat_abs c) (2 ^ 120)) [
-    inl h ↦ ap (λ n. ltb n (2 ^ 120)) (capped_abs c ∙ min-eq_left (omega arith))
-  | inr h ↦ ap (λ n. ltb n (2 ^ 120)) (capped_abs c) ∙ le-ltb (min (nat_abs c) (2 ^ 120)) (2 ^ 120) (omega arith) ∙ sym (le-ltb (nat_abs c) (2 ^ 120) h) ]
+  | inl h ↦ ap (λ n. ltb n (2 ^ 120)) (capped_abs c ∙ min-eq_left (omega arith))
+  | inr h ↦ ap (λ n. ltb n (2 ^ 120)) (capped_abs c) ∙ le-ltb (min (nat_abs c) (2 ^ 120)) (2 ^ 120) (omega arith) ∙ sym (le-ltb (nat_abs c) (2 ^ 120) h)
+]
 
 capped_same : (c : ℤ) → nat_abs c < 2 ^ 120 → capped c ≡ c
 capped_same (pos n) h = ap pos (min-eq_left (omega arith))
@@ -63,10 +66,12 @@ pub small_all : (cs : List ℤ) → is_small cs ≡ all_small cs
 unfolding is_small size_of
 small_all [] = refl
 small_all (c ∷ cs) = elim (cases_lt (nat_abs c) (2 ^ 120)) [
-    inl h ↦ elim (cases_lt (size_of cs) (2 ^ 120)) [
-        inl k ↦ le-leb _ _ (omega arith) ∙ sym (ap₂ (λ a b. a && b) (lt-ltb (nat_abs c) (2 ^ 120) h) (sym (small_all cs) ∙ le-leb _ _ (omega arith)))
-      | inr k ↦ lt-leb _ _ (omega arith) ∙ sym (ap₂ (λ a b. a && b) (lt-ltb (nat_abs c) (2 ^ 120) h) (sym (small_all cs) ∙ lt-leb _ _ (omega arith))) ]
-  | inr h ↦ lt-leb _ _ (omega arith) ∙ sym (ap (λ a. a && all_small cs) (le-ltb (nat_abs c) (2 ^ 120) h)) ]
+  | inl h ↦ elim (cases_lt (size_of cs) (2 ^ 120)) [
+    | inl k ↦ le-leb _ _ (omega arith) ∙ sym (ap₂ (λ a b. a && b) (lt-ltb (nat_abs c) (2 ^ 120) h) (sym (small_all cs) ∙ le-leb _ _ (omega arith)))
+    | inr k ↦ lt-leb _ _ (omega arith) ∙ sym (ap₂ (λ a b. a && b) (lt-ltb (nat_abs c) (2 ^ 120) h) (sym (small_all cs) ∙ lt-leb _ _ (omega arith)))
+  ]
+  | inr h ↦ lt-leb _ _ (omega arith) ∙ sym (ap (λ a. a && all_small cs) (le-ltb (nat_abs c) (2 ^ 120) h))
+]
 
 all_capped : (cs : List ℤ) → all_small (map capped cs) ≡ all_small cs
 all_capped [] = refl
@@ -100,7 +105,7 @@ unfolding value_text
 nought_spelled phi = record {
   count = refl;
   ends = drop-replicate phi 42 (pos 0);
-  spelled = ap or_nought (terms_padded false 0 42 [] ∙ terms_nil false 0)
+  spelled = ap or_nought (terms_padded false 0 42 [] ∙ terms_nil false 0);
 }
 
 module _ (text : List ℕ) (phi : ℕ) (small : phi ≤ 42) (cs : List ℤ) (s : Spells text phi cs) where
@@ -145,18 +150,21 @@ module _ (text : List ℕ) (phi : ℕ) (small : phi ≤ 42) where
   -- coefficients of one text agree up to the cut
   pub agree : (cs ds : List ℤ) → Spells text phi cs → Spells text phi ds → map capped cs ≡ map capped ds
   agree cs ds s t = elim (cases_lt 0 (length (terms_text false 0 cs))) [
-      inl c ↦ elim (cases_lt 0 (length (terms_text false 0 ds))) [
-          inl d ↦
-            let same : map capped (take phi cs) ≡ map capped (take phi ds) = cc (sym (read_some text phi small cs s c) ∙ read_some text phi small ds t d) in
-            capped_front cs (map capped (take phi ds)) s same ∙ sym (capped_front ds (map capped (take phi ds)) t refl)
-        | inr d ↦
-            let none : coefficients_of phi 0 false text ≡ None = ap (coefficients_of phi 0 false) (none_some text phi small ds t (omega arith)).0 ∙ nought_unread phi in
-            absurd (cc (sym none ∙ read_some text phi small cs s c)) ]
+    | inl c ↦ elim (cases_lt 0 (length (terms_text false 0 ds))) [
+      | inl d ↦
+          let same : map capped (take phi cs) ≡ map capped (take phi ds) = cc (sym (read_some text phi small cs s c) ∙ read_some text phi small ds t d) in
+          capped_front cs (map capped (take phi ds)) s same ∙ sym (capped_front ds (map capped (take phi ds)) t refl)
+      | inr d ↦
+          let none : coefficients_of phi 0 false text ≡ None = ap (coefficients_of phi 0 false) (none_some text phi small ds t (omega arith)).0 ∙ nought_unread phi in
+          absurd (cc (sym none ∙ read_some text phi small cs s c))
+    ]
     | inr c ↦ elim (cases_lt 0 (length (terms_text false 0 ds))) [
-          inl d ↦
-            let none : coefficients_of phi 0 false text ≡ None = ap (coefficients_of phi 0 false) (none_some text phi small cs s (omega arith)).0 ∙ nought_unread phi in
-            absurd (cc (sym none ∙ read_some text phi small ds t d))
-        | inr d ↦ ap (map capped) ((none_some text phi small cs s (omega arith)).1 ∙ sym (none_some text phi small ds t (omega arith)).1) ] ]
+      | inl d ↦
+          let none : coefficients_of phi 0 false text ≡ None = ap (coefficients_of phi 0 false) (none_some text phi small cs s (omega arith)).0 ∙ nought_unread phi in
+          absurd (cc (sym none ∙ read_some text phi small ds t d))
+      | inr d ↦ ap (map capped) ((none_some text phi small cs s (omega arith)).1 ∙ sym (none_some text phi small ds t (omega arith)).1)
+    ]
+  ]
 
   pub agree_small : (cs ds : List ℤ) → Spells text phi cs → Spells text phi ds → is_small cs ≡ is_small ds
   agree_small cs ds s t = sym (small_capped cs) ∙ ap is_small (agree cs ds s t) ∙ small_capped ds
@@ -171,8 +179,9 @@ module _ (text : List ℕ) (phi : ℕ) (small : phi ≤ 42) where
   -- where nothing is read, the text is that of no coefficients but `0`
   pub unread : (text ≡ 48 ∷ [] → ⊥) → coefficients_of phi 0 false text ≡ None → (cs : List ℤ) → Spells text phi cs → ⊥
   unread apart none cs s = elim (cases_lt 0 (length (terms_text false 0 cs))) [
-      inl c ↦ cc (sym none ∙ read_some text phi small cs s c)
-    | inr c ↦ apart (none_some text phi small cs s (omega arith)).0 ]
+    | inl c ↦ cc (sym none ∙ read_some text phi small cs s c)
+    | inr c ↦ apart (none_some text phi small cs s (omega arith)).0
+  ]
 
   -- where something is read, the text is that of coefficients which were cut
   pub found : (ds : List ℤ) → length ds ≡ 42 → drop phi ds ≡ replicate (42 - phi) (pos 0) → coefficients_of phi 0 false text ≡ Some (take phi ds)
@@ -181,16 +190,20 @@ module _ (text : List ℕ) (phi : ℕ) (small : phi ≤ 42) where
   found ds count zeros h =
       let r = coefficients_read phi 0 false text (take phi ds) (omega arith) h in
       let cs = r.coefficients ++ replicate (42 - phi) (pos 0) in
-      let terms : terms_text false 0 cs ≡ text = terms_padded false 0 (42 - phi) r.coefficients ∙ r.written in
-      (cs, record {
-        count = length-append r.coefficients (replicate (42 - phi) (pos 0)) ∙ omega (arith, r.count, length-replicate (42 - phi) (pos 0));
-        ends = ap (λ n. drop n cs) (sym r.count) ∙ front_dropped_z r.coefficients (replicate (42 - phi) (pos 0));
-        spelled = ap or_nought terms ∙ some text (r.begun refl)
-      }, map-append capped r.coefficients (replicate (42 - phi) (pos 0)) ∙ ap₂ (λ xs ys. xs ++ ys) r.cut_is (map_zeros (42 - phi) ∙ sym zeros) ∙ take-append-drop phi ds)
+      let terms : terms_text false 0 cs ≡ text = terms_padded false 0 (42 - phi) r.coefficients ∙ r.written in (
+        cs,
+        record {
+          count = length-append r.coefficients (replicate (42 - phi) (pos 0)) ∙ omega (arith, r.count, length-replicate (42 - phi) (pos 0));
+          ends = ap (λ n. drop n cs) (sym r.count) ∙ front_dropped_z r.coefficients (replicate (42 - phi) (pos 0));
+          spelled = ap or_nought terms ∙ some text (r.begun refl);
+        },
+        map-append capped r.coefficients (replicate (42 - phi) (pos 0)) ∙ ap₂ (λ xs ys. xs ++ ys) r.cut_is (map_zeros (42 - phi) ∙ sym zeros) ∙ take-append-drop phi ds,
+      )
     where
       some : (t : List ℕ) → 0 < length t → or_nought t ≡ t
       some [] k = absurd (omega arith)
       some (x ∷ t) k = refl
+
       front_dropped_z : (xs ys : List ℤ) → drop (length xs) (xs ++ ys) ≡ ys
       front_dropped_z [] ys = refl
       front_dropped_z (x ∷ xs) ys = front_dropped_z xs ys

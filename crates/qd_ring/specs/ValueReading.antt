@@ -43,7 +43,7 @@ term_after_sign negative sign rest =
     option_and_then (λ digits. option_and_then (λ (power : ℕ × ℕ). Some (record {
       coefficient = signed negative (min (number (take digits rest)) (2 ^ 120));
       power = power.0;
-      len = sign + digits + power.1
+      len = sign + digits + power.1;
     })) (power_of (drop digits rest))) (numeral_len rest)
 
 -- the term at the front; `later` says whether one stands before it
@@ -58,5 +58,6 @@ term_here p later text = option_and_then (λ (term : Term). if term.power == p t
 unfoldable pub coefficients_of : ℕ → ℕ → Bool → List ℕ → Option (List ℤ)
 coefficients_of zero p later text = if length text == 0 && later then Some [] else None
 coefficients_of (suc n) p later text = elim (term_here p later text) [
-    Some term ↦ option_map (λ cs. term.coefficient ∷ cs) (coefficients_of n (suc p) true (drop term.len text))
-  | None ↦ option_map (λ cs. pos 0 ∷ cs) (coefficients_of n (suc p) later text) ]
+  | Some term ↦ option_map (λ cs. term.coefficient ∷ cs) (coefficients_of n (suc p) true (drop term.len text))
+  | None ↦ option_map (λ cs. pos 0 ∷ cs) (coefficients_of n (suc p) later text)
+]

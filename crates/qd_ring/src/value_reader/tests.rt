@@ -61,7 +61,10 @@ fn other_texts_are_refused(rt: HostRuntime) -> Result<(), Fail> {
         ("1z1z2", ValueFault::NotValue),
         ("1 ", ValueFault::NotValue),
         ("1329227995784915872903807060280344576", ValueFault::Wide),
-        ("-1329227995784915872903807060280344576+1z3", ValueFault::Wide),
+        (
+            "-1329227995784915872903807060280344576+1z3",
+            ValueFault::Wide,
+        ),
         (
             "1329227995784915872903807060280344576z9",
             ValueFault::NotValue,

@@ -19,8 +19,8 @@ returns-clause-value c =
     let bound = magnitude_at c.args.buffer.now c.args.v in
     let room = c.requires.room in
     λ m.
-        ap (λ z. value_of m (set c.args.buffer.now c.args.v z)) (read_sum a c.args.c (omega (arith, bound, room)))
-            ∙ value-add_at m c.args.buffer.now c.args.v c.args.c c.requires.place
+    ap (λ z. value_of m (set c.args.buffer.now c.args.v z)) (read_sum a c.args.c (omega (arith, bound, room)))
+    ∙ value-add_at m c.args.buffer.now c.args.v c.args.c c.requires.place
 
 pub returns-clause-total : goal.returns-clause-total
 returns-clause-total c =

@@ -46,6 +46,6 @@ returns c =
     let same = c.requires.size ∙ add-one (length c.args.low.now) in
     let ended : c.loop-j.j ≡ length c.args.low.now = omega arith in
     c.loop-j.invariant
-        ∙ ap (λ n. mixed (leading c.args.window.now) (take n c.args.low.now) c.args.window.now) ended
-        ∙ ap (λ z. mixed (leading c.args.window.now) z c.args.window.now) (take-length c.args.low.now)
-        ∙ mixed-cancels c.args.low.now c.args.window.now same
+    ∙ ap (λ n. mixed (leading c.args.window.now) (take n c.args.low.now) c.args.window.now) ended
+    ∙ ap (λ z. mixed (leading c.args.window.now) z c.args.window.now) (take-length c.args.low.now)
+    ∙ mixed-cancels c.args.low.now c.args.window.now same

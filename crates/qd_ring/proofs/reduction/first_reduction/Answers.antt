@@ -46,4 +46,4 @@ unfolding reduction_of reductions
 returns c =
     sym
     (ap reduction_of
-        (only_last c.args.k c.requires.entry c.requires.below c.if-k-eq4.false c.if-k-eq6.false c.if-k-eq8.false c.if-k-eq9.false c.if-k-eq12.false c.if-k-eq16.false c.if-k-eq18.false c.if-k-eq20.false))
+    (only_last c.args.k c.requires.entry c.requires.below c.if-k-eq4.false c.if-k-eq6.false c.if-k-eq8.false c.if-k-eq9.false c.if-k-eq12.false c.if-k-eq16.false c.if-k-eq18.false c.if-k-eq20.false))

@@ -38,4 +38,4 @@ unfolding reduction_of reductions
 returns c =
     sym
     (ap reduction_of
-        (only_last c.args.k c.requires.entry c.requires.above c.if-k-eq54.false c.if-k-eq60.false c.if-k-eq64.false c.if-k-eq72.false c.if-k-eq84.false c.if-k-eq96.false))
+    (only_last c.args.k c.requires.entry c.requires.above c.if-k-eq54.false c.if-k-eq60.false c.if-k-eq64.false c.if-k-eq72.false c.if-k-eq84.false c.if-k-eq96.false))

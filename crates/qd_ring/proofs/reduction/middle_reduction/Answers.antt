@@ -50,4 +50,4 @@ unfolding reduction_of reductions
 returns c =
     sym
     (ap reduction_of
-        (only_last c.args.k c.requires.entry c.requires.above c.requires.below c.if-k-eq25.false c.if-k-eq27.false c.if-k-eq28.false c.if-k-eq30.false c.if-k-eq32.false c.if-k-eq36.false c.if-k-eq40.false c.if-k-eq42.false c.if-k-eq48.false))
+    (only_last c.args.k c.requires.entry c.requires.above c.requires.below c.if-k-eq25.false c.if-k-eq27.false c.if-k-eq28.false c.if-k-eq30.false c.if-k-eq32.false c.if-k-eq36.false c.if-k-eq40.false c.if-k-eq42.false c.if-k-eq48.false))

@@ -12,10 +12,11 @@ returns-in_default-clause-none c =
 
 pub returns-then-term-next-clause-none : goal.returns-then-term-next-clause-none
 returns-then-term-next-clause-none c = elim c.then-term-next.branch [
-    then-term-next-via-then-term-next w ↦
+  | then-term-next-via-then-term-next w ↦
       read_low c.args.phi c.args.text.now c.loop-at.next c.loop-at.at c.loop-at.coefficients c.requires c.loop-at.invariant c.in-Some.term (rest_read _ c.loop-at.at c.args.text.now _ c.in-Some.ensures.term) w.if-term-next.true
   | then-term-next-via-else-term-next+then-phi-term w ↦
-      read_high c.args.phi c.args.text.now c.loop-at.next c.loop-at.at c.loop-at.coefficients c.requires c.loop-at.invariant c.in-Some.term (rest_read _ c.loop-at.at c.args.text.now _ c.in-Some.ensures.term) w.if-phi-term.true ]
+      read_high c.args.phi c.args.text.now c.loop-at.next c.loop-at.at c.loop-at.coefficients c.requires c.loop-at.invariant c.in-Some.term (rest_read _ c.loop-at.at c.args.text.now _ c.in-Some.ensures.term) w.if-phi-term.true
+]
 
 pub loop-at-smaller : goal.loop-at-smaller
 loop-at-smaller c =
@@ -27,8 +28,8 @@ pub loop-at-preserved : goal.loop-at-preserved
 loop-at-preserved c =
     let fits : SFits w128 c.in-Some.term.coefficient = search rules in
     rw (to_z-of_z w128 c.in-Some.term.coefficient fits)
-      (read_term_more c.args.phi c.args.text.now c.loop-at.next c.loop-at.at c.loop-at.coefficients c.requires c.loop-at.invariant c.in-Some.term (rest_read _ c.loop-at.at c.args.text.now _ c.in-Some.ensures.term)
-        c.if-term-next.false c.if-phi-term.false (search rules))
+    (read_term_more c.args.phi c.args.text.now c.loop-at.next c.loop-at.at c.loop-at.coefficients c.requires c.loop-at.invariant c.in-Some.term (rest_read _ c.loop-at.at c.args.text.now _ c.in-Some.ensures.term)
+    c.if-term-next.false c.if-phi-term.false (search rules))
 
 pub returns-then-at-eq0-clause-none : goal.returns-then-at-eq0-clause-none
 returns-then-at-eq0-clause-none c =

@@ -12,10 +12,11 @@ returns-then-text-eq48 c =
 pub returns-in_default : goal.returns-in_default
 returns-in_default c =
     unread c.args.text.now c.args.phi c.requires
-      (λ nought. elim c.else-text-eq1.branch [
-          else-text-eq1-via-then-text-eq1+else-text-eq48 w ↦ w.if-text-eq48.false (ap (λ t. get_or t 0 0) nought)
-        | else-text-eq1-via-else-text-eq1 w ↦ w.if-text-eq1.false (ap length nought) ])
-      c.in_default.ensures.none
+    (λ nought. elim c.else-text-eq1.branch [
+      | else-text-eq1-via-then-text-eq1+else-text-eq48 w ↦ w.if-text-eq48.false (ap (λ t. get_or t 0 0) nought)
+      | else-text-eq1-via-else-text-eq1 w ↦ w.if-text-eq1.false (ap length nought)
+    ])
+    c.in_default.ensures.none
 
 pub returns-then-are_small : goal.returns-then-are_small
 returns-then-are_small c =
