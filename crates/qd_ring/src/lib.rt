@@ -22,7 +22,7 @@ pub use ring::Ring;
 pub use root::Root;
 pub use rows::Rows;
 pub use site::{Part, Site};
-pub use sum::try_sum;
+pub use sum::{root_of, try_sum, try_sum_below, try_term};
 pub use unit_group::UnitGroup;
 pub use value_reader::read_plain;
 pub use value_text::append_plain;

@@ -4,6 +4,18 @@ ghost use Rattle.qd_ring.specs.Fit.{term_fits, sum_overflows, IsTerm};
 
 use crate::ring::Ring;
 
+/// The root `z^e`.
+pub fn root_of<R: Ring>(ring: &R, e: u32) -> R::Elem
+    ensures value { R.IsValue ring.now result }
+    ensures root { R.of ring.now result ≡ power (R.ops ring.now) (R.unit ring.now).root e }
+{
+    let one = ring.one();
+    match ring.try_scale(e, &one) {
+        Some(root) => root,
+        None => unreachable!(),
+    }
+}
+
 /// The sum of the listed values; `None` only where the listed sum overflows.
 pub fn try_sum<R: Ring>(ring: &R, terms: &[R::Elem]) -> Option<R::Elem>
     requires { All (R.IsValue ring.now) terms.now }
