@@ -4,3 +4,5 @@ pub mod ValueTextLaws
 pub mod Fronts
 pub mod ValueReaderLaws
 pub mod BufferLaws
+pub mod ReduceLaws
+pub mod ReductionSigns

@@ -1,11 +1,15 @@
 //! Polynomials of up to 120 coefficients, in which products and images are formed before they are reduced.
 
-ghost use Rattle.std.specs.Prelude.{◌≡◌, ℕ, ◌+◌, ◌*◌, ◌^◌, ◌<◌, ◌≤◌, ℤ, ◌+ℤ◌, ◌-ℤ◌, ◌*ℤ◌, neg_ℤ, nat_abs, pos, List, [], ◌∷◌, ◌++◌, length};
+ghost use Rattle.std.specs.Prelude.{◌≡◌, ℕ, ◌+◌, ◌*◌, ◌^◌, ◌<◌, ◌≤◌, ℤ, ◌+ℤ◌, ◌-ℤ◌, ◌*ℤ◌, neg_ℤ, nat_abs, pos, List, [], ◌∷◌, ◌++◌, length, take, true};
 ghost use Rattle.cyclotomic.specs.Polynomial.{leading};
-ghost use Rattle.cyclotomic.specs.Division.{cancelled};
+ghost use Rattle.cyclotomic.specs.Division.{cancelled, remainder};
+ghost use Rattle.cyclotomic.specs.Cyclotomic.{cyclotomic};
+ghost use Rattle.cyclotomic.specs.Conductors.{is_conductor, phi_of};
 ghost use Rattle.cyclotomic.specs.Fit.{size_of};
 ghost use Rattle.cyclotomic.specs.Ring.{value_of, value_sum, value_multiple, value_root};
 ghost use Rattle.cyclotomic.proofs.Sizes.{total_of};
+
+use crate::reduction::reduction;
 
 // a - c * sign, for a sign of -1, 0 or 1.
 fn less_signed(a: i128, c: i128, sign: i8) -> i128
@@ -47,5 +51,20 @@ fn cancel(window: &mut [i128], low: &[i8])
     }
     for j in 0..low.len() {
         window[j] = less_signed(window[j], last, low[j]);
+    }
+}
+
+// The remainder by the cyclotomic polynomial of conductor k, in the first phi(k) places; what stands behind is left over.
+fn reduce(k: u32, buffer: &mut [i128])
+    requires conductor { is_conductor k ≡ true }
+    requires size { length buffer.old ≡ 120 }
+    requires room { total_of buffer.old < 2 ^ 126 }
+    ensures { take (phi_of k) buffer.new ≡ remainder (cyclotomic k) buffer.old }
+{
+    let low = reduction(k);
+    let mut at = buffer.len() - low.len();
+    while at > 0 {
+        at -= 1;
+        cancel(&mut buffer[at..at + low.len() + 1], low);
     }
 }
