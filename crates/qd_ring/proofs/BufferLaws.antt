@@ -199,3 +199,16 @@ module _ (low w : List ℤ) (size : length w ≡ suc (length low)) (ternary : si
   pub cancel_nothing : to_z w128 (of_z w128 (get_or w (length low) (pos 0))) ≡ pos 0 → w ≡ cancelled (low ++ (pos 1 ∷ [])) w ++ (leading w ∷ [])
   cancel_nothing e =
       sym (mixed-nothing low w) ∙ ap (λ z. mixed z low w) (sym e ∙ cancel_last) ∙ mixed-cancels low w size
+
+pub size-take_suc : (xs : List ℤ) (j : ℕ) → j < length xs → size_of (take (suc j) xs) ≡ max (nat_abs (get_or xs j (pos 0))) (size_of (take j xs))
+unfolding size_of
+size-take_suc [] j h = absurd (omega arith)
+size-take_suc (a ∷ xs) zero h = refl
+size-take_suc (a ∷ xs) (suc j) h = omega (arith, size-take_suc xs j (omega arith))
+
+-- one more number in a largest magnitude
+pub size_step : (xs : List ℤ) (j n r largest : ℕ) → j < length xs → r ≡ nat_abs (to_z w128 (of_z w128 (get_or xs j (pos 0)))) → SFits w128 (get_or xs j (pos 0)) → n ≡ max r largest → largest ≡ size_of (take j xs) → n ≡ size_of (take (j + 1) xs)
+size_step xs j n r largest h read fits is e =
+    let r_is : r ≡ nat_abs (get_or xs j (pos 0)) = read ∙ ap nat_abs (to_z-of_z w128 (get_or xs j (pos 0)) fits) in
+    let more : size_of (take (j + 1) xs) ≡ size_of (take (suc j) xs) = ap (λ i. size_of (take i xs)) (add-one j) in
+    omega (arith, is, r_is, e, more, size-take_suc xs j h)

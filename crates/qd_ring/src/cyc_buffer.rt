@@ -1,7 +1,7 @@
 //! Polynomials of up to 120 coefficients, in which products and images are formed before they are reduced.
 
-ghost use Rattle.std.specs.Prelude.{◌≡◌, ℕ, ◌+◌, ◌*◌, ◌^◌, ◌<◌, ◌≤◌, ℤ, ◌+ℤ◌, ◌-ℤ◌, ◌*ℤ◌, neg_ℤ, nat_abs, pos, List, [], ◌∷◌, ◌++◌, length, take, true};
-ghost use Rattle.cyclotomic.specs.Polynomial.{leading};
+ghost use Rattle.std.specs.Prelude.{◌≡◌, ℕ, ◌+◌, ◌-◌, ◌*◌, ◌^◌, ◌<◌, ◌≤◌, ℤ, ◌+ℤ◌, ◌-ℤ◌, ◌*ℤ◌, neg_ℤ, nat_abs, pos, List, [], ◌∷◌, ◌++◌, length, take, true};
+ghost use Rattle.cyclotomic.specs.Polynomial.{leading, zeros};
 ghost use Rattle.cyclotomic.specs.Division.{cancelled, remainder};
 ghost use Rattle.cyclotomic.specs.Cyclotomic.{cyclotomic};
 ghost use Rattle.cyclotomic.specs.Conductors.{is_conductor, phi_of};
@@ -67,4 +67,26 @@ fn reduce(k: u32, buffer: &mut [i128])
         at -= 1;
         cancel(&mut buffer[at..at + low.len() + 1], low);
     }
+}
+
+// The first phi places of the buffer, then zeros.
+fn first_places(buffer: &[i128], phi: usize) -> [i128; 42]
+    requires within { phi ≤ length buffer.now }
+    requires most { phi ≤ 42 }
+    ensures { result ≡ take phi buffer.now ++ zeros (42 - phi) }
+{
+    let mut result = [0i128; 42];
+    result[..phi].copy_from_slice(&buffer[..phi]);
+    result
+}
+
+/// The largest magnitude of a number.
+pub(crate) fn size(coefficients: &[i128]) -> u128
+    ensures { result ≡ size_of coefficients.now }
+{
+    let mut largest = 0;
+    for a in coefficients {
+        largest = a.unsigned_abs().max(largest);
+    }
+    largest
 }
