@@ -6,3 +6,4 @@ pub mod ValueReaderLaws
 pub mod BufferLaws
 pub mod ReduceLaws
 pub mod ReductionSigns
+pub mod SpreadLaws

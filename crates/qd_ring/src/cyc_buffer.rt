@@ -1,12 +1,13 @@
 //! Polynomials of up to 120 coefficients, in which products and images are formed before they are reduced.
 
 ghost use Rattle.std.specs.Prelude.{◌≡◌, ℕ, ◌+◌, ◌-◌, ◌*◌, ◌^◌, ◌<◌, ◌≤◌, ℤ, ◌+ℤ◌, ◌-ℤ◌, ◌*ℤ◌, neg_ℤ, nat_abs, pos, List, [], ◌∷◌, ◌++◌, length, take, true};
-ghost use Rattle.cyclotomic.specs.Polynomial.{leading, zeros};
+ghost use Rattle.cyclotomic.specs.Polynomial.{at_power, leading, zeros};
 ghost use Rattle.cyclotomic.specs.Division.{cancelled, remainder};
 ghost use Rattle.cyclotomic.specs.Cyclotomic.{cyclotomic};
 ghost use Rattle.cyclotomic.specs.Conductors.{is_conductor, phi_of};
 ghost use Rattle.cyclotomic.specs.Fit.{size_of};
-ghost use Rattle.cyclotomic.specs.Ring.{value_of, value_sum, value_multiple, value_root};
+ghost use Rattle.cyclotomic.specs.Ring.{value_of, value_sum, value_multiple, value_product, value_root};
+ghost use Rattle.cyclotomic.specs.CyclotomicRing.{cyclotomic_value, root};
 ghost use Rattle.cyclotomic.proofs.Sizes.{total_of};
 
 use crate::reduction::reduction;
@@ -57,7 +58,7 @@ fn cancel(window: &mut [i128], low: &[i8])
 // The remainder by the cyclotomic polynomial of conductor k, in the first phi(k) places; what stands behind is left over.
 fn reduce(k: u32, buffer: &mut [i128])
     requires conductor { is_conductor k ≡ true }
-    requires size { length buffer.old ≡ 120 }
+    requires size { phi_of k ≤ length buffer.old }
     requires room { total_of buffer.old < 2 ^ 126 }
     ensures { take (phi_of k) buffer.new ≡ remainder (cyclotomic k) buffer.old }
 {
@@ -66,6 +67,23 @@ fn reduce(k: u32, buffer: &mut [i128])
     while at > 0 {
         at -= 1;
         cancel(&mut buffer[at..at + low.len() + 1], low);
+    }
+}
+
+// Adds the polynomial at x^stride, times x^start, with exponents modulo k.
+fn spread(k: u32, buffer: &mut [i128], coefficients: &[i128], start: u32, stride: u32)
+    requires conductor { is_conductor k ≡ true }
+    requires size { length buffer.old ≡ k }
+    requires start { start < k }
+    requires stride { stride < k }
+    requires room { total_of buffer.old + total_of coefficients.now < 2 ^ 126 }
+    ensures value { cyclotomic_value k buffer.new ≡ value_sum (cyclotomic_value k buffer.old) (value_product (cyclotomic k) (root k start) (cyclotomic_value k (at_power stride coefficients.now))) }
+    ensures total { total_of buffer.new ≤ total_of buffer.old + total_of coefficients.now }
+{
+    let mut place = start;
+    for a in coefficients {
+        add_at(buffer, place as usize, *a);
+        place = (place + stride) % k;
     }
 }
 

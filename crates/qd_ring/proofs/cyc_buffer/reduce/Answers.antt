@@ -10,19 +10,18 @@ use Rattle.cyclotomic.specs.Cyclotomic.{cyclotomic}
 use Rattle.cyclotomic.specs.Fit.{size_of}
 use Rattle.cyclotomic.proofs.Checks.{reduction_length}
 use Rattle.qd_ring.proofs.ReductionSigns.{reduction_ternary}
-use Rattle.qd_ring.proofs.ReduceLaws.{small_phi, window_size, window_start, step_below, step_window}
+use Rattle.qd_ring.proofs.ReduceLaws.{window_size, window_start, step_below, step_window}
 use Rattle.qd_ring.proofs.cyc_buffer.reduce.Goals as goal
 
 pub overflow_sub-at : goal.overflow_sub-at
 overflow_sub-at c =
-    omega (arith, ap length c.reduction-low.ensures, reduction_length c.args.k c.requires.conductor, small_phi c.args.k c.requires.conductor, c.requires.size)
+    omega (arith, ap length c.reduction-low.ensures, reduction_length c.args.k c.requires.conductor, c.requires.size)
 
 pub loop-at-init : goal.loop-at-init
 loop-at-init c =
     let low_is = ap length c.reduction-low.ensures ∙ reduction_length c.args.k c.requires.conductor in
-    let small = small_phi c.args.k c.requires.conductor in
     let whole : length c.args.buffer.now - length c.reduction-low.result.now + phi_of c.args.k ≡ length c.args.buffer.now =
-        omega (arith, low_is, small, c.requires.size) in
+        omega (arith, low_is, c.requires.size) in
     record {
       inside = omega (arith, whole);
       below = refl;
