@@ -87,6 +87,22 @@ fn spread(k: u32, buffer: &mut [i128], coefficients: &[i128], start: u32, stride
     }
 }
 
+// Adds a multiple of the polynomial, times x^start, with exponents modulo k.
+fn add_multiple(k: u32, buffer: &mut [i128], factor: i128, coefficients: &[i128], start: u32)
+    requires conductor { is_conductor k ≡ true }
+    requires size { length buffer.old ≡ k }
+    requires start { start < k }
+    requires room { total_of buffer.old + nat_abs factor * total_of coefficients.now < 2 ^ 126 }
+    ensures value { cyclotomic_value k buffer.new ≡ value_sum (cyclotomic_value k buffer.old) (value_multiple factor (value_product (cyclotomic k) (root k start) (cyclotomic_value k coefficients.now))) }
+    ensures total { total_of buffer.new ≤ total_of buffer.old + nat_abs factor * total_of coefficients.now }
+{
+    let mut place = start;
+    for a in coefficients {
+        add_at(buffer, place as usize, factor * *a);
+        place = (place + 1) % k;
+    }
+}
+
 // The first phi places of the buffer, then zeros.
 fn first_places(buffer: &[i128], phi: usize) -> [i128; 42]
     requires within { phi ≤ length buffer.now }
