@@ -7,3 +7,4 @@ pub mod BufferLaws
 pub mod ReduceLaws
 pub mod ReductionSigns
 pub mod SpreadLaws
+pub mod ProductLaws

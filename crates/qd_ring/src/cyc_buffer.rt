@@ -103,6 +103,24 @@ fn add_multiple(k: u32, buffer: &mut [i128], factor: i128, coefficients: &[i128]
     }
 }
 
+// Adds the product of two polynomials, with exponents modulo k.
+fn add_product(k: u32, buffer: &mut [i128], a: &[i128], b: &[i128])
+    requires conductor { is_conductor k ≡ true }
+    requires size { length buffer.old ≡ k }
+    requires factor { length a.now ≤ k }
+    requires room { total_of buffer.old + total_of a.now * total_of b.now < 2 ^ 126 }
+    ensures value { cyclotomic_value k buffer.new ≡ value_sum (cyclotomic_value k buffer.old) (value_product (cyclotomic k) (cyclotomic_value k a.now) (cyclotomic_value k b.now)) }
+    ensures total { total_of buffer.new ≤ total_of buffer.old + total_of a.now * total_of b.now }
+{
+    let mut power = 0;
+    for factor in a {
+        if *factor != 0 {
+            add_multiple(k, buffer, *factor, b, power);
+        }
+        power += 1;
+    }
+}
+
 // The first phi places of the buffer, then zeros.
 fn first_places(buffer: &[i128], phi: usize) -> [i128; 42]
     requires within { phi ≤ length buffer.now }
