@@ -40,6 +40,9 @@ value_of-padded m p j =
 pub value_of-zeros : (m : List ℤ) (j : ℕ) → value_of m (zeros j) ≡ value_nought
 value_of-zeros m j = value_of-padded m [] j ∙ value_of-nil m
 
+pub nought_sum : (m : List ℤ) (u : Value (degree m)) → value_sum value_nought u ≡ u
+nought_sum m u = sum_comm m value_nought u ∙ sum_nought m u
+
 pub total-zeros : (j : ℕ) → total_of (zeros j) ≡ 0
 unfolding total_of
 total-zeros zero = refl

@@ -7,8 +7,10 @@ ghost use Rattle.cyclotomic.specs.Cyclotomic.{cyclotomic};
 ghost use Rattle.cyclotomic.specs.Conductors.{is_conductor, phi_of};
 ghost use Rattle.cyclotomic.specs.Fit.{size_of};
 ghost use Rattle.cyclotomic.specs.Ring.{value_of, value_sum, value_multiple, value_product, value_root};
-ghost use Rattle.cyclotomic.specs.CyclotomicRing.{cyclotomic_value, root};
+ghost use Rattle.cyclotomic.specs.CyclotomicRing.{cyclotomic_value, galois_image, root};
 ghost use Rattle.cyclotomic.proofs.Sizes.{total_of};
+
+ghost use Rattle.qd_ring.specs.CycArrays.{array_of, is_array};
 
 use crate::reduction::reduction;
 
@@ -141,4 +143,58 @@ pub(crate) fn size(coefficients: &[i128]) -> u128
         largest = a.unsigned_abs().max(largest);
     }
     largest
+}
+
+// The polynomial at x^stride, times x^start, reduced; the buffer is used up.
+fn reduced_image(k: u32, buffer: &mut [i128], a: &[i128], start: u32, stride: u32) -> [i128; 42]
+    requires conductor { is_conductor k ≡ true }
+    requires empty { buffer.old ≡ zeros k }
+    requires start { start < k }
+    requires stride { stride < k }
+    requires room { total_of a.now < 2 ^ 126 }
+    ensures { result ≡ array_of (value_product (cyclotomic k) (root k start) (cyclotomic_value k (at_power stride a.now))) }
+{
+    spread(k, buffer, a, start, stride);
+    reduce(k, buffer);
+    first_places(buffer, reduction(k).len())
+}
+
+// The product of two polynomials, reduced; the buffer is used up.
+fn reduced_product(k: u32, buffer: &mut [i128], a: &[i128], b: &[i128]) -> [i128; 42]
+    requires conductor { is_conductor k ≡ true }
+    requires empty { buffer.old ≡ zeros k }
+    requires factor { length a.now ≤ k }
+    requires room { total_of a.now * total_of b.now < 2 ^ 126 }
+    ensures { result ≡ array_of (value_product (cyclotomic k) (cyclotomic_value k a.now) (cyclotomic_value k b.now)) }
+{
+    add_product(k, buffer, a, b);
+    reduce(k, buffer);
+    first_places(buffer, reduction(k).len())
+}
+
+/// The image of a value under x to x^stride, times x^start.
+pub(crate) fn image(k: u32, a: &[i128; 42], start: u32, stride: u32) -> [i128; 42]
+    requires conductor { is_conductor k ≡ true }
+    requires array { is_array k a.now ≡ true }
+    requires start { start < k }
+    requires stride { stride < k }
+    requires room { total_of a.now < 2 ^ 126 }
+    ensures { result ≡ array_of (value_product (cyclotomic k) (root k start) (galois_image k stride (cyclotomic_value k a.now))) }
+{
+    let phi = reduction(k).len();
+    let mut buffer = [0i128; 120];
+    reduced_image(k, &mut buffer[..k as usize], &a[..phi], start, stride)
+}
+
+/// The product of two values.
+pub(crate) fn product(k: u32, a: &[i128; 42], b: &[i128; 42]) -> [i128; 42]
+    requires conductor { is_conductor k ≡ true }
+    requires a_array { is_array k a.now ≡ true }
+    requires b_array { is_array k b.now ≡ true }
+    requires room { total_of a.now * total_of b.now < 2 ^ 126 }
+    ensures { result ≡ array_of (value_product (cyclotomic k) (cyclotomic_value k a.now) (cyclotomic_value k b.now)) }
+{
+    let phi = reduction(k).len();
+    let mut buffer = [0i128; 120];
+    reduced_product(k, &mut buffer[..k as usize], &a[..phi], &b[..phi])
 }
