@@ -3,17 +3,17 @@ use Rattle.std.proofs.Common.{◌≡◌, ℕ, zero, suc, ◌+◌, ◌-◌, ◌*�
 use Rattle.std.proofs.Math.Nat.{mul-le-mul_right}
 use Rattle.std.proofs.Math.Numerals.{add-one}
 use Rattle.std.proofs.Math.Seq.{take-length, take-append_seam, drop-append_seam}
-use Rattle.std.proofs.lemmas.List.{take-append-drop, length-take-le}
+use Rattle.std.proofs.lemmas.List.{take-append-drop, length-take-le, take-replicate}
 use Rattle.std.specs.Prelude.{ℤ, pos, negsuc, ◌*ℤ◌, nat_abs}
 use Rattle.std.specs.List.{list_all}
 use mathlib.Core.Path.{ap₂}
-use Rattle.cyclotomic.specs.Polynomial.{zeros}
+use Rattle.cyclotomic.specs.Polynomial.{zeros, at_power}
 use Rattle.cyclotomic.specs.Division.{degree, remainder}
 use Rattle.cyclotomic.specs.Cyclotomic.{cyclotomic}
 use Rattle.cyclotomic.specs.Conductors.{is_conductor, phi_of}
 use Rattle.cyclotomic.specs.Fit.{size_of, value_size, value_fits, greatest_magnitude}
-use Rattle.cyclotomic.specs.Ring.{Value, value_sum, value_multiple, value_nought, value_of, value_one, value_product, value_root}
-use Rattle.cyclotomic.specs.CyclotomicRing.{CyclotomicValue, cyclotomic_value, root, remainder_ring}
+use Rattle.cyclotomic.specs.Ring.{Value, value_sum, value_multiple, value_nought, value_of, value_one, value_product, value_root, value_image}
+use Rattle.cyclotomic.specs.CyclotomicRing.{CyclotomicValue, cyclotomic_value, galois_image, root, remainder_ring}
 use Rattle.cyclotomic.specs.Laws.Action.{LinearMap, act, act-nil, act-cons, act-nothing}
 use Rattle.cyclotomic.specs.Laws.Polynomials.{length-zeros}
 use Rattle.cyclotomic.specs.Laws.Remainders.{remainder-itself}
@@ -158,3 +158,14 @@ product_total xs i t h =
 
 pub product_most : (xs : List ℤ) (i t : ℕ) → total_of (take i xs) * t ≤ total_of xs * t
 product_most xs i t = mul-le-mul_right t (total-take xs i)
+
+-- the image of the first places is the image of the value
+pub image-front : (k : ℕ) (entry : is_conductor k ≡ true) (t : ℕ) (xs : List ℤ) → is_array k xs ≡ true → cyclotomic_value k (at_power t (take (phi_of k) xs)) ≡ galois_image k t (cyclotomic_value k xs)
+unfolding value_image
+image-front k entry t xs array = ap (λ p. value_of (cyclotomic k) (at_power t p)) (sym (coefficients_of k entry xs array))
+
+pub empty_front : (k : ℕ) → is_conductor k ≡ true → take k (zeros 120) ≡ zeros k
+empty_front k entry = take-replicate k 120 (pos 0) (conductor_bounds k entry).0
+
+pub empty_length : (k : ℕ) → is_conductor k ≡ true → k ≡ length (take k (zeros 120))
+empty_length k entry = sym (ap length (empty_front k entry) ∙ length-zeros k)
