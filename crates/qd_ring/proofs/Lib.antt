@@ -8,3 +8,4 @@ pub mod ReduceLaws
 pub mod ReductionSigns
 pub mod SpreadLaws
 pub mod ProductLaws
+pub mod CycLaws

@@ -1,6 +1,21 @@
-ghost use Rattle.std.specs.Prelude.{◌≡◌, true};
+ghost use Rattle.std.specs.Prelude.{◌≡◌, ◌-◌, ◌*◌, ◌^◌, ◌≤◌, ◌<◌, ◌&&◌, ◌%◌, ℤ, pos, true, [], ◌∷◌, nat_abs, is_some, IfSome, IfNone};
+ghost use Rattle.std.specs.Int.{IsGcd};
+ghost use Rattle.cyclotomic.specs.Polynomial.{coefficient};
+ghost use Rattle.cyclotomic.specs.Cyclotomic.{cyclotomic};
 ghost use Rattle.cyclotomic.specs.Conductors.{is_conductor};
-ghost use Rattle.qd_ring.specs.CycArrays.{is_array, is_small};
+ghost use Rattle.cyclotomic.specs.Ring.{value_sum, value_multiple, value_negative, value_nought, value_one, value_product};
+ghost use Rattle.cyclotomic.specs.CyclotomicRing.{CyclotomicValue, cyclotomic_value, conjugate, galois_image, root};
+ghost use Rattle.cyclotomic.specs.Fit.{value_size, value_fits, product_fits, greatest_magnitude};
+ghost use Rattle.qd_ring.specs.CycArrays.{array_of, is_array, is_small};
+
+use crate::cyc_buffer::{image, product, size};
+use crate::root::Root;
+
+/// The largest magnitude of a coefficient.
+const GREATEST: u128 = (1 << 120) - 1;
+
+/// A product of two values fits where the product of their sizes is below this number.
+const PRODUCT_LIMIT: u128 = 1 << 108;
 
 /// A value of the cyclotomic ring of conductor K that fits: a polynomial in x modulo the cyclotomic polynomial.
 ///
@@ -12,4 +27,64 @@ pub struct Cyc<const K: u32> {
     ghost conductor: { is_conductor K ≡ true },
     ghost array: { is_array K coefficients ≡ true },
     ghost small: { is_small coefficients ≡ true },
+}
+
+impl<const K: u32> Cyc<K> {
+    // The value with these coefficients, where they fit.
+    fn fitted(coefficients: [i128; 42]) -> Option<Cyc<K>>
+        requires conductor { is_conductor K ≡ true }
+        requires array { is_array K coefficients ≡ true }
+        ensures small { is_some result ≡ is_small coefficients }
+        ensures same { IfSome result (λ value. value.coefficients ≡ coefficients) }
+        ensures fits { (u : CyclotomicValue K) → coefficients ≡ array_of u → is_some result ≡ value_fits u }
+        ensures value { (u : CyclotomicValue K) → coefficients ≡ array_of u → IfSome result (λ value. cyclotomic_value K value.coefficients ≡ u) }
+    {
+        if size(&coefficients) <= GREATEST {
+            Some(Cyc { coefficients })
+        } else {
+            None
+        }
+    }
+
+    /// The conjugate; `None` exactly where it doesn't fit.
+    pub fn try_conj(&self) -> Option<Cyc<K>>
+        ensures fits { is_some result ≡ value_fits (conjugate K (cyclotomic_value K self.now.coefficients)) }
+        ensures value { IfSome result (λ value. cyclotomic_value K value.coefficients ≡ conjugate K (cyclotomic_value K self.now.coefficients)) }
+    {
+        Cyc::fitted(image(K, &self.coefficients, 0, K - 1))
+    }
+
+    /// The multiple by a root; `None` exactly where it doesn't fit.
+    pub fn try_times(&self, r: Root<K>) -> Option<Cyc<K>>
+        ensures fits { is_some result ≡ value_fits (value_product (cyclotomic K) (root K r.entry.exponent) (cyclotomic_value K self.now.coefficients)) }
+        ensures value { IfSome result (λ value. cyclotomic_value K value.coefficients ≡ value_product (cyclotomic K) (root K r.entry.exponent) (cyclotomic_value K self.now.coefficients)) }
+    {
+        Cyc::fitted(image(K, &self.coefficients, r.exponent(), 1))
+    }
+
+    /// The Galois image under t, which is prime to K; `None` exactly where it doesn't fit.
+    pub fn try_galois(&self, t: u32) -> Option<Cyc<K>>
+        requires { IsGcd t K 1 }
+        ensures fits { is_some result ≡ value_fits (galois_image K t (cyclotomic_value K self.now.coefficients)) }
+        ensures value { IfSome result (λ value. cyclotomic_value K value.coefficients ≡ galois_image K t (cyclotomic_value K self.now.coefficients)) }
+    {
+        Cyc::fitted(image(K, &self.coefficients, 0, t % K))
+    }
+
+    /// The product; `None` exactly where the two values don't fit together.
+    pub fn try_mul(&self, b: &Cyc<K>) -> Option<Cyc<K>>
+        ensures fits { is_some result ≡ product_fits (cyclotomic_value K self.now.coefficients) (cyclotomic_value K b.now.coefficients) }
+        ensures value { IfSome result (λ value. cyclotomic_value K value.coefficients ≡ value_product (cyclotomic K) (cyclotomic_value K self.now.coefficients) (cyclotomic_value K b.now.coefficients)) }
+    {
+        let Some(sizes) = size(&self.coefficients).checked_mul(size(&b.coefficients)) else {
+            return None;
+        };
+        if sizes < PRODUCT_LIMIT {
+            Some(Cyc {
+                coefficients: product(K, &self.coefficients, &b.coefficients),
+            })
+        } else {
+            None
+        }
+    }
 }
