@@ -2,7 +2,7 @@
 use Rattle.std.proofs.Common.{◌≡◌, ℕ, zero, suc, ◌+◌, ◌-◌, ◌*◌, ◌^◌, ◌%◌, ◌≤◌, ◌<◌, max, Bool, true, false, List, [], ◌∷◌, ◌++◌, length, take, drop, refl, sym, ap, ◌∙◌, subst, arith, nat_le, nat_lt}
 use Rattle.std.proofs.Math.Nat.{mul-le-mul, mul-le-mul_left}
 use Rattle.std.specs.Prelude.{ℤ, pos, nat_abs}
-use borrow.Author.Tests.{leb-true, le-leb, lt-leb, ltb-true}
+use borrow.Author.Tests.{leb-true, le-leb, lt-leb, ltb-true, lt-ltb, le-ltb}
 use mathlib.Core.Path.{ap₂}
 use Rattle.cyclotomic.specs.Polynomial.{zeros, at_power}
 use Rattle.cyclotomic.specs.Cyclotomic.{cyclotomic}
@@ -16,7 +16,7 @@ use Rattle.cyclotomic.proofs.Inverses.{galois_modulo}
 use Rattle.cyclotomic.proofs.Sizes.{total_of, total-size, size-cons, size-zeros}
 use Rattle.cyclotomic.proofs.Bounds.{product_that_fits}
 use Rattle.qd_ring.specs.CycArrays.{array_of, is_array, is_small}
-use Rattle.qd_ring.proofs.ProductLaws.{array_parts, array_length, coefficients_of}
+use Rattle.qd_ring.proofs.ProductLaws.{array_parts, array_length, coefficients_of, is_array-of}
 
 pub size-padded : (p : List ℤ) (j : ℕ) → size_of (p ++ zeros j) ≡ size_of p
 unfolding size_of
@@ -79,3 +79,22 @@ is_small_yes xs s e h = le-leb (size_of xs) greatest_magnitude (omega (arith, e,
 pub is_small_no : (xs : List ℤ) (s : ℕ) → s ≡ size_of xs → greatest_magnitude < s → is_small xs ≡ false
 unfolding is_small
 is_small_no xs s e h = lt-leb (size_of xs) greatest_magnitude (omega (arith, e, h))
+
+pub array-is : (k : ℕ) → is_conductor k ≡ true → (u : CyclotomicValue k) (xs : List ℤ) → xs ≡ array_of u → is_array k xs ≡ true
+array-is k entry u xs e = ap (is_array k) e ∙ is_array-of k entry u
+
+pub fits-product : (k : ℕ) → is_conductor k ≡ true → (u v : CyclotomicValue k) (xs : List ℤ) → xs ≡ array_of (value_product (cyclotomic k) u v) → product_fits u v ≡ true → is_small xs ≡ true
+fits-product k entry u v xs e fits = ap is_small e ∙ small-array_of (value_product (cyclotomic k) u v) ∙ product_that_fits k entry u v fits
+
+-- ---- the test of a product
+module _ (k : ℕ) (entry : is_conductor k ≡ true) (xs ys : List ℤ) (a : is_array k xs ≡ true) (b : is_array k ys ≡ true) (s t : ℕ) (s_is : s ≡ size_of xs) (t_is : t ≡ size_of ys) where
+  pub product_small : (n : ℕ) → n ≡ s * t → n < 2 ^ 108 → size_of xs * size_of ys < 2 ^ 108
+  product_small n e h = subst (λ z. z < 2 ^ 108) (e ∙ ap₂ (λ x y. x * y) s_is t_is) h
+
+  pub product_yes : (n : ℕ) → n ≡ s * t → n < 2 ^ 108 → product_fits (cyclotomic_value k xs) (cyclotomic_value k ys) ≡ true
+  product_yes n e h = product_fits-sizes k entry xs ys a b ∙ lt-ltb (size_of xs * size_of ys) (2 ^ 108) (product_small n e h)
+
+  pub product_no : 2 ^ 108 ≤ s * t → product_fits (cyclotomic_value k xs) (cyclotomic_value k ys) ≡ false
+  product_no h =
+      product_fits-sizes k entry xs ys a b
+          ∙ le-ltb (size_of xs * size_of ys) (2 ^ 108) (subst (λ z. 2 ^ 108 ≤ z) (ap₂ (λ x y. x * y) s_is t_is) h)

@@ -18,15 +18,15 @@ reduction_ternary k entry =
 
 -- ---- an entry is at most 120, and at least its phi
 is_within : ℕ → Bool
-is_within k = nat_le k 120 && nat_le (phi_of k) k && nat_le (phi_of k) 42 && nat_lt 0 (phi_of k)
+is_within k = nat_le k 120 && nat_le (phi_of k) k && nat_le (phi_of k) 42 && nat_lt 1 (phi_of k)
 
 all_within : list_all (λ (entry : ℕ × ℕ). is_within entry.0) conductors ≡ true
 unfolding is_within conductors phi_of
 all_within = refl
 
-within_means : (k : ℕ) → is_within k ≡ true → (k ≤ 120) × (phi_of k ≤ k) × (phi_of k ≤ 42) × (0 < phi_of k)
+within_means : (k : ℕ) → is_within k ≡ true → (k ≤ 120) × (phi_of k ≤ k) × (phi_of k ≤ 42) × (1 < phi_of k)
 unfolding is_within
 within_means k e = grind (arith, nat_tests)
 
-pub conductor_bounds : (k : ℕ) → is_conductor k ≡ true → (k ≤ 120) × (phi_of k ≤ k) × (phi_of k ≤ 42) × (0 < phi_of k)
+pub conductor_bounds : (k : ℕ) → is_conductor k ≡ true → (k ≤ 120) × (phi_of k ≤ k) × (phi_of k ≤ 42) × (1 < phi_of k)
 conductor_bounds k entry = within_means k (at_each_conductor is_within all_within k entry)

@@ -76,15 +76,11 @@ impl<const K: u32> Cyc<K> {
         ensures fits { is_some result ≡ product_fits (cyclotomic_value K self.now.coefficients) (cyclotomic_value K b.now.coefficients) }
         ensures value { IfSome result (λ value. cyclotomic_value K value.coefficients ≡ value_product (cyclotomic K) (cyclotomic_value K self.now.coefficients) (cyclotomic_value K b.now.coefficients)) }
     {
-        let Some(sizes) = size(&self.coefficients).checked_mul(size(&b.coefficients)) else {
-            return None;
-        };
-        if sizes < PRODUCT_LIMIT {
-            Some(Cyc {
+        match size(&self.coefficients).checked_mul(size(&b.coefficients)) {
+            Some(sizes) if sizes < PRODUCT_LIMIT => Some(Cyc {
                 coefficients: product(K, &self.coefficients, &b.coefficients),
-            })
-        } else {
-            None
+            }),
+            _ => None,
         }
     }
 }
