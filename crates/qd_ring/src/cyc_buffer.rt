@@ -1,7 +1,7 @@
 //! Polynomials of up to 120 coefficients, in which products and images are formed before they are reduced.
 
 ghost use Rattle.std.specs.Prelude.{◌≡◌, ℕ, ◌+◌, ◌-◌, ◌*◌, ◌^◌, ◌<◌, ◌≤◌, ℤ, ◌+ℤ◌, ◌-ℤ◌, ◌*ℤ◌, neg_ℤ, nat_abs, pos, List, [], ◌∷◌, ◌++◌, length, take, true};
-ghost use Rattle.cyclotomic.specs.Polynomial.{at_power, leading, zeros};
+ghost use Rattle.cyclotomic.specs.Polynomial.{at_power, leading, plus, scaled, zeros};
 ghost use Rattle.cyclotomic.specs.Division.{cancelled, remainder};
 ghost use Rattle.cyclotomic.specs.Cyclotomic.{cyclotomic};
 ghost use Rattle.cyclotomic.specs.Conductors.{is_conductor, phi_of};
@@ -197,4 +197,17 @@ pub(crate) fn product(k: u32, a: &[i128; 42], b: &[i128; 42]) -> [i128; 42]
     let phi = reduction(k).len();
     let mut buffer = [0i128; 120];
     reduced_product(k, &mut buffer[..k as usize], &a[..phi], &b[..phi])
+}
+
+/// Changes a to a - sign b, number by number.
+pub(crate) fn combine(a: &mut [i128], b: &[i128], sign: i8)
+    requires same { length a.old ≡ length b.now }
+    requires ternary { nat_abs sign ≤ 1 }
+    requires a_room { size_of a.old < 2 ^ 126 }
+    requires b_room { size_of b.now < 2 ^ 126 }
+    ensures { a.new ≡ plus a.old (scaled (neg_ℤ sign) b.now) }
+{
+    for j in 0..b.len() {
+        a[j] = less_signed(a[j], b[j], sign);
+    }
 }
