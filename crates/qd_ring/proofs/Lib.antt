@@ -9,3 +9,4 @@ pub mod ReductionSigns
 pub mod SpreadLaws
 pub mod ProductLaws
 pub mod CycLaws
+pub mod CycSums

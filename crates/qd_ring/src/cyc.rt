@@ -8,7 +8,7 @@ ghost use Rattle.cyclotomic.specs.CyclotomicRing.{CyclotomicValue, cyclotomic_va
 ghost use Rattle.cyclotomic.specs.Fit.{value_size, value_fits, product_fits, greatest_magnitude};
 ghost use Rattle.qd_ring.specs.CycArrays.{array_of, is_array, is_small};
 
-use crate::cyc_buffer::{image, product, size};
+use crate::cyc_buffer::{combine, image, product, size};
 use crate::root::Root;
 
 /// The largest magnitude of a coefficient.
@@ -44,6 +44,26 @@ impl<const K: u32> Cyc<K> {
         } else {
             None
         }
+    }
+
+    /// The sum; `None` exactly where it doesn't fit.
+    pub fn try_add(&self, b: &Cyc<K>) -> Option<Cyc<K>>
+        ensures fits { is_some result ≡ value_fits (value_sum (cyclotomic_value K self.now.coefficients) (cyclotomic_value K b.now.coefficients)) }
+        ensures value { IfSome result (λ value. cyclotomic_value K value.coefficients ≡ value_sum (cyclotomic_value K self.now.coefficients) (cyclotomic_value K b.now.coefficients)) }
+    {
+        let mut sum = self.coefficients;
+        combine(&mut sum, &b.coefficients, -1);
+        Cyc::fitted(sum)
+    }
+
+    /// The difference; `None` exactly where it doesn't fit.
+    pub fn try_sub(&self, b: &Cyc<K>) -> Option<Cyc<K>>
+        ensures fits { is_some result ≡ value_fits (value_sum (cyclotomic_value K self.now.coefficients) (value_negative (cyclotomic_value K b.now.coefficients))) }
+        ensures value { IfSome result (λ value. cyclotomic_value K value.coefficients ≡ value_sum (cyclotomic_value K self.now.coefficients) (value_negative (cyclotomic_value K b.now.coefficients))) }
+    {
+        let mut difference = self.coefficients;
+        combine(&mut difference, &b.coefficients, 1);
+        Cyc::fitted(difference)
     }
 
     /// The conjugate; `None` exactly where it doesn't fit.
