@@ -9,6 +9,8 @@ ghost use Rattle.cyclotomic.specs.Fit.{value_size, value_fits, product_fits, gre
 ghost use Rattle.qd_ring.specs.CycArrays.{array_of, is_array, is_small};
 
 use crate::cyc_buffer::{combine, image, product, size};
+use crate::plain::Plain;
+use crate::reduction::reduction;
 use crate::root::Root;
 
 /// The largest magnitude of a coefficient.
@@ -30,6 +32,98 @@ pub struct Cyc<const K: u32> {
 }
 
 impl<const K: u32> Cyc<K> {
+    /// The value 0.
+    pub fn zero() -> Cyc<K>
+        requires { is_conductor K ≡ true }
+        ensures { cyclotomic_value K result.coefficients ≡ value_nought }
+    {
+        Cyc {
+            coefficients: [0; 42],
+        }
+    }
+
+    /// The value 1.
+    pub fn one() -> Cyc<K>
+        requires { is_conductor K ≡ true }
+        ensures { cyclotomic_value K result.coefficients ≡ value_one (cyclotomic K) }
+    {
+        Cyc::whole(1)
+    }
+
+    /// The whole number `v`.
+    pub fn whole(v: i128) -> Cyc<K>
+        requires conductor { is_conductor K ≡ true }
+        requires fits { nat_abs v ≤ greatest_magnitude }
+        ensures { cyclotomic_value K result.coefficients ≡ cyclotomic_value K (v ∷ []) }
+    {
+        let mut coefficients = [0; 42];
+        coefficients[0] = v;
+        Cyc { coefficients }
+    }
+
+    /// The root of unity, as a value.
+    pub fn from_root(r: Root<K>) -> Cyc<K>
+        ensures { cyclotomic_value K result.coefficients ≡ root K r.entry.exponent }
+    {
+        let one: Cyc<K> = Cyc::one();
+        Cyc {
+            coefficients: image(K, &one.coefficients, r.exponent(), 1),
+        }
+    }
+
+    /// The coefficient of x^p, 0 past the last one.
+    pub fn coefficient(&self, p: u32) -> i128
+        ensures { result ≡ coefficient (cyclotomic_value K self.now.coefficients).coefficients p }
+    {
+        if p < 42 {
+            self.coefficients[p as usize]
+        } else {
+            0
+        }
+    }
+
+    /// The largest magnitude of a coefficient.
+    pub fn size(&self) -> u128
+        ensures { result ≡ value_size (cyclotomic_value K self.now.coefficients) }
+    {
+        size(&self.coefficients)
+    }
+
+    /// The whole number that the value is; `None` exactly where it is none.
+    pub fn as_whole(&self) -> Option<i128>
+        ensures whole { IfSome result (λ v. cyclotomic_value K self.now.coefficients ≡ cyclotomic_value K (v ∷ [])) }
+        ensures none { IfNone result ((v : ℤ) → cyclotomic_value K self.now.coefficients ≡ cyclotomic_value K (v ∷ []) → ⊥) }
+    {
+        if self.coefficients[1..].iter().all(|a| *a == 0) {
+            Some(self.coefficients[0])
+        } else {
+            None
+        }
+    }
+
+    /// The coefficients alone.
+    pub fn to_plain(&self) -> Plain
+        ensures { result.coefficients ≡ self.now.coefficients }
+    {
+        Plain {
+            coefficients: self.coefficients,
+        }
+    }
+
+    /// The value with these coefficients; `None` exactly where one from phi(K) on isn't 0 or one doesn't fit.
+    pub fn from_plain(p: &Plain) -> Option<Cyc<K>>
+        requires { is_conductor K ≡ true }
+        ensures fits { is_some result ≡ (is_array K p.now.coefficients && is_small p.now.coefficients) }
+        ensures value { IfSome result (λ value. value.coefficients ≡ p.now.coefficients) }
+    {
+        let phi = reduction(K).len();
+        if p.coefficients[phi..].iter().all(|a| *a == 0) {
+            Cyc::fitted(p.coefficients)
+        } else {
+            None
+        }
+    }
+
     // The value with these coefficients, where they fit.
     fn fitted(coefficients: [i128; 42]) -> Option<Cyc<K>>
         requires conductor { is_conductor K ≡ true }
