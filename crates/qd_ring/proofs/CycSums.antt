@@ -1,10 +1,11 @@
 -- Sums, differences and constants as arrays.
-use Rattle.std.proofs.Common.{◌≡◌, ℕ, zero, suc, pred, ◌+◌, ◌-◌, ◌*◌, ◌^◌, ◌≤◌, ◌<◌, max, Bool, true, false, List, [], ◌∷◌, ◌++◌, length, take, drop, refl, sym, ap, ◌∙◌, subst, arith, ◌==◌, ◌&&◌, eq-eqb, length-append, length-drop}
+use Rattle.std.proofs.Common.{◌≡◌, ℕ, zero, suc, pred, ◌+◌, ◌-◌, ◌*◌, ◌^◌, ◌≤◌, ◌<◌, max, Bool, true, false, List, [], ◌∷◌, ◌++◌, length, take, drop, refl, sym, ap, ◌∙◌, subst, arith, ◌==◌, ◌&&◌, eq-eqb, length-append, length-drop, get_or}
+use Rattle.std.proofs.Math.Seq.{take-length}
 use Rattle.std.proofs.lemmas.List.{drop-replicate}
 use Rattle.std.specs.Prelude.{ℤ, pos, negsuc, neg_ℤ, ◌+ℤ◌, ◌*ℤ◌, nat_abs}
 use Rattle.std.specs.List.{list_all}
 use mathlib.Core.Path.{ap₂}
-use Rattle.cyclotomic.specs.Polynomial.{zeros, plus, scaled}
+use Rattle.cyclotomic.specs.Polynomial.{zeros, plus, scaled, coefficient}
 use Rattle.cyclotomic.specs.Cyclotomic.{cyclotomic}
 use Rattle.cyclotomic.specs.Conductors.{is_conductor, phi_of}
 use Rattle.cyclotomic.specs.Fit.{size_of, value_size, greatest_magnitude}
@@ -17,7 +18,7 @@ use Rattle.cyclotomic.proofs.Sizes.{size-scaled, size-zeros, size-cons}
 use Rattle.cyclotomic.proofs.Bounds.{root_size}
 use Rattle.qd_ring.specs.CycArrays.{array_of, is_array, is_nought, is_small}
 use Rattle.qd_ring.proofs.ReductionSigns.{conductor_bounds}
-use Rattle.qd_ring.proofs.ProductLaws.{array_parts, array_length, coefficients_of, length-value, value_of-padded, value_of-zeros, zeros_noughts, value-array_of, nought_sum}
+use Rattle.qd_ring.proofs.ProductLaws.{array_parts, array_length, coefficients_of, length-value, value_of-padded, value_of-zeros, zeros_noughts, all_noughts, value-array_of, nought_sum}
 use Rattle.qd_ring.proofs.CycLaws.{small_means, size-array_of, is_small_yes}
 
 plus-padded : (p q : List ℤ) (j : ℕ) → length p ≡ length q → plus (p ++ zeros j) (q ++ zeros j) ≡ plus p q ++ zeros j
@@ -100,3 +101,59 @@ module _ (k : ℕ) (entry : is_conductor k ≡ true) where
       difference_array (zeros 42) xs zeros_array a
           ∙ ap (λ z. array_of (value_sum z (value_negative (cyclotomic_value k xs)))) zero_value
           ∙ ap array_of (nought_sum (cyclotomic k) (value_negative (cyclotomic_value k xs)))
+
+-- ---- whole numbers and single coefficients
+coefficient_padded : (p : List ℤ) (j i : ℕ) → coefficient (p ++ zeros j) i ≡ coefficient p i
+unfolding coefficient
+coefficient_padded [] zero i = refl
+coefficient_padded [] (suc j) zero = refl
+coefficient_padded [] (suc j) (suc i) = coefficient_padded [] j i
+coefficient_padded (a ∷ p) j zero = refl
+coefficient_padded (a ∷ p) j (suc i) = coefficient_padded p j i
+
+coefficient_get : (p : List ℤ) (i : ℕ) → coefficient p i ≡ get_or p i (pos 0)
+unfolding coefficient
+coefficient_get [] i = refl
+coefficient_get (a ∷ p) zero = refl
+coefficient_get (a ∷ p) (suc i) = coefficient_get p i
+
+coefficient_past : (p : List ℤ) (i : ℕ) → length p ≤ i → coefficient p i ≡ pos 0
+unfolding coefficient
+coefficient_past [] i h = refl
+coefficient_past (a ∷ p) zero h = absurd (omega arith)
+coefficient_past (a ∷ p) (suc i) h = coefficient_past p i (omega arith)
+
+one_and_rest : (xs : List ℤ) → length xs ≡ 42 → list_all is_nought (take 41 (drop 1 xs)) ≡ true → xs ≡ get_or xs 0 (pos 0) ∷ zeros 41
+one_and_rest [] e all = absurd (omega (arith, e))
+one_and_rest (a ∷ xs) e all =
+    let count : length xs ≡ 41 = omega (arith, e) in
+    let whole : take 41 xs ≡ xs = ap (λ n. take n xs) (sym count) ∙ take-length xs in
+    ap (λ z. a ∷ z) (all_noughts xs (ap (list_all is_nought) (sym whole) ∙ all) ∙ ap zeros count)
+
+module _ (k : ℕ) (entry : is_conductor k ≡ true) (xs : List ℤ) (array : is_array k xs ≡ true) where
+  pub coefficient_at : (i : ℕ) → get_or xs i (pos 0) ≡ coefficient (cyclotomic_value k xs).coefficients i
+  unfolding array_of
+  coefficient_at i =
+      let u = cyclotomic_value k xs in
+      sym (coefficient_get xs i)
+          ∙ ap (λ p. coefficient p i) (array-of_value k entry xs array)
+          ∙ coefficient_padded u.coefficients (42 - length u.coefficients) i
+
+  pub coefficient_beyond : (i : ℕ) → 42 ≤ i → pos 0 ≡ coefficient (cyclotomic_value k xs).coefficients i
+  coefficient_beyond i h =
+      let u = cyclotomic_value k xs in
+      sym (coefficient_past u.coefficients i (omega (arith, length-value k entry u, (conductor_bounds k entry).2, h)))
+
+  pub whole_value : list_all is_nought (take 41 (drop 1 xs)) ≡ true → cyclotomic_value k xs ≡ cyclotomic_value k (get_or xs 0 (pos 0) ∷ [])
+  whole_value all =
+      ap (cyclotomic_value k) (one_and_rest xs (array_length k entry xs array) all)
+          ∙ constant_value k entry (get_or xs 0 (pos 0))
+
+  pub not_whole : list_all is_nought (take 41 (drop 1 xs)) ≡ false → (v : ℤ) → cyclotomic_value k xs ≡ cyclotomic_value k (v ∷ []) → ⊥
+  not_whole some v e =
+      let is : xs ≡ v ∷ zeros 41 =
+          array-of_value k entry xs array
+              ∙ ap array_of (e ∙ sym (constant_value k entry v))
+              ∙ sym (array-of_value k entry (v ∷ zeros 41) (constant_array k entry v)) in
+      let clash : true ≡ false = sym (ap (λ z. list_all is_nought (take 41 (drop 1 z))) is) ∙ some in
+      cc

@@ -8,7 +8,7 @@ ghost use Rattle.cyclotomic.specs.CyclotomicRing.{CyclotomicValue, cyclotomic_va
 ghost use Rattle.cyclotomic.specs.Fit.{value_size, value_fits, product_fits, greatest_magnitude};
 ghost use Rattle.qd_ring.specs.CycArrays.{array_of, is_array, is_small};
 
-use crate::cyc_buffer::{combine, image, product, size};
+use crate::cyc_buffer::{all_zero, combine, image, is_padded, product, size};
 use crate::plain::Plain;
 use crate::reduction::reduction;
 use crate::root::Root;
@@ -94,7 +94,7 @@ impl<const K: u32> Cyc<K> {
         ensures whole { IfSome result (λ v. cyclotomic_value K self.now.coefficients ≡ cyclotomic_value K (v ∷ [])) }
         ensures none { IfNone result ((v : ℤ) → cyclotomic_value K self.now.coefficients ≡ cyclotomic_value K (v ∷ []) → ⊥) }
     {
-        if self.coefficients[1..].iter().all(|a| *a == 0) {
+        if all_zero(&self.coefficients[1..]) {
             Some(self.coefficients[0])
         } else {
             None
@@ -116,8 +116,7 @@ impl<const K: u32> Cyc<K> {
         ensures fits { is_some result ≡ (is_array K p.now.coefficients && is_small p.now.coefficients) }
         ensures value { IfSome result (λ value. value.coefficients ≡ p.now.coefficients) }
     {
-        let phi = reduction(K).len();
-        if p.coefficients[phi..].iter().all(|a| *a == 0) {
+        if is_padded(K, &p.coefficients) {
             Cyc::fitted(p.coefficients)
         } else {
             None

@@ -10,7 +10,8 @@ ghost use Rattle.cyclotomic.specs.Ring.{value_of, value_sum, value_multiple, val
 ghost use Rattle.cyclotomic.specs.CyclotomicRing.{cyclotomic_value, galois_image, root};
 ghost use Rattle.cyclotomic.proofs.Sizes.{total_of};
 
-ghost use Rattle.qd_ring.specs.CycArrays.{array_of, is_array};
+ghost use Rattle.qd_ring.specs.CycArrays.{array_of, is_array, is_nought};
+ghost use Rattle.std.specs.List.{list_all};
 
 use crate::reduction::reduction;
 
@@ -210,4 +211,19 @@ pub(crate) fn combine(a: &mut [i128], b: &[i128], sign: i8)
     for j in 0..b.len() {
         a[j] = less_signed(a[j], b[j], sign);
     }
+}
+
+/// Whether all numbers are 0.
+pub(crate) fn all_zero(numbers: &[i128]) -> bool
+    ensures { result ≡ list_all is_nought numbers.now }
+{
+    numbers.iter().all(|a| *a == 0)
+}
+
+/// Whether the places from phi(k) on are 0.
+pub(crate) fn is_padded(k: u32, numbers: &[i128; 42]) -> bool
+    requires { is_conductor k ≡ true }
+    ensures { result ≡ is_array k numbers.now }
+{
+    all_zero(&numbers[reduction(k).len()..])
 }
