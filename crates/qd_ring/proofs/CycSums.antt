@@ -157,3 +157,8 @@ module _ (k : ℕ) (entry : is_conductor k ≡ true) (xs : List ℤ) (array : is
               ∙ sym (array-of_value k entry (v ∷ zeros 41) (constant_array k entry v)) in
       let clash : true ≡ false = sym (ap (λ z. list_all is_nought (take 41 (drop 1 z))) is) ∙ some in
       cc
+
+-- the test of an array that is 42 long
+pub array_test : (k : ℕ) (xs : List ℤ) → length xs ≡ 42 → list_all is_nought (drop (phi_of k) xs) ≡ is_array k xs
+unfolding is_array
+array_test k xs e = sym (ap (λ b. b && list_all is_nought (drop (phi_of k) xs)) (eq-eqb (length xs) 42 e))

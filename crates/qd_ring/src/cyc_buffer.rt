@@ -1,6 +1,6 @@
 //! Polynomials of up to 120 coefficients, in which products and images are formed before they are reduced.
 
-ghost use Rattle.std.specs.Prelude.{◌≡◌, ℕ, ◌+◌, ◌-◌, ◌*◌, ◌^◌, ◌<◌, ◌≤◌, ℤ, ◌+ℤ◌, ◌-ℤ◌, ◌*ℤ◌, neg_ℤ, nat_abs, pos, List, [], ◌∷◌, ◌++◌, length, take, true};
+ghost use Rattle.std.specs.Prelude.{◌≡◌, ℕ, ◌+◌, ◌-◌, ◌*◌, ◌^◌, ◌<◌, ◌≤◌, ℤ, ◌+ℤ◌, ◌-ℤ◌, ◌*ℤ◌, neg_ℤ, nat_abs, pos, List, [], ◌∷◌, ◌++◌, length, drop, take, true};
 ghost use Rattle.cyclotomic.specs.Polynomial.{at_power, leading, plus, scaled, zeros};
 ghost use Rattle.cyclotomic.specs.Division.{cancelled, remainder};
 ghost use Rattle.cyclotomic.specs.Cyclotomic.{cyclotomic};
@@ -220,10 +220,19 @@ pub(crate) fn all_zero(numbers: &[i128]) -> bool
     numbers.iter().all(|a| *a == 0)
 }
 
-/// Whether the places from phi(k) on are 0.
-pub(crate) fn is_padded(k: u32, numbers: &[i128; 42]) -> bool
-    requires { is_conductor k ≡ true }
+/// Whether the numbers from a place on are 0.
+fn rest_is_zero(numbers: &[i128], from: usize) -> bool
+    requires { from ≤ length numbers.now }
+    ensures { result ≡ list_all is_nought (drop from numbers.now) }
+{
+    all_zero(&numbers[from..])
+}
+
+/// Whether the places from phi(k) on are 0, of 42.
+pub(crate) fn is_padded(k: u32, numbers: &[i128]) -> bool
+    requires conductor { is_conductor k ≡ true }
+    requires size { length numbers.now ≡ 42 }
     ensures { result ≡ is_array k numbers.now }
 {
-    all_zero(&numbers[reduction(k).len()..])
+    rest_is_zero(numbers, reduction(k).len())
 }
