@@ -4,7 +4,7 @@ use Rattle.std.proofs.Math.Numerals.{add-one}
 use Rattle.std.specs.Prelude.{ℤ, pos, negsuc, ◌+ℤ◌, ◌*ℤ◌, neg_ℤ, nat_abs}
 use Rattle.std.proofs.lemmas.Int.{to_z-of_z}
 use mathlib.Core.Path.{ap₂}
-use Rattle.std.proofs.Math.Nat.{mul-le-mul_left}
+use Rattle.std.proofs.Math.Nat.{mul-le-mul_left, mul-le-mul_right}
 use mir.Syntax.{w8, w128}
 use mir.Val.{SFits, to_z, of_z}
 use Rattle.cyclotomic.specs.Polynomial.{plus, scaled, leading, lower}
@@ -199,3 +199,53 @@ module _ (low w : List ℤ) (size : length w ≡ suc (length low)) (ternary : si
   pub cancel_nothing : to_z w128 (of_z w128 (get_or w (length low) (pos 0))) ≡ pos 0 → w ≡ cancelled (low ++ (pos 1 ∷ [])) w ++ (leading w ∷ [])
   cancel_nothing e =
       sym (mixed-nothing low w) ∙ ap (λ z. mixed z low w) (sym e ∙ cancel_last) ∙ mixed-cancels low w size
+
+pub size-take_suc : (xs : List ℤ) (j : ℕ) → j < length xs → size_of (take (suc j) xs) ≡ max (nat_abs (get_or xs j (pos 0))) (size_of (take j xs))
+unfolding size_of
+size-take_suc [] j h = absurd (omega arith)
+size-take_suc (a ∷ xs) zero h = refl
+size-take_suc (a ∷ xs) (suc j) h = omega (arith, size-take_suc xs j (omega arith))
+
+-- one more number in a largest magnitude
+pub size_step : (xs : List ℤ) (j n r largest : ℕ) → j < length xs → r ≡ nat_abs (to_z w128 (of_z w128 (get_or xs j (pos 0)))) → SFits w128 (get_or xs j (pos 0)) → n ≡ max r largest → largest ≡ size_of (take j xs) → n ≡ size_of (take (j + 1) xs)
+size_step xs j n r largest h read fits is e =
+    let r_is : r ≡ nat_abs (get_or xs j (pos 0)) = read ∙ ap nat_abs (to_z-of_z w128 (get_or xs j (pos 0)) fits) in
+    let more : size_of (take (j + 1) xs) ≡ size_of (take (suc j) xs) = ap (λ i. size_of (take i xs)) (add-one j) in
+    omega (arith, is, r_is, e, more, size-take_suc xs j h)
+
+-- ---- sums and differences, number by number
+pub mixed-sum : (s : ℤ) (b a : List ℤ) → length a ≡ length b → mixed s b a ≡ plus a (scaled (neg_ℤ s) b)
+unfolding mixed plus scaled
+mixed-sum s [] [] e = refl
+mixed-sum s [] (x ∷ a) e = refl
+mixed-sum s (y ∷ b) [] e = absurd (omega (arith, e))
+mixed-sum s (y ∷ b) (x ∷ a) e = ap (λ z. (x +ℤ (neg_ℤ s *ℤ y)) ∷ z) (mixed-sum s b a (ap pred e))
+
+pub sign_swaps : (s y : ℤ) → neg_ℤ y *ℤ s ≡ neg_ℤ s *ℤ y
+sign_swaps s y = Z.neg_times y s ∙ ap neg_ℤ (Z.times_comm y s) ∙ sym (Z.neg_times s y)
+
+module _ (s : ℤ) (b a : List ℤ) (ternary : nat_abs s ≤ 1) (a_small : size_of a < 2 ^ 126) (b_small : size_of b < 2 ^ 126) where
+  pub combine_read : (la : List ℤ) (j : ℕ) → la ≡ mixed s (take j b) a → to_z w128 (of_z w128 (get_or la j (pos 0))) ≡ get_or a j (pos 0)
+  combine_read la j e =
+      ap (λ z. to_z w128 (of_z w128 (get_or z j (pos 0)))) e
+          ∙ ap (λ z. to_z w128 (of_z w128 z)) (mixed-at s b a j)
+          ∙ read_128 (get_or a j (pos 0)) (omega (arith, size_at a j))
+
+  pub combine_other : (j : ℕ) → to_z w128 (of_z w128 (get_or b j (pos 0))) ≡ get_or b j (pos 0)
+  combine_other j = read_128 (get_or b j (pos 0)) (omega (arith, size_at b j))
+
+  pub combine_step : (la : List ℤ) (j : ℕ) (r : ℤ) → j < length b → la ≡ mixed s (take j b) a → r ≡ to_z w128 (of_z w128 (get_or la j (pos 0))) +ℤ (neg_ℤ (to_z w128 (of_z w128 (get_or b j (pos 0)))) *ℤ s) → set la j (to_z w128 (of_z w128 r)) ≡ mixed s (take (j + 1) b) a
+  combine_step la j r h e is =
+      let x = get_or a j (pos 0) in
+      let y = get_or b j (pos 0) in
+      let product = neg_ℤ s *ℤ y in
+      let r_is : r ≡ x +ℤ product =
+          is ∙ ap₂ (λ u v. u +ℤ v) (combine_read la j e) (ap (λ z. neg_ℤ z *ℤ s) (combine_other j) ∙ sign_swaps s y) in
+      let factor : nat_abs s * nat_abs y ≤ 1 * nat_abs y = mul-le-mul_right (nat_abs y) ternary in
+      let bound : nat_abs (x +ℤ product) < 2 ^ 127 =
+          omega (arith, size_at a j, size_at b j, factor, magnitude-sum x product, magnitude-product (neg_ℤ s) y, ap (λ n. n * nat_abs y) (magnitude-negative s)) in
+      ap (λ z. set la j (to_z w128 (of_z w128 z))) r_is
+          ∙ ap (set la j) (read_128 (x +ℤ product) bound)
+          ∙ ap (λ z. set z j (x +ℤ product)) e
+          ∙ mixed-step s b a j h
+          ∙ ap (λ n. mixed s (take n b) a) (sym (add-one j))

@@ -11,3 +11,9 @@ pub mod ValueLaws
 pub mod ValueOutcomeLaws
 pub mod BufferLaws
 pub mod RowSteps
+pub mod ReduceLaws
+pub mod ReductionSigns
+pub mod SpreadLaws
+pub mod ProductLaws
+pub mod CycLaws
+pub mod CycSums
