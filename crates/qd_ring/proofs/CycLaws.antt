@@ -39,7 +39,7 @@ module _ (k : ℕ) (entry : is_conductor k ≡ true) where
   pub size-value : (xs : List ℤ) → is_array k xs ≡ true → value_size (cyclotomic_value k xs) ≡ size_of xs
   size-value xs array =
       ap size_of (coefficients_of k entry xs array)
-          ∙ sym (ap size_of (array_parts k entry xs array) ∙ size-padded (take (phi_of k) xs) (length (drop (phi_of k) xs)))
+      ∙ sym (ap size_of (array_parts k entry xs array) ∙ size-padded (take (phi_of k) xs) (length (drop (phi_of k) xs)))
 
   pub total_bound : (xs : List ℤ) → is_array k xs ≡ true → total_of xs ≤ 42 * size_of xs
   total_bound xs array = subst (λ n. total_of xs ≤ n * size_of xs) (array_length k entry xs array) (total-size xs)
@@ -64,7 +64,7 @@ module _ (k : ℕ) (entry : is_conductor k ≡ true) where
   pub image_alone : (t : ℕ) (u : CyclotomicValue k) → value_product (cyclotomic k) (root k 0) (galois_image k t u) ≡ galois_image k t u
   image_alone t u =
       ap (λ r. value_product (cyclotomic k) r (galois_image k t u)) (root-zero (cyclotomic k))
-          ∙ one_mul (remainder_ring (cyclotomic k)) (galois_image k t u)
+      ∙ one_mul (remainder_ring (cyclotomic k)) (galois_image k t u)
 
   pub image_modulo : (t : ℕ) (u : CyclotomicValue k) → value_product (cyclotomic k) (root k 0) (galois_image k (t % k) u) ≡ galois_image k t u
   image_modulo t u = image_alone (t % k) u ∙ sym (galois_modulo k entry t u)
@@ -97,4 +97,4 @@ module _ (k : ℕ) (entry : is_conductor k ≡ true) (xs ys : List ℤ) (a : is_
   pub product_no : 2 ^ 108 ≤ s * t → product_fits (cyclotomic_value k xs) (cyclotomic_value k ys) ≡ false
   product_no h =
       product_fits-sizes k entry xs ys a b
-          ∙ le-ltb (size_of xs * size_of ys) (2 ^ 108) (subst (λ z. 2 ^ 108 ≤ z) (ap₂ (λ x y. x * y) s_is t_is) h)
+      ∙ le-ltb (size_of xs * size_of ys) (2 ^ 108) (subst (λ z. 2 ^ 108 ≤ z) (ap₂ (λ x y. x * y) s_is t_is) h)
