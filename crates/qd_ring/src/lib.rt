@@ -3,7 +3,6 @@
 
 mod cyc;
 mod cyc_buffer;
-mod memory;
 mod plain;
 mod reduction;
 mod ring;
@@ -16,7 +15,6 @@ mod value_reader;
 mod value_text;
 
 pub use cyc::Cyc;
-pub use memory::Memory;
 pub use plain::{Plain, ValueFault};
 pub use ring::Ring;
 pub use root::Root;
@@ -26,3 +24,5 @@ pub use sum::{root_of, try_sum, try_sum_below, try_term};
 pub use unit_group::UnitGroup;
 pub use value_reader::read_plain;
 pub use value_text::append_plain;
+/// There was no memory for what was asked. Nothing that was lent has changed.
+pub use std::alloc::AllocError as Memory;
