@@ -8,7 +8,8 @@ use mathlib.Core.Path.{ap₂}
 use Rattle.cyclotomic.specs.Polynomial.{zeros, plus, scaled, coefficient}
 use Rattle.cyclotomic.specs.Cyclotomic.{cyclotomic}
 use Rattle.cyclotomic.specs.Conductors.{is_conductor, phi_of}
-use Rattle.cyclotomic.specs.Fit.{size_of, value_size, greatest_magnitude}
+use Rattle.cyclotomic.specs.Fit.{size_of, value_size, value_fits, greatest_magnitude}
+use borrow.Author.Tests.{le-leb}
 use Rattle.cyclotomic.specs.Ring.{Value, value_sum, value_multiple, value_negative, value_nought, value_of, value_one, value_product}
 use Rattle.cyclotomic.specs.CyclotomicRing.{CyclotomicValue, cyclotomic_value, root}
 use Rattle.cyclotomic.specs.Laws.Integers as Z
@@ -19,7 +20,7 @@ use Rattle.cyclotomic.proofs.Bounds.{root_size}
 use Rattle.qd_ring.specs.CycArrays.{array_of, is_array, is_nought, is_small}
 use Rattle.qd_ring.proofs.ReductionSigns.{conductor_bounds}
 use Rattle.qd_ring.proofs.ProductLaws.{array_parts, array_length, coefficients_of, length-value, value_of-padded, value_of-zeros, zeros_noughts, all_noughts, value-array_of, nought_sum}
-use Rattle.qd_ring.proofs.CycLaws.{small_means, size-array_of, is_small_yes}
+use Rattle.qd_ring.proofs.CycLaws.{small_means, size-array_of, size-value, is_small_yes}
 
 plus-padded : (p q : List ℤ) (j : ℕ) → length p ≡ length q → plus (p ++ zeros j) (q ++ zeros j) ≡ plus p q ++ zeros j
 unfolding plus
@@ -162,3 +163,11 @@ module _ (k : ℕ) (entry : is_conductor k ≡ true) (xs : List ℤ) (array : is
 pub array_test : (k : ℕ) (xs : List ℤ) → length xs ≡ 42 → list_all is_nought (drop (phi_of k) xs) ≡ is_array k xs
 unfolding is_array
 array_test k xs e = sym (ap (λ b. b && list_all is_nought (drop (phi_of k) xs)) (eq-eqb (length xs) 42 e))
+
+-- a negative fits where its value does
+pub negative_fits : (k : ℕ) → is_conductor k ≡ true → (xs : List ℤ) → is_array k xs ≡ true → is_small xs ≡ true → value_fits (value_negative (cyclotomic_value k xs)) ≡ true
+unfolding value_fits value_multiple
+negative_fits k entry xs array small =
+    let u = cyclotomic_value k xs in
+    le-leb (value_size (value_negative u)) greatest_magnitude
+    (omega (arith, size-scaled (negsuc 0) u.coefficients, size-value k entry xs array, small_means xs small))

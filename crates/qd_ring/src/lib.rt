@@ -3,6 +3,7 @@
 
 mod cyc;
 mod cyc_buffer;
+mod cyc_ops;
 mod memory;
 mod plain;
 mod reduction;
