@@ -5,7 +5,6 @@ pub mod Fronts
 pub mod ValueReaderLaws
 pub mod BufferLaws
 pub mod ReduceLaws
-pub mod ReductionSigns
 pub mod SpreadLaws
 pub mod ProductLaws
 pub mod CycLaws
