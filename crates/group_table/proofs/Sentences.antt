@@ -1,9 +1,12 @@
 -- The laws of a group as plain sentences, from a table that breaks none.
-use Rattle.std.proofs.Common.{◌≡◌, ℕ, ◌<◌, Bool, true, false, nat_eq, nat_lt, cond, Option, Some, None, refl, sym, ap, ◌∙◌, arith}
-use Rattle.std.specs.Prelude.{is_some, unwrap_or}
+use Rattle.std.proofs.Common.{◌≡◌, ℕ, ◌<◌, Bool, true, false, nat_eq, nat_lt, cond, Option, Some, None, refl, sym, ap, ◌∙◌, arith, ◌%◌}
+use Rattle.std.specs.Prelude.{List, slice_index, is_some, unwrap_or}
 use Rattle.std.proofs.lemmas.Bool.{ltb-true, eqb-true}
 use Rattle.scan.proofs.Places.{or_none, and_true, first_none-at, first_some, all_below-at}
-use Rattle.group_table.specs.Group.{Table, product, entry_fault, is_identity, two_sided_identity, identity_of, identity_fault, inverse_of, inverse_fault, associates, associativity_fault, group_fault, IsGroup}
+use Rattle.orders.specs.Group.{IsGroupBelow, power}
+use Rattle.orders.proofs.Powers.{power_modulo, right_inverse_left}
+use Rattle.orders.proofs.Exponents.{power_of_size}
+use Rattle.group_table.specs.Group.{Table, product, entry_fault, is_identity, two_sided_identity, identity_of, identity_fault, inverse_of, inverse, inverse_fault, associates, associativity_fault, group_fault, IsGroup, ListsInverses}
 use Rattle.group_table.specs.declared.fault.GroupFault.TheVariants.{Entry, NoIdentity, NoInverse, NotAssociative}
 
 -- a test that finds nothing wrong
@@ -94,3 +97,52 @@ identity_below t group = (identity_is t (laws t group).has_identity).below
 
 pub closed : (t : Table) (g h : ℕ) → IsGroup t → g < t.order → h < t.order → product t g h < t.order
 closed t g h group g_below h_below = product_below t g h (laws t group).entries g_below h_below
+
+-- a group by its table is a group whose elements are the numbers below its order
+pub group_below : (t : Table) → IsGroup t → IsGroupBelow t.order (product t) (identity_of t)
+group_below t group =
+    let sentences = laws t group in
+    let identity = identity_is t sentences.has_identity in
+    record {
+      unit_below = identity.below;
+      closed = λ g h p q. product_below t g h sentences.entries p q;
+      unit_left = λ g p. identity.left g p;
+      unit_right = λ g p. identity.right g p;
+      right_inverse = λ g p.
+          let (h, found) = has_inverse t g sentences.inverses p in
+          let inverse = inverse_at t g h found in
+          (h, inverse.below, inverse.right);
+      associative = λ g h k p q r. associative t g h k sentences.associativity p q r;
+    }
+
+-- the inverse is found
+pub inverse_found : (t : Table) (g : ℕ) → IsGroup t → g < t.order → inverse_of t g ≡ Some (inverse t g)
+inverse_found t g group below =
+    let (h, found) = has_inverse t g (laws t group).inverses below in
+    found ∙ ap (λ o. Some (unwrap_or o 0)) (sym found)
+
+-- the inverse is an element whose product with g, on either side, is the identity
+pub record IsTwoSidedInverse (t : Table) (g h : ℕ) : Type 0 where
+  pub below : h < t.order
+  pub right : product t g h ≡ identity_of t
+  pub left : product t h g ≡ identity_of t
+
+pub two_sided : (t : Table) (g h : ℕ) → IsGroup t → g < t.order → inverse_of t g ≡ Some h → IsTwoSidedInverse t g h
+two_sided t g h group g_below found =
+    let inverse = inverse_at t g h found in
+    record {
+      below = inverse.below;
+      right = inverse.right;
+      left = right_inverse_left _ _ _ (group_below t group) g h g_below inverse.below inverse.right;
+    }
+
+-- so is the number that stands in the list of inverses
+pub listed_inverse : (t : Table) (inverses : List ℕ) (g : ℕ) → IsGroup t → ListsInverses t inverses → g < t.order
+    → IsTwoSidedInverse t g (slice_index inverses g)
+listed_inverse t inverses g group lists below = two_sided t g _ group below (lists.each g below)
+
+-- only the remainder modulo the order of the group matters
+pub power_reduced : (t : Table) (g j : ℕ) → IsGroup t → g < t.order
+    → power (product t) (identity_of t) g (j % t.order) ≡ power (product t) (identity_of t) g j
+power_reduced t g j group g_below =
+    power_modulo _ _ _ (group_below t group) g t.order j g_below (power_of_size _ _ _ (group_below t group) g g_below)

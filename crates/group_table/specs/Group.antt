@@ -1,5 +1,5 @@
 -- A group by its multiplication table (textbook), and the first law that a table breaks.
-use Rattle.std.specs.Prelude.{◌≡◌, ℕ, ◌+◌, ◌*◌, ◌≤◌, Bool, ◌&&◌, ◌==◌, nat_lt, List, length, slice_index, Option, Some, None, is_some, unwrap_or, if◌then◌else◌}
+use Rattle.std.specs.Prelude.{◌≡◌, ℕ, ◌+◌, ◌*◌, ◌<◌, ◌≤◌, Bool, ◌&&◌, ◌==◌, nat_lt, List, length, slice_index, Option, Some, None, is_some, unwrap_or, if◌then◌else◌}
 use Rattle.scan.specs.First.{option_or, first, all_below}
 use Rattle.group_table.specs.declared.fault.GroupFault.{GroupFault}
 use Rattle.group_table.specs.declared.fault.GroupFault.TheVariants.{Entry, NoIdentity, NoInverse, NotAssociative}
@@ -34,6 +34,9 @@ identity_fault t = if is_some (two_sided_identity t) then None else Some NoIdent
 abbrev pub inverse_of : Table → ℕ → Option ℕ
 inverse_of t g = first t.order (λ h. if product t g h == identity_of t then Some h else None)
 
+abbrev pub inverse : Table → ℕ → ℕ
+inverse t g = unwrap_or (inverse_of t g) 0
+
 abbrev pub inverse_fault : Table → Option GroupFault
 inverse_fault t = first t.order (λ g. if is_some (inverse_of t g) then None else Some (NoInverse g))
 
@@ -60,3 +63,15 @@ pub record IsGroup (t : Table) : Type 0 where
 pub record IsSmall (order : ℕ) : Type 0 where
   pub from_one : 1 ≤ order
   pub to_sixty : order ≤ 60
+
+-- the inverses of the elements, in order
+pub record ListsInverses (t : Table) (inverses : List ℕ) : Type 0 where
+  pub count : length inverses ≡ t.order
+  pub each : (g : ℕ) → g < t.order → inverse_of t g ≡ Some (slice_index inverses g)
+
+-- what is kept beside the table of a group
+pub record IsKept (t : Table) (identity : ℕ) (inverses : List ℕ) : Type 0 where
+  pub group : IsGroup t
+  pub small : IsSmall t.order
+  pub identity_is : identity ≡ identity_of t
+  pub inverses_are : ListsInverses t inverses

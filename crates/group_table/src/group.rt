@@ -1,10 +1,14 @@
-ghost use Rattle.std.specs.Prelude.{◌≡◌, ◌*◌, ◌<◌, ◌≤◌, length, None, IfOk, IfErr};
-ghost use Rattle.group_table.specs.Group.{product, identity_of, group_fault, IsGroup, IsSmall};
+ghost use Rattle.std.specs.Prelude.{◌≡◌, ◌*◌, ◌<◌, ◌≤◌, length, Some, None, IfOk, IfErr};
+ghost use Rattle.orders.specs.Group.{power};
+ghost use Rattle.orders.specs.Order.{order_of, exponent_of, IsOrder, IsExponent};
+ghost use Rattle.group_table.specs.Group.{product, identity_of, inverse, inverse_of, group_fault, IsGroup, IsSmall};
 ghost use Rattle.group_table.specs.Refusal.{Refuses};
 
 use crate::fault::GroupRefusal;
-use crate::laws::checked_identity;
+use crate::laws::{checked_identity, inverses};
+use crate::memory::Memory;
 use crate::nats::Nats;
+use crate::powers::{element_order, exponent, power};
 use std::alloc::Global;
 use std::marker::Model;
 
@@ -14,17 +18,17 @@ pub struct Group {
     order: u32,
     identity: u32,
     table: Nats,
+    inverses: Nats,
 }
 
 impl Model for Group {
-    ghost use Rattle.std.specs.Prelude.{◌≡◌, ◌≤◌};
-    ghost use Rattle.group_table.specs.Group.{Table, IsGroup, IsSmall, identity_of};
+    ghost use Rattle.group_table.specs.Group.{Table, IsKept};
 
     ghost Value = { Table };
 
     ghost view = { λ group. record { order = group.order; entries = group.table } };
 
-    ghost invariant = { λ group. IsGroup (record { order = group.order; entries = group.table }) × IsSmall group.order × (group.identity ≡ identity_of (record { order = group.order; entries = group.table })) };
+    ghost invariant = { λ group. IsKept (record { order = group.order; entries = group.table }) group.identity group.inverses };
 }
 
 impl Group {
@@ -38,10 +42,12 @@ impl Group {
     {
         let identity = checked_identity(order, table.as_slice()).map_err(GroupRefusal::Fault)?;
         let table = table.copy(alloc)?;
+        let inverses = inverses(alloc, order, table.as_slice(), identity)?;
         Ok(Group {
             order,
             identity,
             table,
+            inverses,
         })
     }
 
@@ -70,5 +76,67 @@ impl Group {
         ensures below { product self.now g h < self.now.order }
     {
         self.table.at(g * self.order + h)
+    }
+
+    /// The inverse of `g`: the element whose product with `g`, on either side, is the identity.
+    pub fn inverse(&self, g: u32) -> u32
+        requires g_below { g < self.now.order }
+        ensures inverse { result ≡ inverse self.now g }
+        ensures found { inverse_of self.now g ≡ Some result }
+        ensures below { result < self.now.order }
+        ensures right { product self.now g result ≡ identity_of self.now }
+        ensures left { product self.now result g ≡ identity_of self.now }
+    {
+        self.inverses.at(g)
+    }
+
+    /// The power of `g` with the exponent `j`: the product of `j` factors `g`, and the identity for 0.
+    pub fn power(&self, g: u32, j: u32) -> u32
+        requires g_below { g < self.now.order }
+        ensures power { result ≡ power (product self.now) (identity_of self.now) g j }
+        ensures below { result < self.now.order }
+    {
+        power(
+            self.order,
+            self.table.as_slice(),
+            self.identity,
+            g,
+            j % self.order,
+        )
+    }
+
+    /// The order of `g`: the least number from 1 on by which its power is the identity.
+    pub fn element_order(&self, g: u32) -> u32
+        requires g_below { g < self.now.order }
+        ensures order { result ≡ order_of self.now.order (product self.now) (identity_of self.now) g }
+        ensures least { IsOrder (product self.now) (identity_of self.now) g result }
+        ensures positive { 1 ≤ result }
+        ensures at_most_order { result ≤ self.now.order }
+    {
+        element_order(self.order, self.table.as_slice(), self.identity, g)
+    }
+
+    /// The exponent: the least number from 1 on by which the power of each element is the identity.
+    pub fn exponent(&self) -> u32
+        ensures exponent { result ≡ exponent_of self.now.order (product self.now) (identity_of self.now) }
+        ensures least { IsExponent self.now.order (product self.now) (identity_of self.now) result }
+        ensures positive { 1 ≤ result }
+        ensures at_most_order { result ≤ self.now.order }
+    {
+        exponent(self.order, self.table.as_slice(), self.identity)
+    }
+
+    /// The same group, in memory of its own.
+    pub fn copy(&self, alloc: Global) -> Result<Group, Memory>
+        ensures same { IfOk result (λ group. group ≡ self.now) }
+    {
+        let table = self.table.copy(alloc)?;
+        let inverses = self.inverses.copy(alloc)?;
+        Ok(Group {
+            order: self.order,
+            identity: self.identity,
+            table,
+            inverses,
+        })
     }
 }

@@ -1,13 +1,16 @@
 //! The four laws of a group over all places of a table, each with the least place at which it fails.
 
 ghost use Rattle.std.specs.Prelude.{◌≡◌, ℕ, ◌*◌, ◌<◌, ◌≤◌, length, Some, None, IfOk, IfErr};
-ghost use Rattle.group_table.specs.Group.{product, entry_fault, identity_of, is_identity, two_sided_identity, inverse_of, inverse_fault, associates, associativity_fault, associativity_fault_in, group_fault};
+ghost use Rattle.group_table.specs.Group.{product, entry_fault, identity_of, is_identity, two_sided_identity, inverse_of, inverse_fault, associates, associativity_fault, associativity_fault_in, group_fault, IsGroup, ListsInverses};
 
 use crate::fault::GroupFault;
+use crate::memory::Memory;
+use crate::nats::Nats;
 use scan::{first_below, holds_below};
+use std::alloc::Global;
 
 #[tactic(auto, using(crate::proofs::Square::place_below))]
-fn product(n: u32, table: &[u32], g: u32, h: u32) -> u32
+pub fn product(n: u32, table: &[u32], g: u32, h: u32) -> u32
     requires square { length table.now ≡ n * n }
     requires small { n ≤ 60 }
     requires g_below { g < n }
@@ -154,4 +157,19 @@ pub fn checked_identity(n: u32, table: &[u32]) -> Result<u32, GroupFault>
         Some(fault) => Err(fault),
         None => Ok(identity),
     }
+}
+
+/// The inverse of each element, in order.
+pub fn inverses(alloc: Global, n: u32, table: &[u32], e: u32) -> Result<Nats, Memory>
+    requires group { IsGroup (record { order = n; entries = table.now }) }
+    requires small { n ≤ 60 }
+    requires identity { e ≡ identity_of (record { order = n; entries = table.now }) }
+    ensures each { IfOk result (ListsInverses (record { order = n; entries = table.now })) }
+{
+    let mut inverses = Nats::empty(alloc);
+    for g in 0..n {
+        let inverse = inverse_of(n, table, e, g).unwrap();
+        inverses.push(inverse)?;
+    }
+    Ok(inverses)
 }

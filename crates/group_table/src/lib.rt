@@ -1,13 +1,24 @@
 //! Finite groups by their multiplication tables.
 #![tactic(auto)]
 
+ghost use Rattle.group_table.specs.Laws.{GroupOfNumbers};
+
 mod fault;
 mod group;
 mod laws;
 mod memory;
 mod nats;
+mod powers;
+#[cfg(test)]
+mod tests;
 
 pub use fault::{GroupFault, GroupRefusal};
 pub use group::Group;
 pub use memory::Memory;
 pub use nats::Nats;
+
+/// The sentences of a group, from a table that breaks no law: products and the identity are elements, the identity is neutral on
+/// both sides, each element has a right inverse, and products associate.
+pub fn group_laws()
+    ensures sentences { GroupOfNumbers }
+{}

@@ -1,4 +1,5 @@
-ghost use Rattle.std.specs.Prelude.{◌≡◌, ℕ, ◌+◌, ◌^◌, ◌<◌, List, [], ◌∷◌, ◌++◌, ◌↔◌, IsTrue, length, slice_index, vec_len, IfOk, OnOk, OnErr};
+ghost use Rattle.std.specs.Prelude.{◌≡◌, ℕ, ◌+◌, ◌^◌, ◌<◌, Bool, List, [], ◌∷◌, ◌++◌, ◌↔◌, IsTrue, length, slice_index, vec_len, IfOk, OnOk, OnErr};
+ghost use Rattle.group_table.specs.Numbers.{passing_below};
 
 use crate::memory::Memory;
 use std::alloc::Global;
@@ -26,6 +27,22 @@ impl Nats {
         Nats {
             items: Vec::new(alloc),
         }
+    }
+
+    /// The numbers below `n` that pass `test`, ascending.
+    pub fn passing_below<F: Fn(u32) -> bool>(alloc: Global, n: u32, test: F) -> Result<Nats, Memory>
+    where
+        F: Drop,
+        requires callable { (i : ℕ) → i < n → F.pre test i }
+        ensures passing { (passes : ℕ → Bool) → ((i : ℕ) (r : Bool) → i < n → F.post test i r → r ≡ passes i) → IfOk result (λ numbers. numbers ≡ passing_below n passes) }
+    {
+        let mut numbers = Nats::empty(alloc);
+        for i in 0..n {
+            if test(i) {
+                numbers.push(i)?;
+            }
+        }
+        Ok(numbers)
     }
 
     /// Adds a number at the end. After `Memory` the list is as before.

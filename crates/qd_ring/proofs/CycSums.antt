@@ -45,7 +45,7 @@ module _ (k : ℕ) (entry : is_conductor k ≡ true) where
   array-of_value xs array =
       let u = cyclotomic_value k xs in
       let rest : length (drop (phi_of k) xs) ≡ 42 - length u.coefficients =
-          omega (arith, length-drop (phi_of k) xs, array_length k entry xs array, length-value k entry u) in
+      omega (arith, length-drop (phi_of k) xs, array_length k entry xs array, length-value k entry u) in
       array_parts k entry xs array ∙ ap₂ (λ x j. x ++ zeros j) (sym (coefficients_of k entry xs array)) rest
 
   pub array_of-sum : (u v : CyclotomicValue k) → plus (array_of u) (array_of v) ≡ array_of (value_sum u v)
@@ -53,36 +53,36 @@ module _ (k : ℕ) (entry : is_conductor k ≡ true) where
   array_of-sum u v =
       let same : length u.coefficients ≡ length v.coefficients = u.count ∙ sym v.count in
       ap (λ j. plus (u.coefficients ++ zeros (42 - length u.coefficients)) (v.coefficients ++ zeros (42 - j))) (sym same)
-          ∙ plus-padded u.coefficients v.coefficients (42 - length u.coefficients) same
-          ∙ ap (λ j. plus u.coefficients v.coefficients ++ zeros (42 - j)) (sym (length-plus u.coefficients v.coefficients same))
+      ∙ plus-padded u.coefficients v.coefficients (42 - length u.coefficients) same
+      ∙ ap (λ j. plus u.coefficients v.coefficients ++ zeros (42 - j)) (sym (length-plus u.coefficients v.coefficients same))
 
   pub array_of-multiple : (c : ℤ) (u : CyclotomicValue k) → scaled c (array_of u) ≡ array_of (value_multiple c u)
   unfolding array_of value_multiple
   array_of-multiple c u =
       scaled-padded c u.coefficients (42 - length u.coefficients)
-          ∙ ap (λ j. scaled c u.coefficients ++ zeros (42 - j)) (sym (length-scaled c u.coefficients))
+      ∙ ap (λ j. scaled c u.coefficients ++ zeros (42 - j)) (sym (length-scaled c u.coefficients))
 
   module _ (xs ys : List ℤ) (a : is_array k xs ≡ true) (b : is_array k ys ≡ true) where
     pub sum_array : plus xs (scaled (pos 1) ys) ≡ array_of (value_sum (cyclotomic_value k xs) (cyclotomic_value k ys))
     sum_array =
         ap (plus xs) (scaled-one ys)
-            ∙ ap₂ plus (array-of_value xs a) (array-of_value ys b)
-            ∙ array_of-sum (cyclotomic_value k xs) (cyclotomic_value k ys)
+        ∙ ap₂ plus (array-of_value xs a) (array-of_value ys b)
+        ∙ array_of-sum (cyclotomic_value k xs) (cyclotomic_value k ys)
 
     pub difference_array : plus xs (scaled (negsuc 0) ys) ≡ array_of (value_sum (cyclotomic_value k xs) (value_negative (cyclotomic_value k ys)))
     difference_array =
         ap₂ (λ x y. plus x (scaled (negsuc 0) y)) (array-of_value xs a) (array-of_value ys b)
-            ∙ ap (plus (array_of (cyclotomic_value k xs))) (array_of-multiple (negsuc 0) (cyclotomic_value k ys))
-            ∙ array_of-sum (cyclotomic_value k xs) (value_negative (cyclotomic_value k ys))
+        ∙ ap (plus (array_of (cyclotomic_value k xs))) (array_of-multiple (negsuc 0) (cyclotomic_value k ys))
+        ∙ array_of-sum (cyclotomic_value k xs) (value_negative (cyclotomic_value k ys))
 
   -- ---- constants
   pub constant_array : (v : ℤ) → is_array k (v ∷ zeros 41) ≡ true
   unfolding is_array
   constant_array v = ap (λ b. b) (noughts (phi_of k) (conductor_bounds k entry).3)
     where
-    noughts : (n : ℕ) → 1 < n → list_all is_nought (drop n (v ∷ zeros 41)) ≡ true
-    noughts zero h = absurd (omega arith)
-    noughts (suc n) h = ap (list_all is_nought) (drop-replicate n 41 (pos 0)) ∙ zeros_noughts (41 - n)
+      noughts : (n : ℕ) → 1 < n → list_all is_nought (drop n (v ∷ zeros 41)) ≡ true
+      noughts zero h = absurd (omega arith)
+      noughts (suc n) h = ap (list_all is_nought) (drop-replicate n 41 (pos 0)) ∙ zeros_noughts (41 - n)
 
   pub constant_value : (v : ℤ) → cyclotomic_value k (v ∷ zeros 41) ≡ cyclotomic_value k (v ∷ [])
   constant_value v = value_of-padded (cyclotomic k) (v ∷ []) 41
@@ -104,8 +104,8 @@ module _ (k : ℕ) (entry : is_conductor k ≡ true) where
   negative_array xs a =
       let zeros_array : is_array k (zeros 42) ≡ true = constant_array (pos 0) in
       difference_array (zeros 42) xs zeros_array a
-          ∙ ap (λ z. array_of (value_sum z (value_negative (cyclotomic_value k xs)))) zero_value
-          ∙ ap array_of (nought_sum (cyclotomic k) (value_negative (cyclotomic_value k xs)))
+      ∙ ap (λ z. array_of (value_sum z (value_negative (cyclotomic_value k xs)))) zero_value
+      ∙ ap array_of (nought_sum (cyclotomic k) (value_negative (cyclotomic_value k xs)))
 
 -- ---- whole numbers and single coefficients
 coefficient_padded : (p : List ℤ) (j i : ℕ) → coefficient (p ++ zeros j) i ≡ coefficient p i
@@ -141,8 +141,8 @@ module _ (k : ℕ) (entry : is_conductor k ≡ true) (xs : List ℤ) (array : is
   coefficient_at i =
       let u = cyclotomic_value k xs in
       sym (coefficient_get xs i)
-          ∙ ap (λ p. coefficient p i) (array-of_value k entry xs array)
-          ∙ coefficient_padded u.coefficients (42 - length u.coefficients) i
+      ∙ ap (λ p. coefficient p i) (array-of_value k entry xs array)
+      ∙ coefficient_padded u.coefficients (42 - length u.coefficients) i
 
   pub coefficient_beyond : (i : ℕ) → 42 ≤ i → pos 0 ≡ coefficient (cyclotomic_value k xs).coefficients i
   coefficient_beyond i h =
@@ -152,14 +152,14 @@ module _ (k : ℕ) (entry : is_conductor k ≡ true) (xs : List ℤ) (array : is
   pub whole_value : list_all is_nought (take 41 (drop 1 xs)) ≡ true → cyclotomic_value k xs ≡ cyclotomic_value k (get_or xs 0 (pos 0) ∷ [])
   whole_value all =
       ap (cyclotomic_value k) (one_and_rest xs (array_length k entry xs array) all)
-          ∙ constant_value k entry (get_or xs 0 (pos 0))
+      ∙ constant_value k entry (get_or xs 0 (pos 0))
 
   pub not_whole : list_all is_nought (take 41 (drop 1 xs)) ≡ false → (v : ℤ) → cyclotomic_value k xs ≡ cyclotomic_value k (v ∷ []) → ⊥
   not_whole some v e =
       let is : xs ≡ v ∷ zeros 41 =
-          array-of_value k entry xs array
-              ∙ ap array_of (e ∙ sym (constant_value k entry v))
-              ∙ sym (array-of_value k entry (v ∷ zeros 41) (constant_array k entry v)) in
+      array-of_value k entry xs array
+      ∙ ap array_of (e ∙ sym (constant_value k entry v))
+      ∙ sym (array-of_value k entry (v ∷ zeros 41) (constant_array k entry v)) in
       let clash : true ≡ false = sym (ap (λ z. list_all is_nought (take 41 (drop 1 z))) is) ∙ some in
       cc
 

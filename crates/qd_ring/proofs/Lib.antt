@@ -3,7 +3,14 @@ pub mod ThirdsLaws
 pub mod ValueTextLaws
 pub mod Fronts
 pub mod ValueReaderLaws
+pub mod NumeralLaws
+pub mod TermLaws
+pub mod CoefficientLaws
+pub mod ReadingSteps
+pub mod ValueLaws
+pub mod ValueOutcomeLaws
 pub mod BufferLaws
+pub mod RowSteps
 pub mod ReduceLaws
 pub mod SpreadLaws
 pub mod ProductLaws

@@ -1,9 +1,8 @@
 -- What the ring object of the test computes.
-use Rattle.std.proofs.Common.{◌≡◌, ◌≢◌, ℕ, ◌+◌, ◌*◌, ◌%◌, ◌<◌, refl, sym, ◌∙◌, ap, arith}
+use Rattle.std.proofs.Common.{◌≡◌, ◌≢◌, ℕ, ◌+◌, ◌*◌, ◌%◌, refl, sym, ◌∙◌, ap, arith}
 use Rattle.std.proofs.Math.Nat.{mod-mod, one-mul}
 use Rattle.std.proofs.lemmas.Nat.{mul-mod, mul-mod_second}
-use Rattle.std.proofs.lemmas.Bool.{eq-eqb, eqb-true}
-use Rattle.algebra.specs.Below.{Below, below_equal}
+use Rattle.algebra.specs.Below.{below_equal}
 use Rattle.algebra.specs.Residues.{residue}
 use Rattle.algebra.specs.Sums.{power}
 use Rattle.algebra.proofs.RootLaws.{power_mod}

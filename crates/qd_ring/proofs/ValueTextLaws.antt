@@ -1,11 +1,10 @@
 -- Laws of the texts of values.
 use Rattle.std.proofs.Common.{◌≡◌, ℕ, zero, suc, ◌+◌, Bool, true, false, List, [], ◌∷◌, ◌++◌, length, take, get_or, refl, sym, ◌∙◌, ap, ◌<◌, arith, eqb}
 use Rattle.std.specs.Prelude.{ℤ, pos, negsuc, nat_abs, codes, ◌||◌}
-use Rattle.std.specs.List.{list_any}
 use mathlib.Core.List.{append_assoc}
 use Rattle.std.proofs.Common.{ltb, length-append, append-nil, inl, inr}
 use Rattle.std.proofs.Math.Nat.{add-zero, add-suc, suc-add}
-use Rattle.std.proofs.lemmas.Bool.{eqb-false, lt-ltb, le-ltb, ne_eqb, eq-eqb, cases_Bool, cases_lt}
+use Rattle.std.proofs.lemmas.Bool.{eqb-false, lt-ltb, le-ltb, ne_eqb, cases_Bool, cases_lt}
 use Rattle.std.proofs.lemmas.List.{take_more}
 use Rattle.std.proofs.Common.{length-take}
 use Rattle.std.proofs.Common.{to_z, of_z}
@@ -71,25 +70,27 @@ terms_push later p [] c = simp (terms_nil, add-zero) (terms_of_one later p c ∙
     unlater true = refl
     unlater false = refl
 terms_push later p (x ∷ xs) c = elim (cases_Bool (eqb (nat_abs x) 0)) [
-    inl h ↦ simp (terms_nought later p x (xs ++ c ∷ []) h, terms_nought later p x xs h, terms_push later (suc p) xs c, add-suc, suc-add)
+  | inl h ↦ simp (terms_nought later p x (xs ++ c ∷ []) h, terms_nought later p x xs h, terms_push later (suc p) xs c, add-suc, suc-add)
   | inr h ↦
-    let positive : 0 < nat_abs x = omega (arith, eqb-false (nat_abs x) 0 h) in
-    let some : ltb 0 (length (term_text later p x ++ terms_text true (suc p) xs)) ≡ true = lt-ltb 0 _ (simp length-append (omega (arith, numeral_nonempty (nat_abs x) positive))) in
-    simp (terms_term later p x (xs ++ c ∷ []) h, terms_term later p x xs h, terms_push true (suc p) xs c, some, or_true, add-suc, suc-add)
-      (sym (append_assoc (term_text later p x) (terms_text true (suc p) xs) (one_term true (suc (p + length xs)) c))) ]
+      let positive : 0 < nat_abs x = omega (arith, eqb-false (nat_abs x) 0 h) in
+      let some : ltb 0 (length (term_text later p x ++ terms_text true (suc p) xs)) ≡ true = lt-ltb 0 _ (simp length-append (omega (arith, numeral_nonempty (nat_abs x) positive))) in
+      simp (terms_term later p x (xs ++ c ∷ []) h, terms_term later p x xs h, terms_push true (suc p) xs c, some, or_true, add-suc, suc-add)
+      (sym (append_assoc (term_text later p x) (terms_text true (suc p) xs) (one_term true (suc (p + length xs)) c)))
+]
 
 -- after a coefficient 0 nothing is written
 pub terms_skip : (old out : List ℕ) (cs : List ℤ) (i : ℕ) → i < length cs → get_or cs i (pos 0) ≡ pos 0 → out ≡ old ++ terms_text false 0 (take i cs) → out ≡ old ++ terms_text false 0 (take (i + 1) cs)
 terms_skip old out cs i h none written =
     written ∙ ap (λ t. old ++ t)
-      (sym (ap (terms_text false 0) (take_more cs i (pos 0) h ∙ ap (λ d. take i cs ++ d ∷ []) none) ∙ terms_push false 0 (take i cs) (pos 0)
-        ∙ ap (λ t. terms_text false 0 (take i cs) ++ t) (one_nought (ltb 0 (length (terms_text false 0 (take i cs)))) (0 + length (take i cs)) (pos 0) refl)
-        ∙ append-nil (terms_text false 0 (take i cs))))
+    (sym (ap (terms_text false 0) (take_more cs i (pos 0) h ∙ ap (λ d. take i cs ++ d ∷ []) none) ∙ terms_push false 0 (take i cs) (pos 0)
+    ∙ ap (λ t. terms_text false 0 (take i cs) ++ t) (one_nought (ltb 0 (length (terms_text false 0 (take i cs)))) (0 + length (take i cs)) (pos 0) refl)
+    ∙ append-nil (terms_text false 0 (take i cs))))
 
 later_text : (old text : List ℕ) → ltb (length old) (length (old ++ text)) ≡ ltb 0 (length text)
 later_text old text = elim (cases_lt 0 (length text)) [
-    inl h ↦ lt-ltb (length old) (length (old ++ text)) (simp length-append (omega arith)) ∙ sym (lt-ltb 0 (length text) h)
-  | inr h ↦ le-ltb (length old) (length (old ++ text)) (simp length-append (omega arith)) ∙ sym (le-ltb 0 (length text) h) ]
+  | inl h ↦ lt-ltb (length old) (length (old ++ text)) (simp length-append (omega arith)) ∙ sym (lt-ltb 0 (length text) h)
+  | inr h ↦ le-ltb (length old) (length (old ++ text)) (simp length-append (omega arith)) ∙ sym (le-ltb 0 (length text) h)
+]
 
 -- after another one its term is written
 pub terms_more : (old out : List ℕ) (cs : List ℤ) (i : ℕ) (c : ℤ) → i < length cs → get_or cs i (pos 0) ≡ c → 0 < nat_abs c → out ≡ old ++ terms_text false 0 (take i cs) → out ++ term_text (ltb (length old) (length out)) i c ≡ old ++ terms_text false 0 (take (i + 1) cs)
@@ -100,9 +101,9 @@ terms_more old out cs i c h e some written =
     ∙ ap (λ b. (old ++ text) ++ term_text b i c) (later_text old text)
     ∙ append_assoc old text (term_text (ltb 0 (length text)) i c)
     ∙ ap (λ t. old ++ t)
-      (sym (ap (terms_text false 0) (take_more cs i (pos 0) h ∙ ap (λ d. take i cs ++ d ∷ []) e) ∙ terms_push false 0 (take i cs) c
-        ∙ ap (λ k. text ++ one_term (ltb 0 (length text)) k c) place
-        ∙ ap (λ t. text ++ t) (one_is_term (ltb 0 (length text)) i c (ne_eqb (nat_abs c) 0 (λ z. omega arith)))))
+    (sym (ap (terms_text false 0) (take_more cs i (pos 0) h ∙ ap (λ d. take i cs ++ d ∷ []) e) ∙ terms_push false 0 (take i cs) c
+    ∙ ap (λ k. text ++ one_term (ltb 0 (length text)) k c) place
+    ∙ ap (λ t. text ++ t) (one_is_term (ltb 0 (length text)) i c (ne_eqb (nat_abs c) 0 (λ z. omega arith)))))
 
 -- with no term the text is `0`
 pub value_of_none : (old out : List ℕ) (cs : List ℤ) → out ≡ old ++ terms_text false 0 cs → length out ≡ length old → out ++ 48 ∷ [] ≡ old ++ value_text cs

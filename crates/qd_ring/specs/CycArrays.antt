@@ -1,5 +1,5 @@
 -- How a value of the cyclotomic ring stands in an array of 42 numbers: its phi(K) coefficients, then zeros.
-use Rattle.std.specs.Prelude.{ℕ, ◌-◌, ℤ, pos, negsuc, zero, Bool, true, false, ◌==◌, ◌&&◌, nat_le, List, ◌++◌, length, drop}
+use Rattle.std.specs.Prelude.{ℕ, ◌-◌, ℤ, pos, negsuc, Bool, false, ◌==◌, ◌&&◌, nat_le, List, ◌++◌, length, drop}
 use Rattle.std.specs.List.{list_all}
 use Rattle.cyclotomic.specs.Polynomial.{zeros}
 use Rattle.cyclotomic.specs.Conductors.{phi_of}

@@ -1,7 +1,9 @@
 -- Rules of fit over a commutative ring: which results are given, and which listed sums overflow (this project's rules).
-use Rattle.std.specs.Prelude.{◌≡◌, Bool, true, false, List, ◌++◌, IsPermutation, refl}
+use Rattle.std.specs.Prelude.{◌≡◌, ℕ, not, ◌&&◌, ◌||◌, map, Option, is_some, IfSome, Bool, true, false, List, ◌++◌, IsPermutation, refl}
 use Rattle.algebra.specs.Structures.{CommRing}
-use Rattle.algebra.specs.Sums.{sum_list}
+use Rattle.std.specs.List.{range_with_len}
+use Rattle.scan.specs.First.{all_below}
+use Rattle.algebra.specs.Sums.{sum_list, power}
 
 pub record FitRules {A : Type 0} (R : CommRing A) : Type 0 where
   -- a sum or a root multiple is given where its value fits
@@ -27,3 +29,16 @@ no_limits R = record {
   order = λ xs ys p h. h;
   sum_fits = λ xs h. refl;
 }
+
+-- the steps of the term z^e (a b) fit: its product, then its multiplication by the root
+abbrev pub term_fits : {A : Type 0} (R : CommRing A) → FitRules R → A → ℕ → A → A → Bool
+term_fits R rules z e a b = rules.product_fits a b && rules.fits (R.mul (power R z e) (R.mul a b))
+
+-- the listed sum of n terms overflows: a step of one of them doesn't fit, or they are too great together
+unfoldable pub sum_overflows : {A : Type 0} (R : CommRing A) → FitRules R → ℕ → (ℕ → Bool) → (ℕ → A) → Bool
+sum_overflows R rules n steps_fit term = not (all_below n steps_fit) || rules.overflows (map term (range_with_len 0 n))
+
+-- an answer is this term's: none where its steps don't fit, else one that stands for it
+pub record IsTerm {E A : Type 0} (of : E → A) (steps_fit : Bool) (value : A) (answer : Option E) : Type 0 where
+  pub there : is_some answer ≡ steps_fit
+  pub stands : IfSome answer (λ a. of a ≡ value)

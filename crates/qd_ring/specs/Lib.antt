@@ -6,3 +6,5 @@ pub mod ArrayLaws
 pub mod Thirds
 pub mod ValueText
 pub mod ValueReading
+pub mod ValueOutcome
+pub mod RowLists

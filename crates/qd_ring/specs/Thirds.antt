@@ -1,5 +1,5 @@
 -- The residues modulo 3 with the root of unity 2, for a test.
-use Rattle.std.proofs.Common.{◌≡◌, ◌≢◌, ℕ, ◌+◌, ◌*◌, ◌%◌, ◌<◌, refl, sym, ◌∙◌, ap, arith, lit<}
+use Rattle.std.proofs.Common.{◌≡◌, ◌≢◌, ℕ, ◌*◌, ◌%◌, ◌<◌, refl, ◌∙◌, ap, arith, lit<}
 use Rattle.std.proofs.Math.Nat.{zero-mul, one-mul}
 use Rattle.algebra.specs.Structures.{CommRing}
 use Rattle.algebra.specs.Below.{Below, below_equal}

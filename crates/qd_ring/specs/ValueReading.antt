@@ -1,5 +1,5 @@
 -- The steps by which the text of a value is read. What is read is said by the text of a value alone.
-use Rattle.std.specs.Prelude.{ℕ, ◌+◌, ◌-◌, ◌*◌, ◌^◌, min, nat_le, ◌&&◌, ◌==◌, ℤ, pos, neg_ℤ, Bool, true, false, if◌then◌else◌, List, [], take, drop, fold, slice_index, Option, Some, None, option_and_then}
+use Rattle.std.specs.Prelude.{ℕ, zero, suc, ◌+◌, ◌-◌, ◌*◌, ◌^◌, min, nat_le, ◌&&◌, ◌==◌, ℤ, pos, neg_ℤ, Bool, true, false, if◌then◌else◌, List, [], ◌∷◌, length, option_map, take, drop, fold, slice_index, Option, Some, None, option_and_then}
 use Rattle.std.specs.List.{prefix_len}
 use Rattle.qd_ring.specs.declared.value_reader.Term.{Term}
 
@@ -37,11 +37,27 @@ power_of text =
     if slice_index text 0 == 122 then option_and_then (λ digits. Some (min (number (take digits (drop 1 text))) 42, 1 + digits)) (numeral_len (drop 1 text))
     else Some (0, 0)
 
--- the term at the front, its magnitude at most 2^120
-unfoldable pub term_of : Bool → List ℕ → Option Term
-term_of later text =
-    option_and_then (λ sign. option_and_then (λ digits. option_and_then (λ (power : ℕ × ℕ). Some (record {
-      coefficient = signed (slice_index text 0 == 45) (min (number (take digits (drop sign text))) (2 ^ 120));
+-- the term whose sign takes `sign` bytes before `rest`, its magnitude at most 2^120
+unfoldable pub term_after_sign : Bool → ℕ → List ℕ → Option Term
+term_after_sign negative sign rest =
+    option_and_then (λ digits. option_and_then (λ (power : ℕ × ℕ). Some (record {
+      coefficient = signed negative (min (number (take digits rest)) (2 ^ 120));
       power = power.0;
-      len = sign + digits + power.1
-    })) (power_of (drop (sign + digits) text))) (numeral_len (drop sign text))) (sign_len later text)
+      len = sign + digits + power.1;
+    })) (power_of (drop digits rest))) (numeral_len rest)
+
+-- the term at the front; `later` says whether one stands before it
+unfoldable pub term_of : Bool → List ℕ → Option Term
+term_of later text = option_and_then (λ sign. term_after_sign (slice_index text 0 == 45) sign (drop sign text)) (sign_len later text)
+
+-- the term at the front, where it has the power p
+abbrev pub term_here : ℕ → Bool → List ℕ → Option Term
+term_here p later text = option_and_then (λ (term : Term). if term.power == p then Some term else None) (term_of later text)
+
+-- the coefficients of n powers from x^p on whose terms are the text, each at most 2^120 in magnitude; one term at least has to stand
+unfoldable pub coefficients_of : ℕ → ℕ → Bool → List ℕ → Option (List ℤ)
+coefficients_of zero p later text = if length text == 0 && later then Some [] else None
+coefficients_of (suc n) p later text = elim (term_here p later text) [
+  | Some term ↦ option_map (λ cs. term.coefficient ∷ cs) (coefficients_of n (suc p) true (drop term.len text))
+  | None ↦ option_map (λ cs. pos 0 ∷ cs) (coefficients_of n (suc p) later text)
+]

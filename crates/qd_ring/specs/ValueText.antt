@@ -1,6 +1,5 @@
 -- The text of a value (this project's format).
-use Rattle.std.specs.Prelude.{ℕ, zero, suc, ◌+◌, ◌-◌, ◌==◌, ◌≡◌, ◌^◌, nat_lt, nat_abs, ℤ, pos, negsuc, Bool, true, false, List, [], ◌∷◌, ◌++◌, length, map, drop, replicate, codes}
-use Rattle.std.specs.List.{list_all}
+use Rattle.std.specs.Prelude.{ℕ, zero, suc, ◌+◌, ◌-◌, ◌==◌, ◌≡◌, nat_abs, ℤ, pos, negsuc, Bool, true, false, List, [], ◌∷◌, ◌++◌, length, map, drop, replicate, codes}
 use Rattle.std.specs.Int.Digits.{digits_of}
 
 -- a positive number in decimal
@@ -35,10 +34,6 @@ or_nought (byte ∷ bytes) = byte ∷ bytes
 -- the text of the value with these coefficients
 unfoldable pub value_text : List ℤ → List ℕ
 value_text cs = or_nought (terms_text false 0 cs)
-
--- each coefficient is at most 2^120 - 1 in magnitude
-abbrev pub are_small : List ℤ → Bool
-are_small cs = list_all (λ c. nat_lt (nat_abs c) (2 ^ 120)) cs
 
 -- the text is that of these 42 coefficients, which are 0 from phi on
 pub record Spells (text : List ℕ) (phi : ℕ) (cs : List ℤ) : Type 0 where

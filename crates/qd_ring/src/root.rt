@@ -63,9 +63,9 @@ impl<const K: u32> UnitGroup for Root<K> {
     ghost of = { λ r. record { value = r.exponent; below = r.reduced } };
 
     ghost same = { λ r s equal. λ i. record {
-        exponent = (equal i).value;
-        conductor = Bool-set (is_conductor K) true r.conductor s.conductor i;
-        reduced = (equal i).below
+      exponent = (equal i).value;
+      conductor = Bool-set (is_conductor K) true r.conductor s.conductor i;
+      reduced = (equal i).below;
     } };
 
     /// The root 1, with exponent 0.
@@ -85,3 +85,6 @@ impl<const K: u32> UnitGroup for Root<K> {
         }
     }
 }
+
+#[cfg(test)]
+mod tests;

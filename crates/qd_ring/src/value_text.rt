@@ -45,7 +45,12 @@ fn append_terms(out: &mut Vec<u8>, coefficients: &[i128]) -> Result<(), Memory>
     Ok(())
 }
 
-fn append_term(out: &mut Vec<u8>, later: bool, power: usize, coefficient: i128) -> Result<(), Memory>
+fn append_term(
+    out: &mut Vec<u8>,
+    later: bool,
+    power: usize,
+    coefficient: i128,
+) -> Result<(), Memory>
     requires { 0 < nat_abs coefficient }
     ensures added { OnOk result (out.new.items ≡ out.old.items ++ term_text later power coefficient) }
     ensures front { take (length out.old.items) out.new.items ≡ out.old.items }

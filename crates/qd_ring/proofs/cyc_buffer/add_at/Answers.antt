@@ -1,8 +1,5 @@
 -- The new number fits, and it changes the value by c x^v.
-use Rattle.std.proofs.Common.{◌≡◌, ◌+◌, ◌^◌, ◌<◌, ◌≤◌, get_or, set, ap, sym, subst, ◌∙◌, arith, nat_abs, pos, ◌+ℤ◌}
-use mir.Syntax.{w128}
-use mir.Val.{to_z, of_z}
-use mathlib.Core.Path.{ap₂}
+use Rattle.std.proofs.Common.{◌+◌, ◌≤◌, get_or, set, ap, sym, subst, ◌∙◌, arith, nat_abs, pos, ◌+ℤ◌}
 use Rattle.cyclotomic.specs.Ring.{value_of}
 use Rattle.cyclotomic.proofs.Sizes.{total_of, magnitude-sum}
 use Rattle.qd_ring.proofs.BufferLaws.{fits_128, read_128, read_sum, magnitude_at, total-add, value-add_at}
@@ -22,8 +19,8 @@ returns-clause-value c =
     let bound = magnitude_at c.args.buffer.now c.args.v in
     let room = c.requires.room in
     λ m.
-        ap (λ z. value_of m (set c.args.buffer.now c.args.v z)) (read_sum a c.args.c (omega (arith, bound, room)))
-            ∙ value-add_at m c.args.buffer.now c.args.v c.args.c c.requires.place
+    ap (λ z. value_of m (set c.args.buffer.now c.args.v z)) (read_sum a c.args.c (omega (arith, bound, room)))
+    ∙ value-add_at m c.args.buffer.now c.args.v c.args.c c.requires.place
 
 pub returns-clause-total : goal.returns-clause-total
 returns-clause-total c =

@@ -1,5 +1,5 @@
 -- Each number is changed as in a step of long division, and every number on the way fits.
-use Rattle.std.proofs.Common.{◌≡◌, ◌+◌, ◌^◌, ◌<◌, ◌≤◌, suc, length, take, get_or, ap, sym, subst, ◌∙◌, refl, arith, nat_abs, pos}
+use Rattle.std.proofs.Common.{◌≡◌, ◌^◌, ◌<◌, ◌≤◌, length, take, ap, sym, subst, ◌∙◌, refl, arith, nat_abs}
 use Rattle.std.proofs.Math.Numerals.{add-one}
 use Rattle.std.proofs.Math.Seq.{take-length}
 use mir.Syntax.{w128}
@@ -46,6 +46,6 @@ returns c =
     let same = c.requires.size ∙ add-one (length c.args.low.now) in
     let ended : c.loop-j.j ≡ length c.args.low.now = omega arith in
     c.loop-j.invariant
-        ∙ ap (λ n. mixed (leading c.args.window.now) (take n c.args.low.now) c.args.window.now) ended
-        ∙ ap (λ z. mixed (leading c.args.window.now) z c.args.window.now) (take-length c.args.low.now)
-        ∙ mixed-cancels c.args.low.now c.args.window.now same
+    ∙ ap (λ n. mixed (leading c.args.window.now) (take n c.args.low.now) c.args.window.now) ended
+    ∙ ap (λ z. mixed (leading c.args.window.now) z c.args.window.now) (take-length c.args.low.now)
+    ∙ mixed-cancels c.args.low.now c.args.window.now same

@@ -39,5 +39,5 @@ returns c =
     let k = c.args.k in
     let count = ap length c.reduction-phi.ensures ∙ reduction_length k c.requires.conductor in
     c.reduced_image.ensures
-        ∙ ap (λ n. array_of (value_product (cyclotomic k) (root k c.args.start) (cyclotomic_value k (at_power c.args.stride (take n c.args.a.now))))) count
-        ∙ ap (λ u. array_of (value_product (cyclotomic k) (root k c.args.start) u)) (image-front k c.requires.conductor c.args.stride c.args.a.now c.requires.array)
+    ∙ ap (λ n. array_of (value_product (cyclotomic k) (root k c.args.start) (cyclotomic_value k (at_power c.args.stride (take n c.args.a.now))))) count
+    ∙ ap (λ u. array_of (value_product (cyclotomic k) (root k c.args.start) u)) (image-front k c.requires.conductor c.args.stride c.args.a.now c.requires.array)

@@ -15,5 +15,5 @@ rest_is_zero-requires c =
 pub returns : goal.returns
 returns c =
     c.rest_is_zero.ensures
-        ∙ ap (λ n. list_all is_nought (drop n c.args.numbers.now)) (ap length c.reduction.ensures ∙ reduction_length c.args.k c.requires.conductor)
-        ∙ array_test c.args.k c.args.numbers.now c.requires.size
+    ∙ ap (λ n. list_all is_nought (drop n c.args.numbers.now)) (ap length c.reduction.ensures ∙ reduction_length c.args.k c.requires.conductor)
+    ∙ array_test c.args.k c.args.numbers.now c.requires.size

@@ -46,5 +46,5 @@ returns c =
     let k = c.args.k in
     let count = ap length c.reduction-phi.ensures ∙ reduction_length k c.requires.conductor in
     c.reduced_product.ensures
-        ∙ ap (λ n. array_of (value_product (cyclotomic k) (cyclotomic_value k (take n c.args.a.now)) (cyclotomic_value k (take n c.args.b.now)))) count
-        ∙ ap₂ (λ u v. array_of (value_product (cyclotomic k) u v)) (value-front k c.requires.conductor c.args.a.now c.requires.a_array) (value-front k c.requires.conductor c.args.b.now c.requires.b_array)
+    ∙ ap (λ n. array_of (value_product (cyclotomic k) (cyclotomic_value k (take n c.args.a.now)) (cyclotomic_value k (take n c.args.b.now)))) count
+    ∙ ap₂ (λ u v. array_of (value_product (cyclotomic k) u v)) (value-front k c.requires.conductor c.args.a.now c.requires.a_array) (value-front k c.requires.conductor c.args.b.now c.requires.b_array)

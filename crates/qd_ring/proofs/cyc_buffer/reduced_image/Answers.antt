@@ -44,10 +44,10 @@ returns c =
     let count = ap length c.reduction.ensures ∙ reduction_length k c.requires.conductor in
     let added = value_product (cyclotomic k) (root k c.args.start) (cyclotomic_value k (at_power c.args.stride c.args.a.now)) in
     let value : cyclotomic_value k c.spread.new.buffer ≡ added =
-        c.spread.ensures.value
-            ∙ ap (λ z. value_sum z added) (ap (cyclotomic_value k) c.requires.empty ∙ value_of-zeros (cyclotomic k) k)
-            ∙ nought_sum (cyclotomic k) added in
+    c.spread.ensures.value
+    ∙ ap (λ z. value_sum z added) (ap (cyclotomic_value k) c.requires.empty ∙ value_of-zeros (cyclotomic k) k)
+    ∙ nought_sum (cyclotomic k) added in
     c.first_places.ensures
-        ∙ ap (λ n. take n c.reduce.new.buffer ++ zeros (42 - n)) count
-        ∙ array_of_remainder k c.requires.conductor c.spread.new.buffer (take (phi_of k) c.reduce.new.buffer) c.reduce.ensures
-        ∙ ap array_of value
+    ∙ ap (λ n. take n c.reduce.new.buffer ++ zeros (42 - n)) count
+    ∙ array_of_remainder k c.requires.conductor c.spread.new.buffer (take (phi_of k) c.reduce.new.buffer) c.reduce.ensures
+    ∙ ap array_of value

@@ -44,10 +44,10 @@ returns c =
     let count = ap length c.reduction.ensures ∙ reduction_length k c.requires.conductor in
     let added = value_product (cyclotomic k) (cyclotomic_value k c.args.a.now) (cyclotomic_value k c.args.b.now) in
     let value : cyclotomic_value k c.add_product.new.buffer ≡ added =
-        c.add_product.ensures.value
-            ∙ ap (λ z. value_sum z added) (ap (cyclotomic_value k) c.requires.empty ∙ value_of-zeros (cyclotomic k) k)
-            ∙ nought_sum (cyclotomic k) added in
+    c.add_product.ensures.value
+    ∙ ap (λ z. value_sum z added) (ap (cyclotomic_value k) c.requires.empty ∙ value_of-zeros (cyclotomic k) k)
+    ∙ nought_sum (cyclotomic k) added in
     c.first_places.ensures
-        ∙ ap (λ n. take n c.reduce.new.buffer ++ zeros (42 - n)) count
-        ∙ array_of_remainder k c.requires.conductor c.add_product.new.buffer (take (phi_of k) c.reduce.new.buffer) c.reduce.ensures
-        ∙ ap array_of value
+    ∙ ap (λ n. take n c.reduce.new.buffer ++ zeros (42 - n)) count
+    ∙ array_of_remainder k c.requires.conductor c.add_product.new.buffer (take (phi_of k) c.reduce.new.buffer) c.reduce.ensures
+    ∙ ap array_of value

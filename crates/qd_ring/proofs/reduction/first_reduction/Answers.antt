@@ -1,5 +1,5 @@
 -- Each branch has the listed coefficients, and the last is taken at the last of these conductors alone.
-use Rattle.std.proofs.Common.{◌≡◌, ◌≢◌, ℕ, ◌<◌, ◌≤◌, true, sym, ap, ◌∙◌, arith}
+use Rattle.std.proofs.Common.{◌≡◌, ◌≢◌, ℕ, ◌<◌, true, sym, ap, arith}
 use Rattle.std.proofs.lemmas.Bool.Decides.{nat_tests}
 use Rattle.cyclotomic.specs.Conductors.{conductors, is_conductor, reductions, reduction_of}
 use Rattle.qd_ring.proofs.reduction.first_reduction.Goals as goal
@@ -46,4 +46,4 @@ unfolding reduction_of reductions
 returns c =
     sym
     (ap reduction_of
-        (only_last c.args.k c.requires.entry c.requires.below c.if-k-eq4.false c.if-k-eq6.false c.if-k-eq8.false c.if-k-eq9.false c.if-k-eq12.false c.if-k-eq16.false c.if-k-eq18.false c.if-k-eq20.false))
+    (only_last c.args.k c.requires.entry c.requires.below c.if-k-eq4.false c.if-k-eq6.false c.if-k-eq8.false c.if-k-eq9.false c.if-k-eq12.false c.if-k-eq16.false c.if-k-eq18.false c.if-k-eq20.false))

@@ -1,5 +1,5 @@
 -- Each branch has the listed coefficients, and the last is taken at the last of these conductors alone.
-use Rattle.std.proofs.Common.{◌≡◌, ◌≢◌, ℕ, ◌<◌, ◌≤◌, true, sym, ap, ◌∙◌, arith}
+use Rattle.std.proofs.Common.{◌≡◌, ◌≢◌, ℕ, ◌≤◌, true, sym, ap, arith}
 use Rattle.std.proofs.lemmas.Bool.Decides.{nat_tests}
 use Rattle.cyclotomic.specs.Conductors.{conductors, is_conductor, reductions, reduction_of}
 use Rattle.qd_ring.proofs.reduction.last_reduction.Goals as goal
@@ -38,4 +38,4 @@ unfolding reduction_of reductions
 returns c =
     sym
     (ap reduction_of
-        (only_last c.args.k c.requires.entry c.requires.above c.if-k-eq54.false c.if-k-eq60.false c.if-k-eq64.false c.if-k-eq72.false c.if-k-eq84.false c.if-k-eq96.false))
+    (only_last c.args.k c.requires.entry c.requires.above c.if-k-eq54.false c.if-k-eq60.false c.if-k-eq64.false c.if-k-eq72.false c.if-k-eq84.false c.if-k-eq96.false))

@@ -1,5 +1,5 @@
 -- Each branch has the listed coefficients, and the last is taken at the last of these conductors alone.
-use Rattle.std.proofs.Common.{◌≡◌, ◌≢◌, ℕ, ◌<◌, ◌≤◌, true, sym, ap, ◌∙◌, arith}
+use Rattle.std.proofs.Common.{◌≡◌, ◌≢◌, ℕ, ◌<◌, ◌≤◌, true, sym, ap, arith}
 use Rattle.std.proofs.lemmas.Bool.Decides.{nat_tests}
 use Rattle.cyclotomic.specs.Conductors.{conductors, is_conductor, reductions, reduction_of}
 use Rattle.qd_ring.proofs.reduction.middle_reduction.Goals as goal
@@ -50,4 +50,4 @@ unfolding reduction_of reductions
 returns c =
     sym
     (ap reduction_of
-        (only_last c.args.k c.requires.entry c.requires.above c.requires.below c.if-k-eq25.false c.if-k-eq27.false c.if-k-eq28.false c.if-k-eq30.false c.if-k-eq32.false c.if-k-eq36.false c.if-k-eq40.false c.if-k-eq42.false c.if-k-eq48.false))
+    (only_last c.args.k c.requires.entry c.requires.above c.requires.below c.if-k-eq25.false c.if-k-eq27.false c.if-k-eq28.false c.if-k-eq30.false c.if-k-eq32.false c.if-k-eq36.false c.if-k-eq40.false c.if-k-eq42.false c.if-k-eq48.false))

@@ -10,7 +10,7 @@ pub returns-clause-added : goal.returns-clause-added
 returns-clause-added c =
     c.in_ok-append_power.ensures.added
     ∙ ap (λ o. o ++ power_text c.args.power)
-        (c.in_ok-append_numeral.ensures.added
-          ∙ ap (λ o. o ++ numeral c.unsigned_abs.result)
-            (c.in_ok-append_sign.ensures.added c.args.coefficient (rw (to_z-of_z w128 c.args.coefficient c.ranges.coefficient) refl)))
+    (c.in_ok-append_numeral.ensures.added
+    ∙ ap (λ o. o ++ numeral c.unsigned_abs.result)
+    (c.in_ok-append_sign.ensures.added c.args.coefficient (rw (to_z-of_z w128 c.args.coefficient c.ranges.coefficient) refl)))
     ∙ term_joined c.args.out.now.items (sign_text c.args.later c.args.coefficient) (power_text c.args.power) c.unsigned_abs.result (nat_abs c.args.coefficient) (c.unsigned_abs.ensures.value ∙ ap nat_abs (to_z-of_z w128 c.args.coefficient c.ranges.coefficient))

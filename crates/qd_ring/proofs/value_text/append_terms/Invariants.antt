@@ -6,5 +6,5 @@ abbrev pub invariant-loop-power : goal.invariant-loop-power
 invariant-loop-power l = record {
   start : l.start ≡ length l.fn.out.items;
   written : l.out.items ≡ l.fn.out.items ++ terms_text false 0 (take l.power l.coefficients);
-  front : take (length l.fn.out.items) l.out.items ≡ l.fn.out.items
+  front : take (length l.fn.out.items) l.out.items ≡ l.fn.out.items;
 }

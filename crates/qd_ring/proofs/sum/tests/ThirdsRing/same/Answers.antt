@@ -6,6 +6,7 @@ use Rattle.algebra.specs.Residues.{residue}
 use Rattle.qd_ring.proofs.sum.tests.ThirdsRing.same.Goals as goal
 
 pub returns : goal.returns
-returns c =
-    ( λ equal. ap (λ k. residue 3 three k) (eqb-true _ _ equal)
-    , λ same. eq-eqb _ _ (sym (mod-eq_of_lt c.requires.a_value) ∙ ap (λ x. x.value) same ∙ mod-eq_of_lt c.requires.b_value))
+returns c = (
+  λ equal. ap (λ k. residue 3 three k) (eqb-true _ _ equal),
+  λ same. eq-eqb _ _ (sym (mod-eq_of_lt c.requires.a_value) ∙ ap (λ x. x.value) same ∙ mod-eq_of_lt c.requires.b_value),
+)

@@ -1,0 +1,36 @@
+-- Two numbers are the same modulo n exactly where their difference is 0 modulo n.
+use Rattle.std.proofs.Common.{◌≡◌, ℕ, ◌+◌, ◌-◌, ◌*◌, ◌/◌, ◌%◌, ◌<◌, ◌≤◌, ◌↔◌, Bool, true, false, nat_eq, refl, sym, ap, ◌∙◌, arith}
+use Rattle.std.proofs.Math.Nat.{add-mul-mod_self_left, mul-mod_right, div-lt_iff_lt-mul}
+use Rattle.std.proofs.lemmas.Bool.{eqb-true, eq-eqb}
+
+quotient_small : (n b : ℕ) → 0 < n → b ≤ 2 * n → b / n < 3
+quotient_small n b positive small =
+    let bound : (b / n < 3) ↔ (b < 3 * n) = div-lt_iff_lt-mul positive in
+    bound.1 (omega arith)
+
+-- the difference, with 2 n added so that it is no less than 0
+is_multiple : (n a b : ℕ) → 0 < n → b ≤ 2 * n → a % n ≡ b % n → (a + 2 * n - b) % n ≡ 0
+is_multiple n a b positive small same =
+    let q = a / n + 2 - b / n in
+    let few : b / n < 3 = quotient_small n b positive small in
+    let whole : q + b / n ≡ a / n + 2 = omega arith in
+    let scaled : n * (q + b / n) ≡ n * (a / n + 2) = ap (λ (z : ℕ). n * z) whole in
+    let difference : a + 2 * n - b ≡ n * q = omega arith in
+    rw difference (mul-mod_right n q)
+
+is_same : (n a b : ℕ) → 0 < n → b ≤ 2 * n → (a + 2 * n - b) % n ≡ 0 → a % n ≡ b % n
+is_same n a b positive small multiple =
+    let q = (a + 2 * n - b) / n in
+    let sides : a + n * 2 ≡ b + n * q = omega arith in
+    sym (add-mul-mod_self_left a n 2) ∙ ap (λ (z : ℕ). z % n) sides ∙ add-mul-mod_self_left b n q
+
+tests_agree : (p q : Bool) → (p ≡ true → q ≡ true) → (q ≡ true → p ≡ true) → p ≡ q
+tests_agree true q to from = sym (to refl)
+tests_agree false true to from = from refl
+tests_agree false false to from = refl
+
+same_test : (x y u v : ℕ) → (x ≡ y → u ≡ v) → (u ≡ v → x ≡ y) → nat_eq x y ≡ nat_eq u v
+same_test x y u v to from = tests_agree _ _ (λ t. eq-eqb u v (to (eqb-true x y t))) (λ t. eq-eqb x y (from (eqb-true u v t)))
+
+pub same_by_difference : (n a b : ℕ) → 0 < n → b ≤ 2 * n → nat_eq ((a + 2 * n - b) % n) 0 ≡ nat_eq (a % n) (b % n)
+same_by_difference n a b positive small = same_test _ _ _ _ (is_same n a b positive small) (is_multiple n a b positive small)

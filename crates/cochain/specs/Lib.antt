@@ -1,0 +1,2 @@
+pub mod Cochain
+pub mod Refusal

@@ -1,0 +1,76 @@
+ghost use Rattle.std.specs.Prelude.{◌≡◌, ◌*◌, ◌<◌, length, None, IfOk, IfErr};
+ghost use Rattle.cochain.specs.Cochain.{Cochain, cochain_of, value, cocycle_fault, IsRoots, IsCocycle};
+ghost use Rattle.cochain.specs.Refusal.{Refuses};
+
+use crate::fault::CocycleRefusal;
+use crate::laws::cocycle_fault;
+use crate::three_cochain::ThreeCochain;
+use group_table::{Group, Nats};
+use std::alloc::Global;
+use std::marker::Model;
+
+/// A normalised 3-cocycle of a finite group with values in roots of unity, which are written by their exponents.
+#[derive(Debug, Drop)]
+pub struct Cocycle {
+    cochain: ThreeCochain,
+}
+
+impl Model for Cocycle {
+    ghost use Rattle.cochain.specs.Cochain.{Cochain, IsCocycle};
+
+    ghost Value = { Cochain };
+
+    ghost view = { λ w. w.cochain };
+
+    ghost invariant = { λ w. IsCocycle w.cochain };
+}
+
+impl Cocycle {
+    /// The cocycle of `group` with these exponents, taken modulo `roots`. The exponent at `(g, h, k)` stands at place
+    /// `(g n + h) n + k`, n the order of the group. They are refused with the first law that fails, at its least place.
+    pub fn from_exponents(
+        alloc: Global,
+        group: Group,
+        roots: u32,
+        exponents: &Nats,
+    ) -> Result<Cocycle, CocycleRefusal>
+        requires roots { IsRoots roots }
+        requires cube { length exponents.now ≡ group.order * group.order * group.order }
+        ensures made { IfOk result (λ w. (cocycle_fault (cochain_of group roots exponents.now) ≡ None) × (w ≡ cochain_of group roots exponents.now)) }
+        ensures refused { IfErr result (λ refusal. Refuses refusal (cocycle_fault (cochain_of group roots exponents.now))) }
+    {
+        let _order = group.order();
+        let cochain = ThreeCochain::new(alloc, group, roots, exponents)?;
+        match cocycle_fault(&cochain) {
+            Some(fault) => Err(CocycleRefusal::Fault(fault)),
+            None => Ok(Cocycle { cochain }),
+        }
+    }
+
+    /// The group of its arguments.
+    pub fn group(&self) -> &Group
+        ensures group { result.now ≡ self.now.group }
+        ensures cocycle { IsCocycle self.now }
+    {
+        self.cochain.group()
+    }
+
+    /// How many roots of unity there are, from 1 to 64.
+    pub fn roots(&self) -> u32
+        ensures roots { result ≡ self.now.roots }
+        ensures few { IsRoots self.now.roots }
+    {
+        self.cochain.roots()
+    }
+
+    /// The exponent at `(g, h, k)`, below the number of roots.
+    pub fn value(&self, g: u32, h: u32, k: u32) -> u32
+        requires g_below { g < self.now.group.order }
+        requires h_below { h < self.now.group.order }
+        requires k_below { k < self.now.group.order }
+        ensures value { result ≡ value self.now g h k }
+        ensures below { value self.now g h k < self.now.roots }
+    {
+        self.cochain.value(g, h, k)
+    }
+}

@@ -1,0 +1,30 @@
+ghost use Rattle.std.specs.Prelude.{◌≡◌};
+ghost use Rattle.cochain.specs.declared.fault.CocycleRefusal.TheVariants.{Memory};
+
+use std::alloc::AllocError;
+
+/// The first law of a normalised 3-cocycle that exponents break, at its least place.
+#[derive(Clone, Copy, Debug, PartialEq, Eq)]
+pub enum CocycleFault {
+    /// An argument is the identity, and the exponent at `(g, h, k)` is not 0.
+    NotNormalised { g: u32, h: u32, k: u32 },
+    /// The cocycle law fails at `(g, h, k, l)`.
+    NotCocycle { g: u32, h: u32, k: u32, l: u32 },
+}
+
+/// Why no cocycle was made of exponents.
+#[derive(Clone, Copy, Debug, PartialEq, Eq)]
+pub enum CocycleRefusal {
+    /// The exponents are not a normalised 3-cocycle.
+    Fault(CocycleFault),
+    /// There was no memory. It says nothing of the exponents.
+    Memory,
+}
+
+impl From<AllocError> for CocycleRefusal {
+    ghost from_gives = { λ _ refusal. refusal ≡ Memory };
+
+    fn from(_error: AllocError) -> CocycleRefusal {
+        CocycleRefusal::Memory
+    }
+}

@@ -1,0 +1,117 @@
+-- Lines of numbers, written one after the other.
+use Rattle.std.proofs.Common.{◌≡◌, ℕ, suc, ◌-◌, ◌+◌, ◌*◌, ◌≤◌, ◌<◌, List, [], ◌∷◌, ◌++◌, length, take, drop, get_or, map, codes, refl, sym, ap, ◌∙◌, append_assoc, arith}
+use Rattle.std.specs.List.{flat_map}
+use Rattle.std.specs.Fmt.{decimal}
+use Rattle.std.proofs.lemmas.List.{append-nil, take_more, take_all, map-append}
+use Rattle.std.proofs.lemmas.Grind.{flat_map-append}
+use Rattle.std.proofs.lemmas.List.Concat.{flat_map-cons}
+use Rattle.qd_doc.specs.declared.document.Document.{Document}
+use Rattle.qd_doc.specs.Canonical.{line, rows, omega_lines, canonical_lines, canonical_text}
+
+-- numbers that follow another in a line
+abbrev pub spaced : List ℕ → List ℕ
+spaced numbers = flat_map (λ next. 32 ∷ next) (map decimal numbers)
+
+-- one more number
+pub spaced-take_more : (numbers : List ℕ) (i : ℕ) → i < length numbers → spaced (take (i + 1) numbers) ≡ spaced (take i numbers) ++ (32 ∷ decimal (get_or numbers i 0))
+spaced-take_more numbers i within =
+    ap spaced (take_more numbers i 0 within)
+    ∙ ap (flat_map (λ next. 32 ∷ next)) (map-append decimal (take i numbers) (get_or numbers i 0 ∷ []))
+    ∙ flat_map-append (λ next. 32 ∷ next) (map decimal (take i numbers)) (decimal (get_or numbers i 0) ∷ [])
+    ∙ ap (λ last. spaced (take i numbers) ++ last) (append-nil (32 ∷ decimal (get_or numbers i 0)))
+
+-- a text that grew by one more number
+pub spaced_more : (old text numbers : List ℕ) (i : ℕ) → i < length numbers → text ≡ old ++ spaced (take i numbers)
+    → (text ++ 32 ∷ []) ++ decimal (get_or numbers i 0) ≡ old ++ spaced (take (i + 1) numbers)
+spaced_more old text numbers i within so_far =
+    rw (spaced-take_more numbers i within, so_far) (simp append_assoc)
+
+pub spaced_all : (old text numbers : List ℕ) (i : ℕ) → length numbers ≤ i → text ≡ old ++ spaced (take i numbers) → text ≡ old ++ spaced numbers
+spaced_all old text numbers i all so_far = rw (take_all i numbers all) at so_far
+
+rows-suc : (count width : ℕ) (numbers : List ℕ) → rows (suc count) width numbers ≡ map decimal (take width numbers) ∷ rows count width (drop width numbers)
+unfolding rows
+rows-suc count width numbers = refl
+
+rows-zero : (width : ℕ) (numbers : List ℕ) → rows 0 width numbers ≡ []
+unfolding rows
+rows-zero width numbers = refl
+
+-- one more row
+pub rows_more : (text total : List ℕ) (count i width : ℕ) (numbers : List ℕ) → i < count
+    → text ++ flat_map line (rows (count - i) width numbers) ≡ total
+    → (text ++ line (map decimal (take width numbers))) ++ flat_map line (rows (count - (i + 1)) width (drop width numbers)) ≡ total
+rows_more text total count i width numbers listed so_far =
+    let k : count - i ≡ suc (count - (i + 1)) = omega arith in
+    append_assoc text (line (map decimal (take width numbers))) (flat_map line (rows (count - (i + 1)) width (drop width numbers)))
+    ∙ ap (λ lines. text ++ lines) (sym (flat_map-cons line (map decimal (take width numbers)) (rows (count - (i + 1)) width (drop width numbers))))
+    ∙ ap (λ lines. text ++ flat_map line lines) (sym (rows-suc (count - (i + 1)) width numbers))
+    ∙ ap (λ n. text ++ flat_map line (rows n width numbers)) (sym k)
+    ∙ so_far
+
+pub rows_all : (text total : List ℕ) (count i width : ℕ) (numbers : List ℕ) → count ≤ i
+    → text ++ flat_map line (rows (count - i) width numbers) ≡ total → text ≡ total
+rows_all text total count i width numbers all so_far =
+    let k : count - i ≡ 0 = omega arith in
+    sym (append-nil text)
+    ∙ ap (λ lines. text ++ flat_map line lines) (sym (rows-zero width numbers))
+    ∙ ap (λ n. text ++ flat_map line (rows n width numbers)) (sym k)
+    ∙ so_far
+
+-- how many numbers are left after a row
+pub rows_left : (left width count i : ℕ) → i < count → left ≡ (count - i) * width → left - width ≡ (count - (i + 1)) * width
+rows_left left width count i listed e =
+    let k : count - i ≡ suc (count - (i + 1)) = omega arith in
+    let f : left ≡ suc (count - (i + 1)) * width = e ∙ ap (λ n. n * width) k in
+    omega arith
+
+pub rows_fit : (left width count i : ℕ) → i < count → left ≡ (count - i) * width → width ≤ left
+rows_fit left width count i listed e =
+    let k : count - i ≡ suc (count - (i + 1)) = omega arith in
+    let f : left ≡ suc (count - (i + 1)) * width = e ∙ ap (λ n. n * width) k in
+    omega arith
+
+last_number : (digits rest : List ℕ) → ((digits ++ []) ++ 10 ∷ []) ++ rest ≡ digits ++ 10 ∷ rest
+last_number digits rest = ap (λ text. (text ++ 10 ∷ []) ++ rest) (append-nil digits) ∙ append_assoc digits (10 ∷ []) rest
+
+front_text : (n : ℕ) (rest : List (List (List ℕ))) → flat_map line ((codes "qdouble" ∷ codes "1" ∷ []) ∷ (codes "order" ∷ decimal n ∷ []) ∷ (codes "table" ∷ []) ∷ rest)
+    ≡ (codes "qdouble 1\norder " ++ (decimal n ++ codes "\ntable\n")) ++ flat_map line rest
+front_text n rest =
+    ap (λ text. codes "qdouble 1\norder " ++ text)
+    (last_number (decimal n) (codes "table\n" ++ flat_map line rest) ∙ sym (append_assoc (decimal n) (codes "\ntable\n") (flat_map line rest)))
+
+roots_text : (roots : ℕ) (rest : List (List (List ℕ))) → flat_map line ((codes "roots" ∷ decimal roots ∷ []) ∷ rest)
+    ≡ (codes "roots " ++ (decimal roots ++ codes "\n")) ++ flat_map line rest
+roots_text roots rest =
+    ap (λ text. codes "roots " ++ text)
+    (last_number (decimal roots) (flat_map line rest) ∙ sym (append_assoc (decimal roots) (codes "\n") (flat_map line rest)))
+
+regroup : (a t r o e : List ℕ) → (((a ++ t) ++ r) ++ o) ++ e ≡ (a ++ t) ++ ((r ++ o) ++ e)
+regroup a t r o e = simp append_assoc
+
+-- the pieces of a canonical text, put one after the other
+pub canonical_pieces : (document : Document) (a b c d e : List ℕ)
+    → a ≡ codes "qdouble 1\norder " ++ (decimal document.order ++ codes "\ntable\n")
+    → b ≡ a ++ flat_map line (rows document.order document.order document.table)
+    → c ≡ b ++ (codes "roots " ++ (decimal document.roots ++ codes "\n"))
+    → d ≡ c ++ flat_map line (omega_lines document.order document.roots document.exponents)
+    → e ≡ d ++ codes "end\n"
+    → e ≡ canonical_text document
+unfolding canonical_lines
+canonical_pieces document a b c d e ea eb ec ed ee =
+    let n = document.order in
+    let table = rows n n document.table in
+    let exponents = omega_lines n document.roots document.exponents in
+    let front = (codes "qdouble" ∷ codes "1" ∷ []) ∷ (codes "order" ∷ decimal n ∷ []) ∷ (codes "table" ∷ []) ∷ table in
+    let middle = (codes "roots" ∷ decimal document.roots ∷ []) ∷ exponents in
+    let last = (codes "end" ∷ []) ∷ [] in
+    let text : flat_map line (front ++ (middle ++ last)) ≡ flat_map line front ++ (flat_map line middle ++ flat_map line last) =
+    flat_map-append line front (middle ++ last) ∙ ap (λ more. flat_map line front ++ more) (flat_map-append line middle last) in
+    let whole : flat_map line (front ++ (middle ++ last)) ≡
+    ((codes "qdouble 1\norder " ++ (decimal n ++ codes "\ntable\n")) ++ flat_map line table) ++ (((codes "roots " ++ (decimal document.roots ++ codes "\n")) ++ flat_map line exponents) ++ codes "end\n") =
+    text ∙ ap (λ t. t ++ (flat_map line middle ++ flat_map line last)) (front_text n table)
+    ∙ ap (λ t. ((codes "qdouble 1\norder " ++ (decimal n ++ codes "\ntable\n")) ++ flat_map line table) ++ (t ++ flat_map line last)) (roots_text document.roots exponents) in
+    let start = codes "qdouble 1\norder " ++ (decimal n ++ codes "\ntable\n") in
+    let roots = codes "roots " ++ (decimal document.roots ++ codes "\n") in
+    ee ∙ ap (λ text. text ++ codes "end\n") (ed ∙ ap (λ text. text ++ flat_map line exponents) (ec ∙ ap (λ text. text ++ roots) (eb ∙ ap (λ text. text ++ flat_map line table) ea)))
+    ∙ regroup start (flat_map line table) roots (flat_map line exponents) (codes "end\n") ∙ sym whole

@@ -1,0 +1,80 @@
+-- Entries of a sparse list, put one after the other into a list of exponents.
+use Rattle.std.proofs.Common.{◌≡◌, ◌≢◌, ℕ, zero, suc, ◌+◌, ◌*◌, ◌<◌, Bool, true, false, nat_eq, List, length, map, Option, None, refl, sym, ap, ◌∙◌, ◌⊎◌, inl, inr, arith, zero-add}
+use Rattle.std.specs.Prelude.{slice_set, replicate, unwrap_or}
+use Rattle.std.specs.List.{range_with_len}
+use Rattle.std.proofs.lemmas.Bool.{eqb-true, eqb-false, eq-eqb}
+use Rattle.std.proofs.lemmas.List.{length-set, get_or-set_other}
+use Rattle.std.proofs.lemmas.Grind.{get_or-set_at}
+use Rattle.std.proofs.lemmas.List.FromFn.{fill_by_all, length-map-range_with_len, get_or-map-range_with_len}
+use Rattle.scan.specs.First.{option_or}
+use Rattle.qd_text.specs.Tokens.{Lexeme}
+use Rattle.qd_doc.specs.Grammar.{number_at}
+use Rattle.qd_doc.specs.Contents.{last_below, entry_at, sparse_exponents}
+
+by_test : (p k : ℕ) (b : Bool) → nat_eq p k ≡ b → (p ≡ k) ⊎ (p ≢ k)
+by_test p k true e = inl (eqb-true p k e)
+by_test p k false e = inr (eqb-false p k e)
+
+same_or_other : (p k : ℕ) → (p ≡ k) ⊎ (p ≢ k)
+same_or_other p k = by_test p k (nat_eq p k) refl
+
+-- a list made from a function, with one item set, is made from the function that differs there
+set-map_range : (f g : ℕ → ℕ) (m k v : ℕ) → g k ≡ v → ((p : ℕ) → p ≢ k → g p ≡ f p) → slice_set (map f (range_with_len 0 m)) k v ≡ map g (range_with_len 0 m)
+set-map_range f g m k v here others =
+    let made = map f (range_with_len 0 m) in
+    fill_by_all g (slice_set made k v) m 0
+    (length-set made k v ∙ length-map-range_with_len f 0 m)
+    (λ p within. elim (same_or_other p k) [
+      | inl same ↦
+          let inside : k < length made = omega (arith, length-map-range_with_len f 0 m) in
+          get_or-set_at made k p v 0 same inside ∙ sym here ∙ ap g (sym same)
+      | inr other ↦
+          get_or-set_other made k p v 0 other ∙ get_or-map-range_with_len f 0 m p p 0 within (zero-add p) ∙ sym (others p other)
+    ])
+
+last_below-suc : {A : Type 0} (n : ℕ) (at : ℕ → Option A) → last_below (suc n) at ≡ option_or (at n) (last_below n at)
+unfolding last_below
+last_below-suc n at = refl
+
+last_below-zero : {A : Type 0} (at : ℕ → Option A) → last_below 0 at ≡ None
+unfolding last_below
+last_below-zero at = refl
+
+-- the place that entry i names
+abbrev pub place_of : List Lexeme → ℕ → ℕ → ℕ
+place_of all n at = (number_at all at * n + number_at all (at + 1)) * n + number_at all (at + 2)
+
+other_key : (key place : ℕ) → place ≢ key → nat_eq key place ≡ false
+other_key key place other = by (nat_eq key place) refl
+  where
+    by : (b : Bool) → nat_eq key place ≡ b → nat_eq key place ≡ false
+    by true e = absurd (other (sym (eqb-true key place e)))
+    by false e = e
+
+-- one more entry sets its place
+pub sparse_exponents-suc : (all : List Lexeme) (n start i : ℕ)
+    → slice_set (sparse_exponents all n start i) (place_of all n (start + 4 * i)) (number_at all (start + 4 * i + 3)) ≡ sparse_exponents all n start (suc i)
+unfolding sparse_exponents
+sparse_exponents-suc all n start i =
+    let at = start + 4 * i in
+    let key = place_of all n at in
+    set-map_range
+    (λ place. unwrap_or (last_below i (entry_at all n start place)) 0)
+    (λ place. unwrap_or (last_below (suc i) (entry_at all n start place)) 0)
+    (n * n * n) key (number_at all (at + 3))
+    (let e : nat_eq key key ≡ true = eq-eqb key key refl in
+    rw (last_below-suc i (entry_at all n start key), e) refl)
+    (λ place other.
+    let e : nat_eq key place ≡ false = other_key key place other in
+    rw (last_below-suc i (entry_at all n start place), e) refl)
+
+-- no entry, and all exponents are 0
+zeros-range : (a m : ℕ) (f : ℕ → ℕ) → ((p : ℕ) → f p ≡ 0) → replicate m 0 ≡ map f (range_with_len a m)
+zeros-range a zero f zeros = refl
+zeros-range a (suc m) f zeros = rw (zeros a, zeros-range (a + 1) m f zeros) refl
+
+pub sparse_exponents-zero : (all : List Lexeme) (n start : ℕ) → replicate (n * n * n) 0 ≡ sparse_exponents all n start 0
+unfolding sparse_exponents
+sparse_exponents-zero all n start =
+    zeros-range 0 (n * n * n) (λ place. unwrap_or (last_below 0 (entry_at all n start place)) 0)
+    (λ place. ap (λ o. unwrap_or o 0) (last_below-zero (entry_at all n start place)))

@@ -1,0 +1,19 @@
+-- The kinds of natural numbers that the program tells apart.
+use Rattle.std.specs.Prelude.{ℕ, ◌≤◌, ◌<◌}
+use Rattle.qd_doc.specs.Kinds.{What, Natural, OrderNumber, RootsNumber, ElementBelow}
+use Rattle.qd_doc.specs.declared.kind.Kind.{Kind}
+use Rattle.qd_doc.specs.declared.kind.Kind.TheVariants.{Any, Order, Roots, Element}
+
+-- what may stand there
+abbrev pub what_of : Kind → What
+what_of Any = Natural
+what_of Order = OrderNumber
+what_of Roots = RootsNumber
+what_of (Element n) = ElementBelow n
+
+-- a number is of a kind
+abbrev pub IsOf : Kind → ℕ → Type 0
+IsOf Any n = Unit {0}
+IsOf Order n = (1 ≤ n) × (n ≤ 60)
+IsOf Roots n = (1 ≤ n) × (n ≤ 64)
+IsOf (Element order) n = n < order

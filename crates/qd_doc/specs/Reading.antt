@@ -1,0 +1,129 @@
+-- Reading token after token: each step answers what it read and the tokens that are left, or a refusal.
+use Rattle.std.specs.Prelude.{◌≡◌, ℕ, zero, suc, ◌+◌, ◌*◌, if◌then◌else◌, List, [], ◌∷◌, length, replicate, codes, slice_set, Option, Some, None, Result, Ok, Err, ◌≤◌, ◌<◌, ◌^◌}
+use Rattle.qd_text.specs.Tokens.{Lexeme}
+use Rattle.qd_text.specs.Numbers.{value}
+use Rattle.qd_text.specs.declared.expected.Expected.TheVariants.{Qdouble, One, Order, Table, Roots, Omega}
+use Rattle.qd_doc.specs.Kinds.{What, Word, Natural, OrderNumber, RootsNumber, FormWord, ElementBelow, EndWord, NoToken, is_word, refusal, missing}
+use Rattle.qd_doc.specs.declared.listing.Listing.{Listing}
+use Rattle.qd_doc.specs.declared.listing.Listing.TheVariants.{Trivial, Dense, Sparse}
+use Rattle.qd_doc.specs.declared.document.Document.{Document}
+use Rattle.qd_doc.specs.declared.refusal.DocRefusal.{DocRefusal}
+use Rattle.qd_doc.specs.declared.refusal.DocRefusal.TheVariants.{Memory}
+
+infixl 10 ◌>>=◌
+abbrev pub ◌>>=◌ : {A B : Type 0} → Result A DocRefusal → (A → Result B DocRefusal) → Result B DocRefusal
+(Ok x) >>= f = f x
+(Err e) >>= f = Err e
+
+-- an answer that a refusal may stand in the place of
+abbrev pub unless : {A : Type 0} → Option DocRefusal → A → Result A DocRefusal
+unless None x = Ok x
+unless (Some r) x = Err r
+
+-- one token of a kind, seen by `view`, of a text that ends at an offset
+unfoldable pub read : {A : Type 0} → (List ℕ → A) → ℕ → What → List Lexeme → Result (A × List Lexeme) DocRefusal
+read view offset kind [] = unless (missing kind offset) (view [], [])
+read view offset kind (token ∷ rest) = unless (refusal kind token) (view token.text, rest)
+
+-- a word that has to stand here
+abbrev pub skip : ℕ → What → List Lexeme → Result (List Lexeme) DocRefusal
+skip offset kind left = read (λ text. text) offset kind left >>= λ x. Ok x.1
+
+-- a number that has to stand here
+abbrev pub read_number : ℕ → What → List Lexeme → Result (ℕ × List Lexeme) DocRefusal
+read_number offset kind left = read value offset kind left
+
+-- so many natural numbers
+unfoldable pub read_numbers : ℕ → ℕ → List Lexeme → Result (List ℕ × List Lexeme) DocRefusal
+read_numbers offset zero left = Ok ([], left)
+read_numbers offset (suc count) left = do
+  number ← read_number offset Natural left
+  more ← read_numbers offset count number.1
+  Ok (number.0 ∷ more.0, more.1)
+
+-- up to the table: the order
+unfoldable pub read_order : ℕ → List Lexeme → Result (ℕ × List Lexeme) DocRefusal
+read_order offset left = do
+  after_name ← skip offset (Word Qdouble) left
+  after_version ← skip offset (Word One) after_name
+  after_word ← skip offset (Word Order) after_version
+  number ← read_number offset OrderNumber after_word
+  after_table ← skip offset (Word Table) number.1
+  Ok (number.0, after_table)
+
+-- from the table to the exponents: the number of roots
+unfoldable pub read_roots : ℕ → List Lexeme → Result (ℕ × List Lexeme) DocRefusal
+read_roots offset left = do
+  after_word ← skip offset (Word Roots) left
+  number ← read_number offset RootsNumber after_word
+  after_omega ← skip offset (Word Omega) number.1
+  Ok (number.0, after_omega)
+
+-- the form of the exponents by its word
+abbrev pub listing_of : List ℕ → Listing
+listing_of text = if is_word text (codes "dense") then Dense else if is_word text (codes "sparse") then Sparse else Trivial
+
+-- an entry of a sparse list: its place and its exponent
+unfoldable pub read_entry : ℕ → ℕ → List Lexeme → Result ((ℕ × ℕ) × List Lexeme) DocRefusal
+read_entry offset n left = do
+  x ← read_number offset (ElementBelow n) left
+  y ← read_number offset (ElementBelow n) x.1
+  z ← read_number offset (ElementBelow n) y.1
+  exponent ← read_number offset Natural z.1
+  Ok (((x.0 * n + y.0) * n + z.0, exponent.0), exponent.1)
+
+-- so many entries of a sparse list, put into a list of exponents
+unfoldable pub read_entries : ℕ → ℕ → ℕ → List ℕ → List Lexeme → Result (List ℕ × List Lexeme) DocRefusal
+read_entries offset n zero exponents left = Ok (exponents, left)
+read_entries offset n (suc count) exponents left = do
+  entry ← read_entry offset n left
+  read_entries offset n count (slice_set exponents entry.0.0 entry.0.1) entry.1
+
+-- the exponents of a sparse list
+unfoldable pub read_sparse : ℕ → ℕ → List Lexeme → Result (List ℕ × List Lexeme) DocRefusal
+read_sparse offset n left = do
+  count ← read_number offset Natural left
+  read_entries offset n count.0 (replicate (n * n * n) 0) count.1
+
+-- the exponents after the word for their form
+abbrev pub read_listing : ℕ → ℕ → Listing → List Lexeme → Result (List ℕ × List Lexeme) DocRefusal
+read_listing offset n Trivial left = Ok (replicate (n * n * n) 0, left)
+read_listing offset n Dense left = read_numbers offset (n * n * n) left
+read_listing offset n Sparse left = read_sparse offset n left
+
+-- the exponents
+unfoldable pub read_exponents : ℕ → ℕ → List Lexeme → Result (List ℕ × List Lexeme) DocRefusal
+read_exponents offset n left = do
+  listing ← read listing_of offset FormWord left
+  read_listing offset n listing.0 listing.1
+
+-- the end
+unfoldable pub read_end : ℕ → List Lexeme → Result (List Lexeme) DocRefusal
+read_end offset left = do
+  after_end ← skip offset EndWord left
+  skip offset NoToken after_end
+
+-- a whole document
+unfoldable pub read_document : ℕ → List Lexeme → Result Document DocRefusal
+read_document offset left = do
+  n ← read_order offset left
+  table ← read_numbers offset (n.0 * n.0) n.1
+  roots ← read_roots offset table.1
+  exponents ← read_exponents offset n.0 roots.1
+  rest ← read_end offset exponents.1
+  Ok (record { order = n.0; table = table.0; roots = roots.0; exponents = exponents.0 })
+
+-- a refusal that a step returned is what reading gives, unless there was no memory
+abbrev pub Fails : {Y : Type 0} → DocRefusal → Result Y DocRefusal → Type 0
+Fails Memory read = Unit {0}
+Fails refusal read = read ≡ Err refusal
+
+-- what a step returned, seen by `view`, is what reading gives, unless there was no memory
+abbrev pub Gives : {X Y : Type 0} → (X → Y) → Result X DocRefusal → Result Y DocRefusal → Type 0
+Gives view (Ok x) read = read ≡ Ok (view x)
+Gives view (Err refusal) read = Fails refusal read
+
+-- an offset of a text whose offsets fit in 32 bits
+pub record IsOffset (bytes : List ℕ) (offset : ℕ) : Type 0 where
+  pub within : offset ≤ length bytes
+  pub few : length bytes < 2 ^ 32

@@ -1,0 +1,4 @@
+pub mod Inputs
+pub mod Planned
+pub mod Documents
+pub mod Meaning

@@ -1,0 +1,248 @@
+-- What the program's answer means, from what it had to say and how it ended.
+use Rattle.std.proofs.Common.{◌≡◌, ℕ, ◌≤◌, List, length, Option, Some, None, Result, Ok, Err, refl, sym, subst, ◌∙◌, arith, ◌⊎◌, inl, inr, length-append}
+use Rattle.std.specs.Prelude.{IsSome}
+use Rattle.std.specs.Io.KnownBytes.{Appends, IsAtEnd}
+use Rattle.qd_io.specs.Stream.{HasRoom}
+use Rattle.cochain.specs.Cochain.{Cochain}
+use Rattle.qd_engine.specs.Words.{command_of}
+use Rattle.qd_engine.specs.Plan.{exponents_of, plan}
+use Rattle.qd_engine.specs.Report.{report_of}
+use Rattle.qd_engine.specs.Lines.{memory_line}
+use Rattle.qd_engine.specs.Answers.{why_of_cause, why_of}
+use Rattle.qd_engine.specs.Causes.{OfInput, document_in, Comes, IsDone}
+use Rattle.std.specs.Prelude.{String, string_bytes, IsOk, OnOk}
+use Rattle.std.specs.Global.{Global}
+use Rattle.qd_engine.specs.declared.stop.Stop.{Stop}
+use Rattle.qd_engine.specs.declared.stop.Stop.TheVariants as stops
+use Rattle.qd_engine.specs.Lines.{line_of}
+use Rattle.qd_engine.specs.Endings.{IsCause, Says, Writing, Ends, EndsSaying, Decides, Prepares, SaysPrepared}
+use Rattle.qd_engine.proofs.Documents.{document_group, document_cocycle}
+use Rattle.qd_engine.proofs.Planned.{refusal_comes, report_passes}
+use Rattle.qd_engine.specs.declared.command.Command.{Command}
+use Rattle.qd_engine.specs.declared.command.Command.TheVariants.{Check}
+use Rattle.qd_engine.specs.declared.answer.Why.{Why}
+use Rattle.qd_engine.specs.declared.answer.Why.TheVariants as whys
+use Rattle.qd_engine.specs.declared.answer.Outcome.{Outcome}
+use Rattle.qd_engine.specs.declared.answer.Outcome.TheVariants.{Report, Refused, Memory}
+use Rattle.qd_engine.specs.declared.cause.Cause.{Cause}
+use Rattle.qd_engine.specs.declared.cause.Cause.TheVariants.{Usage, Read, TooLong, Syntax, Wide, Section, Order, Roots, Group, Cocycle}
+
+-- ---- how it ended
+
+-- either the writing failed, or all was written
+pub record Failed (writing : Writing) (failed : Type 0) (why : Why) (outcome : Outcome) (text : List ℕ) : Type 0 where
+  pub planned : ℕ
+  pub is : why ≡ whys.Write planned
+  pub rose : failed
+  pub no_room : HasRoom writing.room text → ⊥
+
+pub record Written (writing : Writing) (why : Why) (outcome : Outcome) (text : List ℕ) : Type 0 where
+  pub is : why ≡ why_of outcome
+  pub added : Appends writing.before writing.after text
+
+ending : (writing : Writing) (failed : Type 0) (why : Why) (outcome : Outcome) (text : List ℕ) → Ends writing failed why outcome text
+    → Failed writing failed why outcome text ⊎ Written writing why outcome text
+ending writing failed (whys.Write planned) outcome text e = inl (record { planned = planned; is = refl; rose = e.1; no_room = e.3 })
+ending writing failed whys.Done outcome text e = inr (record { is = e.0; added = e.1 })
+ending writing failed whys.Usage outcome text e = inr (record { is = e.0; added = e.1 })
+ending writing failed whys.Read outcome text e = inr (record { is = e.0; added = e.1 })
+ending writing failed whys.TooLong outcome text e = inr (record { is = e.0; added = e.1 })
+ending writing failed (whys.Syntax offset wanted) outcome text e = inr (record { is = e.0; added = e.1 })
+ending writing failed (whys.Wide offset) outcome text e = inr (record { is = e.0; added = e.1 })
+ending writing failed (whys.Section offset) outcome text e = inr (record { is = e.0; added = e.1 })
+ending writing failed (whys.Order number) outcome text e = inr (record { is = e.0; added = e.1 })
+ending writing failed (whys.Roots number) outcome text e = inr (record { is = e.0; added = e.1 })
+ending writing failed (whys.Group fault) outcome text e = inr (record { is = e.0; added = e.1 })
+ending writing failed (whys.Cocycle fault) outcome text e = inr (record { is = e.0; added = e.1 })
+ending writing failed whys.Memory outcome text e = inr (record { is = e.0; added = e.1 })
+
+-- ---- what it had to say
+
+-- a cause is the source's failure, or the plan's refusal of some input
+cause_kind : (words : List (List ℕ)) (left : Option (List ℕ)) (failed : Type 0) (cause : Cause) → IsCause words left failed cause
+    → (failed × IsSome (command_of words) × (cause ≡ Read)) ⊎ OfInput left (λ bytes. plan words bytes ≡ Err cause)
+cause_kind words left failed Read h = inl (h.1, h.0, refl)
+cause_kind words left failed Usage h = inr h
+cause_kind words left failed TooLong h = inr h
+cause_kind words left failed (Syntax offset wanted) h = inr h
+cause_kind words left failed (Wide offset) h = inr h
+cause_kind words left failed (Section offset) h = inr h
+cause_kind words left failed (Order number) h = inr h
+cause_kind words left failed (Roots number) h = inr h
+cause_kind words left failed (Group fault) h = inr h
+cause_kind words left failed (Cocycle fault) h = inr h
+
+cause_comes : (words : List (List ℕ)) (left : Option (List ℕ)) (failed : Type 0) (cause : Cause) → IsCause words left failed cause → Comes words left failed (why_of_cause cause)
+cause_comes words left failed cause h =
+    elim (cause_kind words left failed cause h) [
+      | inl (rose, some, is) ↦ subst (λ (c : Cause). Comes words left failed (why_of_cause c)) (sym is) (some, rose)
+      | inr (bytes, agrees, e) ↦ refusal_comes words left failed bytes cause agrees e
+    ]
+
+report_comes : (words : List (List ℕ)) (left : Option (List ℕ)) (failed : Type 0) (text : List ℕ) → OfInput left (λ bytes. plan words bytes ≡ Ok text) → Comes words left failed whys.Done
+report_comes words left failed text (bytes, agrees, e) =
+    let (command, asks, passes) = report_passes words bytes text e in
+    (rw asks refl, (bytes, agrees, (passes.document, document_group bytes passes.document passes.group, document_cocycle bytes passes.document passes.group passes.cocycle)))
+
+outcome_comes : (words : List (List ℕ)) (left : Option (List ℕ)) (failed : Type 0) (outcome : Outcome) (text : List ℕ) → Says words left failed outcome text → Comes words left failed (why_of outcome)
+outcome_comes words left failed Report text h = report_comes words left failed text h
+outcome_comes words left failed (Refused cause) text h = cause_comes words left failed cause h.0
+outcome_comes words left failed Memory text h = tt
+
+-- ---- what the answer means
+
+-- where an answer comes, what it says holds
+pub answer_comes : (words : List (List ℕ)) (left : Option (List ℕ)) (source_failed : Type 0) (writing : Writing) (sink_failed : Type 0) (why : Why)
+    → EndsSaying words left source_failed writing sink_failed why → Comes words left source_failed why
+answer_comes words left source_failed writing sink_failed why (outcome, text, says, ends) =
+    elim (ending writing sink_failed why outcome text ends) [
+      | inl failed ↦ subst (Comes words left source_failed) (sym failed.is) tt
+      | inr written ↦ subst (Comes words left source_failed) (sym written.is) (outcome_comes words left source_failed outcome text says)
+    ]
+
+-- a report alone is answered by Done
+cause_not_done : (cause : Cause) → why_of_cause cause ≡ whys.Done → ⊥
+cause_not_done Usage e = cc
+cause_not_done Read e = cc
+cause_not_done TooLong e = cc
+cause_not_done (Syntax offset wanted) e = cc
+cause_not_done (Wide offset) e = cc
+cause_not_done (Section offset) e = cc
+cause_not_done (Order number) e = cc
+cause_not_done (Roots number) e = cc
+cause_not_done (Group fault) e = cc
+cause_not_done (Cocycle fault) e = cc
+
+done_is_report : (outcome : Outcome) → why_of outcome ≡ whys.Done → outcome ≡ Report
+done_is_report Report e = refl
+done_is_report (Refused cause) e = absurd (cause_not_done cause e)
+done_is_report Memory e = absurd cc
+
+report_done : (words : List (List ℕ)) (left : Option (List ℕ)) (writing : Writing) (text : List ℕ) → OfInput left (λ bytes. plan words bytes ≡ Ok text) → Appends writing.before writing.after text
+    → IsDone words left writing.before writing.after
+report_done words left writing text (bytes, agrees, e) added =
+    let (command, asks, passes) = report_passes words bytes text e in
+    record {
+      command = command;
+      asked = asks;
+      bytes = bytes;
+      input = agrees;
+      document = passes.document;
+      group = document_group bytes passes.document passes.group;
+      cocycle = document_cocycle bytes passes.document passes.group passes.cocycle;
+      report = subst (Appends writing.before writing.after) passes.report added;
+    }
+
+pub done_means : (words : List (List ℕ)) (left : Option (List ℕ)) (source_failed : Type 0) (writing : Writing) (sink_failed : Type 0) (why : Why)
+    → EndsSaying words left source_failed writing sink_failed why → why ≡ whys.Done → IsDone words left writing.before writing.after
+done_means words left source_failed writing sink_failed why (outcome, text, says, ends) done =
+    elim (ending writing sink_failed why outcome text ends) [
+      | inl failed ↦ absurd (let wrong : whys.Write failed.planned ≡ whys.Done = sym failed.is ∙ done in cc)
+      | inr written ↦
+          let report : outcome ≡ Report = done_is_report outcome (sym written.is ∙ done) in
+          report_done words left writing text (subst (λ (o : Outcome). Says words left source_failed o text) report says) written.added
+    ]
+
+-- ---- what the plan gives is what the program answers
+
+same_cause : (words : List (List ℕ)) (bytes : List ℕ) (cause : Cause) → plan words bytes ≡ Err cause → Decides (plan words bytes) (why_of_cause cause)
+same_cause words bytes cause e = rw e (inl refl)
+
+outcome_decides : (words : List (List ℕ)) (bytes : List ℕ) (failed : Type 0) (outcome : Outcome) (text : List ℕ) → (failed → ⊥) → Says words (Some bytes) failed outcome text
+    → Decides (plan words bytes) (why_of outcome)
+outcome_decides words bytes failed Report text sure (input, agrees, e) = subst (λ (b : List ℕ). Decides (plan words b) whys.Done) agrees (rw e (inl refl))
+outcome_decides words bytes failed (Refused cause) text sure says =
+    elim (cause_kind words (Some bytes) failed cause says.0) [
+      | inl (rose, some, is) ↦ absurd (sure rose)
+      | inr (input, agrees, e) ↦ subst (λ (b : List ℕ). Decides (plan words b) (why_of_cause cause)) agrees (same_cause words input cause e)
+    ]
+outcome_decides words bytes failed Memory text sure says = decides_memory (plan words bytes)
+  where
+    decides_memory : (planned : Result (List ℕ) Cause) → Decides planned whys.Memory
+    decides_memory (Ok report) = inr refl
+    decides_memory (Err cause) = inr refl
+
+pub plan_decides : (words : List (List ℕ)) (left : Option (List ℕ)) (source_failed : Type 0) (writing : Writing) (sink_failed : Type 0) (why : Why) (bytes : List ℕ)
+    → EndsSaying words left source_failed writing sink_failed why → left ≡ Some bytes → (source_failed → ⊥) → (sink_failed → ⊥) → Decides (plan words bytes) why
+plan_decides words left source_failed writing sink_failed why bytes (outcome, text, says, ends) told sure_source sure_sink =
+    elim (ending writing sink_failed why outcome text ends) [
+      | inl failed ↦ absurd (sure_sink failed.rose)
+      | inr written ↦
+          subst (Decides (plan words bytes)) (sym written.is)
+          (outcome_decides words bytes source_failed outcome text sure_source (subst (λ (l : Option (List ℕ)). Says words l source_failed outcome text) told says))
+    ]
+
+-- ---- a sink that promises room for the report
+
+-- a report is longer than the line for want of memory
+report_long : (command : Command) (w : Cochain) → length memory_line ≤ length (report_of command w)
+report_long Check w = simp length-append (omega arith)
+
+room_for_less : (room : Option ℕ) (long short : List ℕ) → length short ≤ length long → HasRoom room long → HasRoom room short
+room_for_less None long short less has = has
+room_for_less (Some room) long short less has = let fits : length long ≤ room = has in omega arith
+
+memory_room : (words : List (List ℕ)) (bytes report : List ℕ) (room : Option ℕ) → plan words bytes ≡ Ok report → HasRoom room report → HasRoom room memory_line
+memory_room words bytes report room e has =
+    let (command, asks, passes) = report_passes words bytes report e in
+    room_for_less room (report_of command (exponents_of (document_in bytes))) memory_line (report_long command (exponents_of (document_in bytes))) (subst (HasRoom room) passes.report has)
+
+-- what there was to say has room where the report has
+outcome_room : (words : List (List ℕ)) (bytes report : List ℕ) (failed : Type 0) (room : Option ℕ) (outcome : Outcome) (text : List ℕ) → (failed → ⊥)
+    → plan words bytes ≡ Ok report → HasRoom room report → Says words (Some bytes) failed outcome text → HasRoom room text
+outcome_room words bytes report failed room Report text sure e has (input, agrees, planned) =
+    let again : plan words bytes ≡ Ok text = subst (λ (b : List ℕ). plan words b ≡ Ok text) agrees planned in
+    let same : report ≡ text = cc in
+    subst (HasRoom room) same has
+outcome_room words bytes report failed room (Refused cause) text sure e has says =
+    elim (cause_kind words (Some bytes) failed cause says.0) [
+      | inl (rose, some, is) ↦ absurd (sure rose)
+      | inr (input, agrees, planned) ↦
+          let again : plan words bytes ≡ Err cause = subst (λ (b : List ℕ). plan words b ≡ Err cause) agrees planned in
+          absurd cc
+    ]
+outcome_room words bytes report failed room Memory text sure e has says = subst (HasRoom room) (sym says) (memory_room words bytes report room e has)
+
+-- a report, or the word that there was no memory
+report_or_memory : (words : List (List ℕ)) (bytes report : List ℕ) (why : Why) → plan words bytes ≡ Ok report → Decides (plan words bytes) why → (why ≡ whys.Done) ⊎ (why ≡ whys.Memory)
+report_or_memory words bytes report why e decides = rw e at decides
+
+pub room_decides : (words : List (List ℕ)) (left : Option (List ℕ)) (source_failed : Type 0) (writing : Writing) (sink_failed : Type 0) (why : Why) (bytes report : List ℕ)
+    → EndsSaying words left source_failed writing sink_failed why → left ≡ Some bytes → (source_failed → ⊥) → plan words bytes ≡ Ok report → HasRoom writing.room report
+    → (why ≡ whys.Done) ⊎ (why ≡ whys.Memory)
+room_decides words left source_failed writing sink_failed why bytes report (outcome, text, says, ends) told sure e has =
+    let known = subst (λ (l : Option (List ℕ)). Says words l source_failed outcome text) told says in
+    elim (ending writing sink_failed why outcome text ends) [
+      | inl failed ↦ absurd (failed.no_room (outcome_room words bytes report source_failed writing.room outcome text sure e has known))
+      | inr written ↦
+          report_or_memory words bytes report why e (subst (Decides (plan words bytes)) (sym written.is) (outcome_decides words bytes source_failed outcome text sure known))
+    ]
+
+-- ---- from what was prepared to how the program ends
+
+pub prepared_ends : (words : List (List ℕ)) (left : Option (List ℕ)) (source_failed : Type 0) (writing : Writing) (sink_failed : Type 0) (why : Why) (prepared : Result (String Global) Stop)
+    → Prepares words left source_failed prepared → SaysPrepared prepared writing sink_failed why → EndsSaying words left source_failed writing sink_failed why
+prepared_ends words left source_failed writing sink_failed why (Ok text) prepares says = (Report, string_bytes text, prepares, says)
+prepared_ends words left source_failed writing sink_failed why (Err (stops.Refused cause)) prepares (inl says) = (Refused cause, line_of cause, (prepares, refl), says)
+prepared_ends words left source_failed writing sink_failed why (Err (stops.Refused cause)) prepares (inr says) = (Memory, memory_line, refl, says)
+prepared_ends words left source_failed writing sink_failed why (Err stops.Memory) prepares says = (Memory, memory_line, refl, says)
+
+-- an outcome that is no report is not answered by Done
+not_done : (writing : Writing) (failed : Type 0) (why : Why) (outcome : Outcome) (text : List ℕ) → (why_of outcome ≡ whys.Done → ⊥) → Ends writing failed why outcome text → why ≡ whys.Done → ⊥
+not_done writing failed why outcome text other ends done =
+    elim (ending writing failed why outcome text ends) [
+      | inl fault ↦ let wrong : whys.Write fault.planned ≡ whys.Done = sym fault.is ∙ done in cc
+      | inr written ↦ other (sym written.is ∙ done)
+    ]
+
+-- Done comes of a report alone
+pub done_prepared : (writing : Writing) (failed : Type 0) (why : Why) (prepared : Result (String Global) Stop) → SaysPrepared prepared writing failed why → why ≡ whys.Done → IsOk prepared
+done_prepared writing failed why (Ok text) says done = refl
+done_prepared writing failed why (Err (stops.Refused cause)) (inl says) done = absurd (not_done writing failed why (Refused cause) (line_of cause) (cause_not_done cause) says done)
+done_prepared writing failed why (Err (stops.Refused cause)) (inr says) done = absurd (not_done writing failed why Memory memory_line (λ e. cc) says done)
+done_prepared writing failed why (Err stops.Memory) says done = absurd (not_done writing failed why Memory memory_line (λ e. cc) says done)
+
+pub drained_if_done : (writing : Writing) (failed : Type 0) (why : Why) (left : Option (List ℕ)) (prepared : Result (String Global) Stop) → SaysPrepared prepared writing failed why → OnOk prepared (IsAtEnd left)
+    → why ≡ whys.Done → IsAtEnd left
+drained_if_done writing failed why left (Ok text) says drained done = drained
+drained_if_done writing failed why left (Err stop) says drained done = absurd (let wrong : IsOk {T = String Global} (Err stop) = done_prepared writing failed why (Err stop) says done in cc)

@@ -1,0 +1,19 @@
+use Rattle.std.proofs.Common.{◌≡◌, Some, None, sym, ◌∙◌}
+use Rattle.qd_engine.specs.Words.{texts, command_of}
+use Rattle.qd_engine.proofs.Planned.{usage_prepares, read_prepares, answer_prepares}
+use Rattle.qd_engine.proofs.running.prepare.Goals as goal
+
+pub returns-in_default-clause-prepares : goal.returns-in_default-clause-prepares
+returns-in_default-clause-prepares g c =
+    let none : command_of (texts c.args.words.now.items) ≡ None = rw (← c.deref.ensures.value) (sym c.command_of.ensures.command ∙ c.in_default.is) in
+    usage_prepares _ _ none
+
+pub returns-in-Err-clause-prepares : goal.returns-in-Err-clause-prepares
+returns-in-Err-clause-prepares g c =
+    let asks : command_of (texts c.args.words.now.items) ≡ Some c.in-Some.command = rw (← c.deref.ensures.value) (sym c.command_of.ensures.command ∙ c.in-Some.is) in
+    read_prepares _ _ _ c.in-Some.command c.in-Err.stop asks c.in-Err.ensures.reads
+
+pub returns-clause-prepares : goal.returns-clause-prepares
+returns-clause-prepares g c =
+    let asks : command_of (texts c.args.words.now.items) ≡ Some c.in-Some.command = rw (← c.deref.ensures.value) (sym c.command_of.ensures.command ∙ c.in-Some.is) in
+    answer_prepares _ _ _ c.in-Some.command c.in-Ok.bytes.items c.answer_to.result asks c.in-Ok.ensures.reads c.answer_to.ensures.follows

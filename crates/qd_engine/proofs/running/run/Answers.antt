@@ -1,0 +1,14 @@
+use Rattle.qd_engine.proofs.Meaning.{prepared_ends, answer_comes, done_means, room_decides}
+use Rattle.qd_engine.proofs.running.run.Goals as goal
+
+pub returns-clause-done : goal.returns-clause-done
+returns-clause-done g c =
+    done_means _ _ _ _ _ c.say.result.why (prepared_ends _ _ _ _ _ c.say.result.why c.prepare-prepared.result c.prepare-prepared.ensures.prepares c.say.ensures.said)
+
+pub returns-clause-cause : goal.returns-clause-cause
+returns-clause-cause g c =
+    answer_comes _ _ _ _ _ c.say.result.why (prepared_ends _ _ _ _ _ c.say.result.why c.prepare-prepared.result c.prepare-prepared.ensures.prepares c.say.ensures.said)
+
+pub returns-clause-roomy : goal.returns-clause-roomy
+returns-clause-roomy g c = λ bytes report.
+    room_decides _ _ _ _ _ c.say.result.why bytes report (prepared_ends _ _ _ _ _ c.say.result.why c.prepare-prepared.result c.prepare-prepared.ensures.prepares c.say.ensures.said)

@@ -1,0 +1,71 @@
+-- What the program has to say, and how it ends by writing that.
+use Rattle.std.specs.Prelude.{◌≡◌, ℕ, ◌<◌, List, length, Option, Result, Ok, Err, ⊤, ◌⊎◌, String, string_bytes}
+use Rattle.std.specs.Global.{Global, Vec}
+use Rattle.std.specs.Io.KnownBytes.{Appends}
+use Rattle.qd_io.specs.Stream.{AppendsFront, HasRoom}
+use Rattle.qd_engine.specs.Plan.{plan}
+use Rattle.qd_engine.specs.Lines.{line_of, memory_line}
+use Rattle.qd_engine.specs.Answers.{why_of, why_of_cause, status_of}
+use Rattle.qd_engine.specs.Causes.{Agrees, OfInput, Comes}
+use Rattle.qd_engine.specs.declared.answer.Why.{Why}
+use Rattle.qd_engine.specs.declared.answer.Why.TheVariants as whys
+use Rattle.qd_engine.specs.declared.answer.Outcome.{Outcome}
+use Rattle.qd_engine.specs.declared.answer.Outcome.TheVariants.{Report, Refused, Memory}
+use Rattle.qd_engine.specs.declared.cause.Cause.{Cause}
+use Rattle.qd_engine.specs.declared.cause.Cause.TheVariants.{Read, TooLong}
+use Rattle.qd_engine.specs.declared.stop.Stop.{Stop}
+use Rattle.qd_engine.specs.declared.stop.Stop.TheVariants as stops
+use Rattle.qd_io.specs.declared.reading.TheConstants.{INPUT_LIMIT}
+
+-- a cause of a refusal: the source failed, or the plan refuses the input so
+abbrev pub IsCause : List (List ℕ) → Option (List ℕ) → Type 0 → Cause → Type 0
+IsCause words left failed Read = Comes words left failed whys.Read
+IsCause words left failed cause = OfInput left (λ bytes. plan words bytes ≡ Err cause)
+
+-- what the program has to say, and its text
+abbrev pub Says : List (List ℕ) → Option (List ℕ) → Type 0 → Outcome → List ℕ → Type 0
+Says words left failed Report text = OfInput left (λ bytes. plan words bytes ≡ Ok text)
+Says words left failed (Refused cause) text = IsCause words left failed cause × (text ≡ line_of cause)
+Says words left failed Memory text = text ≡ memory_line
+
+-- what a sink had written and promised before a call, and has written after it
+pub record Writing : Type 0 where
+  pub before : Option (List ℕ)
+  pub after : Option (List ℕ)
+  pub room : Option ℕ
+
+-- How the program ends, with a text to write: the text was added whole, or the sink failed after a front of it.
+abbrev pub Ends : Writing → Type 0 → Why → Outcome → List ℕ → Type 0
+Ends writing failed (whys.Write planned) outcome text =
+    (planned ≡ status_of (why_of outcome)) × failed × AppendsFront writing.before writing.after text × (HasRoom writing.room text → ⊥)
+Ends writing failed why outcome text = (why ≡ why_of outcome) × Appends writing.before writing.after text
+
+-- what comes of reading: all that was left; or the source failed; or more came than the program reads
+abbrev pub Reads : Option (List ℕ) → Type 0 → Result (Vec ℕ) Stop → Type 0
+Reads left failed (Ok bytes) = Agrees left bytes.items
+Reads left failed (Err (stops.Refused Read)) = failed
+Reads left failed (Err (stops.Refused TooLong)) = OfInput left (λ bytes. INPUT_LIMIT < length bytes)
+Reads left failed (Err (stops.Refused cause)) = ⊥
+Reads left failed (Err stops.Memory) = ⊤
+
+-- what comes of all steps before the writing
+abbrev pub Prepares : List (List ℕ) → Option (List ℕ) → Type 0 → Result (String Global) Stop → Type 0
+Prepares words left failed (Ok text) = OfInput left (λ bytes. plan words bytes ≡ Ok (string_bytes text))
+Prepares words left failed (Err (stops.Refused cause)) = IsCause words left failed cause
+Prepares words left failed (Err stops.Memory) = ⊤
+
+-- how the program ends: there was something to say, and it ends by writing that
+abbrev pub EndsSaying : List (List ℕ) → Option (List ℕ) → Type 0 → Writing → Type 0 → Why → Type 0
+EndsSaying words left source_failed writing sink_failed why =
+    (outcome : Outcome) × (text : List ℕ) × Says words left source_failed outcome text × Ends writing sink_failed why outcome text
+
+-- what the plan gives is what the program answers, or it has no memory
+abbrev pub Decides : Result (List ℕ) Cause → Why → Type 0
+Decides (Ok text) why = (why ≡ whys.Done) ⊎ (why ≡ whys.Memory)
+Decides (Err cause) why = (why ≡ why_of_cause cause) ⊎ (why ≡ whys.Memory)
+
+-- what was prepared is said: the report, the line of the refusal, or that there was no memory
+abbrev pub SaysPrepared : Result (String Global) Stop → Writing → Type 0 → Why → Type 0
+SaysPrepared (Ok text) writing failed why = Ends writing failed why Report (string_bytes text)
+SaysPrepared (Err (stops.Refused cause)) writing failed why = Ends writing failed why (Refused cause) (line_of cause) ⊎ Ends writing failed why Memory memory_line
+SaysPrepared (Err stops.Memory) writing failed why = Ends writing failed why Memory memory_line

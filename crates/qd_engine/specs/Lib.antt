@@ -1,0 +1,9 @@
+pub mod Words
+pub mod Text
+pub mod Lines
+pub mod Report
+pub mod Plan
+pub mod Follows
+pub mod Answers
+pub mod Causes
+pub mod Endings

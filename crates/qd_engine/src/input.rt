@@ -1,0 +1,24 @@
+ghost use Rattle.std.specs.Prelude.{◌≡◌, ◌≤◌, vec_len, OnOk, IfOk};
+ghost use Rattle.std.specs.Io.KnownBytes.{IsAtEnd};
+ghost use Rattle.qd_io.specs.Stream.{Rises};
+ghost use Rattle.qd_io.specs.declared.reading.TheConstants.{INPUT_LIMIT};
+ghost use Rattle.qd_engine.specs.Endings.{Reads};
+
+use crate::cause::Cause;
+use crate::stop::Stop;
+use qd_io::{ReadRefusal, Source, read_all};
+use std::alloc::Global;
+
+/// All the bytes of the source, or why they are not to be had.
+pub fn input<S: Source>(alloc: Global, source: &mut S) -> Result<Vec<u8>, Stop>
+    ensures reads { Reads (S.left source.old) (Rises (S.faults source.old) (S.faults source.new)) result }
+    ensures drained { OnOk result (IsAtEnd (S.left source.new)) }
+    ensures limit { IfOk result (λ bytes. vec_len bytes ≤ INPUT_LIMIT) }
+{
+    match read_all(alloc, source) {
+        Ok(bytes) => Ok(bytes),
+        Err(ReadRefusal::ReadFault) => Err(Stop::Refused(Cause::Read)),
+        Err(ReadRefusal::TooLong) => Err(Stop::Refused(Cause::TooLong)),
+        Err(ReadRefusal::Memory) => Err(Stop::Memory),
+    }
+}

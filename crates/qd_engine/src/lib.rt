@@ -1,0 +1,18 @@
+//! The whole program as one call: from its words and its input to its report, its status and what that means.
+#![tactic(auto)]
+
+mod answer;
+mod cause;
+mod command;
+mod finish;
+mod input;
+mod lines;
+mod running;
+mod steps;
+mod stop;
+
+pub use answer::{Answer, Why};
+pub use running::run;
+
+#[cfg(test)]
+mod tests;

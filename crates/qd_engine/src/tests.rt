@@ -1,0 +1,70 @@
+use super::*;
+use qd_io::{MemSink, MemSource, SureSink, SureSource};
+use std::alloc::{AllocError, Global};
+use std::test::Fail;
+
+const SEMION: &str = "qdouble 1\norder 2\ntable\n0 1\n1 0\nroots 2\nomega dense\n0 0\n0 0\n0 0\n0 1\nend\n";
+
+const NO_GROUP: &str = "qdouble 1\norder 2\ntable\n0 1\n1 1\nroots 1\nomega trivial\nend\n";
+
+const REPORT: &str = "group order 2 identity 0 exponent 2\ncocycle roots 2\nend\n";
+
+fn check(alloc: Global) -> Result<Vec<String>, AllocError> {
+    let mut words = Vec::new(alloc);
+    words.push(String::from_str(alloc, "check")?)?;
+    Ok(words)
+}
+
+fn source(alloc: Global, text: &str, fails: &[u32]) -> Result<MemSource, AllocError> {
+    let bytes = Vec::from_slice(alloc, text.as_bytes())?;
+    Ok(MemSource::new(bytes, 20, Vec::from_slice(alloc, fails)?))
+}
+
+fn sink(alloc: Global, fails: &[u32]) -> Result<MemSink, AllocError> {
+    MemSink::new(alloc, 4096, 8, Vec::from_slice(alloc, fails)?)
+}
+
+#[test]
+fn checks_a_document(rt: HostRuntime) -> Result<(), Fail> {
+    let alloc = rt.alloc();
+    let mut source = SureSource::new(Vec::from_slice(alloc, SEMION.as_bytes())?);
+    let mut sink = SureSink::new(alloc, REPORT.len())?;
+    let answer = run(alloc, &check(alloc)?, &mut source, &mut sink);
+    assert_eq!(rt; answer, Answer { status: 0, why: Why::Done });
+    assert_eq!(rt; sink.written().as_slice(), REPORT.as_bytes());
+    Ok(())
+}
+
+#[test]
+fn tells_of_streams_that_fail(rt: HostRuntime) -> Result<(), Fail> {
+    let alloc = rt.alloc();
+    let words = check(alloc)?;
+    let never: [u32; 0] = [];
+
+    // What is read, which calls of the source and of the sink fail, and what comes of it.
+    let rows = [
+        (SEMION, [2].as_slice(), never.as_slice(), 12, Why::Read, "refused 12 read\n"),
+        (SEMION, never.as_slice(), [3].as_slice(), 13, Why::Write { planned: 0 }, "group order 2 id"),
+        (NO_GROUP, never.as_slice(), [2].as_slice(), 13, Why::Write { planned: 4 }, "refused "),
+    ];
+    for (text, source_fails, sink_fails, status, why, written) in rows {
+        let mut source = source(alloc, text, source_fails)?;
+        let mut sink = sink(alloc, sink_fails)?;
+        let answer = run(alloc, &words, &mut source, &mut sink);
+        assert_eq!(rt; answer, Answer { status, why });
+        assert_eq!(rt; sink.written().as_slice(), written.as_bytes());
+    }
+    Ok(())
+}
+
+#[test]
+fn asks_for_a_command(rt: HostRuntime) -> Result<(), Fail> {
+    let alloc = rt.alloc();
+    let never: [u32; 0] = [];
+    let mut source = source(alloc, SEMION, &never)?;
+    let mut sink = sink(alloc, &never)?;
+    let answer = run(alloc, &Vec::new(alloc), &mut source, &mut sink);
+    assert_eq!(rt; answer, Answer { status: 2, why: Why::Usage });
+    assert_eq!(rt; sink.written().as_slice(), b"refused 2 usage\n".as_slice());
+    Ok(())
+}

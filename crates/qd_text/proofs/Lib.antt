@@ -1,0 +1,4 @@
+pub mod Digits
+pub mod Lexemes
+pub mod Decimals
+pub mod Texts

@@ -1,0 +1,3 @@
+# A document that is good, and blanks up to 4,194,305 bytes.
+printf 'qdouble 1\norder 2\ntable\n0 1\n1 0\nroots 2\nomega dense\n0 0\n0 0\n0 0\n0 1\nend\n'
+printf '%4194233s' ''
