@@ -1,5 +1,6 @@
 -- Sums, differences and constants as arrays.
-use Rattle.std.proofs.Common.{◌≡◌, ℕ, zero, suc, pred, ◌+◌, ◌-◌, ◌*◌, ◌^◌, ◌≤◌, ◌<◌, max, Bool, true, false, List, [], ◌∷◌, ◌++◌, length, take, drop, refl, sym, ap, ◌∙◌, subst, arith, ◌==◌, ◌&&◌, eq-eqb, length-append, length-drop, get_or}
+use Rattle.qd_ring.specs.ArrayLaws.{all_noughts, array_length, array_parts, coefficients_of, size-value, value_fits-small, value_of-padded, value_of-zeros, zeros_noughts}
+use Rattle.std.proofs.Common.{◌≡◌, ℕ, zero, suc, pred, ◌+◌, ◌-◌, ◌*◌, ◌^◌, ◌%◌, ◌≤◌, ◌<◌, max, Bool, true, false, List, [], ◌∷◌, ◌++◌, length, take, drop, refl, sym, ap, ◌∙◌, subst, arith, ◌==◌, ◌&&◌, eq-eqb, length-append, length-drop, get_or}
 use Rattle.std.proofs.Math.Seq.{take-length}
 use Rattle.std.proofs.lemmas.List.{drop-replicate}
 use Rattle.std.specs.Prelude.{ℤ, pos, negsuc, neg_ℤ, ◌+ℤ◌, ◌*ℤ◌, nat_abs}
@@ -8,17 +9,21 @@ use mathlib.Core.Path.{ap₂}
 use Rattle.cyclotomic.specs.Polynomial.{zeros, plus, scaled, coefficient}
 use Rattle.cyclotomic.specs.Cyclotomic.{cyclotomic}
 use Rattle.cyclotomic.specs.Conductors.{is_conductor, phi_of}
-use Rattle.cyclotomic.specs.Fit.{size_of, value_size, greatest_magnitude}
+use Rattle.cyclotomic.specs.Fit.{size_of, value_size, value_fits, greatest_magnitude}
+use borrow.Author.Tests.{le-leb}
 use Rattle.cyclotomic.specs.Ring.{Value, value_sum, value_multiple, value_negative, value_nought, value_of, value_one, value_product}
-use Rattle.cyclotomic.specs.CyclotomicRing.{CyclotomicValue, cyclotomic_value, root}
+use Rattle.cyclotomic.specs.CyclotomicRing.{CyclotomicValue, cyclotomic_ring, cyclotomic_value, root}
+use Rattle.algebra.specs.Sums.{power}
+use Rattle.cyclotomic.proofs.Orthogonality.{power-root}
+use Rattle.cyclotomic.proofs.Inverses.{root_modulo}
 use Rattle.cyclotomic.specs.Laws.Integers as Z
 use Rattle.cyclotomic.specs.Laws.Polynomials.{nil-plus, plus-nil, length-zeros, length-scaled, length-plus, scaled-one, scaled-zeros, plus-zeros}
 use Rattle.cyclotomic.specs.Laws.Values.{product_one}
 use Rattle.cyclotomic.proofs.Sizes.{size-scaled, size-zeros, size-cons}
 use Rattle.cyclotomic.proofs.Bounds.{root_size}
 use Rattle.qd_ring.specs.CycArrays.{array_of, is_array, is_nought, is_small}
-use Rattle.qd_ring.proofs.ReductionSigns.{conductor_bounds}
-use Rattle.qd_ring.proofs.ProductLaws.{array_parts, array_length, coefficients_of, length-value, value_of-padded, value_of-zeros, zeros_noughts, all_noughts, value-array_of, nought_sum}
+use Rattle.qd_ring.specs.ReductionSigns.{conductor_bounds}
+use Rattle.qd_ring.proofs.ProductLaws.{length-value, value-array_of, nought_sum}
 use Rattle.qd_ring.proofs.CycLaws.{small_means, size-array_of, is_small_yes}
 
 plus-padded : (p q : List ℤ) (j : ℕ) → length p ≡ length q → plus (p ++ zeros j) (q ++ zeros j) ≡ plus p q ++ zeros j
@@ -162,3 +167,20 @@ module _ (k : ℕ) (entry : is_conductor k ≡ true) (xs : List ℤ) (array : is
 pub array_test : (k : ℕ) (xs : List ℤ) → length xs ≡ 42 → list_all is_nought (drop (phi_of k) xs) ≡ is_array k xs
 unfolding is_array
 array_test k xs e = sym (ap (λ b. b && list_all is_nought (drop (phi_of k) xs)) (eq-eqb (length xs) 42 e))
+
+-- a negative fits where its value does
+pub negative_fits : (k : ℕ) → is_conductor k ≡ true → (xs : List ℤ) → is_array k xs ≡ true → is_small xs ≡ true → value_fits (value_negative (cyclotomic_value k xs)) ≡ true
+unfolding value_fits value_multiple
+negative_fits k entry xs array small =
+    let u = cyclotomic_value k xs in
+    le-leb (value_size (value_negative u)) greatest_magnitude
+    (omega (arith, size-scaled (negsuc 0) u.coefficients, size-value k entry xs array, small_means xs small))
+
+-- arrays that stand for one value are one
+pub arrays_same : (k : ℕ) → is_conductor k ≡ true → (xs ys : List ℤ) → is_array k xs ≡ true → is_array k ys ≡ true → cyclotomic_value k xs ≡ cyclotomic_value k ys → xs ≡ ys
+arrays_same k entry xs ys a b e =
+    array-of_value k entry xs a ∙ ap array_of e ∙ sym (array-of_value k entry ys b)
+
+pub scaled_by_power : (k : ℕ) → is_conductor k ≡ true → (e : ℕ) (u : CyclotomicValue k) → value_product (cyclotomic k) (root k (e % k)) u ≡ value_product (cyclotomic k) (power (cyclotomic_ring k) (root k 1) e) u
+scaled_by_power k entry e u =
+    ap (λ r. value_product (cyclotomic k) r u) (sym (root_modulo k entry e) ∙ sym (power-root (cyclotomic k) e))

@@ -1,4 +1,5 @@
 -- Products term by term, arrays of values, and what a zero buffer stands for.
+use Rattle.qd_ring.specs.ArrayLaws.{all_noughts, array_front, array_length, coefficients_of, value-front, value_of-padded, zeros_noughts}
 use Rattle.std.proofs.Common.{◌≡◌, ℕ, zero, suc, ◌+◌, ◌-◌, ◌*◌, ◌^◌, ◌≤◌, ◌<◌, Bool, true, false, List, [], ◌∷◌, ◌++◌, length, get_or, take, drop, refl, sym, ap, ◌∙◌, subst, arith, length-append, eqb-true, eq-eqb, ◌==◌, ◌&&◌}
 use Rattle.std.proofs.Math.Nat.{mul-le-mul_right}
 use Rattle.std.proofs.Math.Numerals.{add-one}
@@ -25,21 +26,9 @@ use Rattle.cyclotomic.proofs.Sizes.{total_of, size-cons, size-zeros}
 use Rattle.qd_ring.specs.CycArrays.{array_of, is_array, is_nought, is_small}
 use Rattle.qd_ring.proofs.BufferLaws.{value-take_suc}
 use Rattle.qd_ring.proofs.SpreadLaws.{product-multiple, total-take, total-take_suc}
-use Rattle.qd_ring.proofs.ReductionSigns.{conductor_bounds}
+use Rattle.qd_ring.specs.ReductionSigns.{conductor_bounds}
 
--- ---- zeros at the end
-act-padded : {V : Type 0} (M : LinearMap V) (p : List ℤ) (j : ℕ) (v : V) → act M (p ++ zeros j) v ≡ act M p v
-act-padded M [] j v = act-nothing M j v ∙ sym (act-nil M v)
-act-padded M (a ∷ p) j v =
-    act-cons M a (p ++ zeros j) v ∙ ap (λ z. M.add (M.scale a v) (M.map z)) (act-padded M p j v) ∙ sym (act-cons M a p v)
-
-pub value_of-padded : (m p : List ℤ) (j : ℕ) → value_of m (p ++ zeros j) ≡ value_of m p
-value_of-padded m p j =
-    value_of-act m (p ++ zeros j) ∙ act-padded (times_x m) p j (value_one m) ∙ sym (value_of-act m p)
-
-pub value_of-zeros : (m : List ℤ) (j : ℕ) → value_of m (zeros j) ≡ value_nought
-value_of-zeros m j = value_of-padded m [] j ∙ value_of-nil m
-
+-- ---- an empty buffer
 pub nought_sum : (m : List ℤ) (u : Value (degree m)) → value_sum value_nought u ≡ u
 nought_sum m u = sum_comm m value_nought u ∙ sum_nought m u
 
@@ -65,64 +54,26 @@ module _ (m xs : List ℤ) (w : Value (degree m)) where
   product_more i h =
       let a = get_or xs i (pos 0) in
       ap product_by (add-one i)
-      ∙ ap (λ u. value_product m u w) (value-take_suc m xs i h)
-      ∙ add_mul (remainder_ring m) (value_of m (take i xs)) (value_multiple a (value_root m i)) w
-      ∙ ap (value_sum (product_by i)) (multiple-product m a (value_root m i) w)
+          ∙ ap (λ u. value_product m u w) (value-take_suc m xs i h)
+          ∙ add_mul (remainder_ring m) (value_of m (take i xs)) (value_multiple a (value_root m i)) w
+          ∙ ap (value_sum (product_by i)) (multiple-product m a (value_root m i) w)
 
   -- a term that is 0 adds nothing
   pub product_skip : (i : ℕ) → i < length xs → get_or xs i (pos 0) ≡ pos 0 → product_by (i + 1) ≡ product_by i
   product_skip i h e =
       product_more i h
-      ∙ ap (λ a. value_sum (product_by i) (value_multiple a (value_product m (value_root m i) w))) e
-      ∙ ap (value_sum (product_by i)) ((times_x m).scale_zero (value_product m (value_root m i) w))
-      ∙ sum_nought m (product_by i)
+          ∙ ap (λ a. value_sum (product_by i) (value_multiple a (value_product m (value_root m i) w))) e
+          ∙ ap (value_sum (product_by i)) ((times_x m).scale_zero (value_product m (value_root m i) w))
+          ∙ sum_nought m (product_by i)
 
   pub product_step : (old now next : Value (degree m)) (i : ℕ) → i < length xs → now ≡ value_sum old (product_by i) → next ≡ value_sum now (value_multiple (get_or xs i (pos 0)) (value_product m (value_root m i) w)) → next ≡ value_sum old (product_by (i + 1))
   product_step old now next i h before is =
       let added = value_multiple (get_or xs i (pos 0)) (value_product m (value_root m i) w) in
       is ∙ ap (λ z. value_sum z added) before ∙ sum_assoc m old (product_by i) added
-      ∙ ap (value_sum old) (sym (product_more i h))
+          ∙ ap (value_sum old) (sym (product_more i h))
 
 -- ---- arrays
-pub all_noughts : (xs : List ℤ) → list_all is_nought xs ≡ true → xs ≡ zeros (length xs)
-all_noughts [] e = refl
-all_noughts (pos n ∷ xs) e =
-    ap₂ (λ x y. x ∷ y) (ap pos (eqb-true n 0 (and_left (n == 0) (list_all is_nought xs) e))) (all_noughts xs (and_right (n == 0) (list_all is_nought xs) e))
-all_noughts (negsuc n ∷ xs) e = cc
-
-pub zeros_noughts : (j : ℕ) → list_all is_nought (zeros j) ≡ true
-zeros_noughts zero = refl
-zeros_noughts (suc j) = zeros_noughts j
-
 module _ (k : ℕ) (entry : is_conductor k ≡ true) where
-  module _ (xs : List ℤ) (array : is_array k xs ≡ true) where
-    pub array_length : length xs ≡ 42
-    unfolding is_array
-    array_length = eqb-true (length xs) 42 (and_left (length xs == 42) (list_all is_nought (drop (phi_of k) xs)) array)
-
-    -- an array is its first phi(K) places, then zeros
-    pub array_parts : xs ≡ take (phi_of k) xs ++ zeros (length (drop (phi_of k) xs))
-    unfolding is_array
-    array_parts =
-        sym (take-append-drop (phi_of k) xs)
-        ∙ ap (λ z. take (phi_of k) xs ++ z) (all_noughts (drop (phi_of k) xs) (and_right (length xs == 42) (list_all is_nought (drop (phi_of k) xs)) array))
-
-    pub array_front : length (take (phi_of k) xs) ≡ phi_of k
-    array_front =
-        let bounds = conductor_bounds k entry in
-        length-take-le (phi_of k) xs (omega (arith, array_length, bounds.2))
-
-    -- the value of the array has its first places
-    pub value-front : cyclotomic_value k (take (phi_of k) xs) ≡ cyclotomic_value k xs
-    value-front =
-        sym (ap (value_of (cyclotomic k)) array_parts ∙ value_of-padded (cyclotomic k) (take (phi_of k) xs) (length (drop (phi_of k) xs)))
-
-    pub coefficients_of : (cyclotomic_value k xs).coefficients ≡ take (phi_of k) xs
-    unfolding value_of
-    coefficients_of =
-        ap (λ (v : CyclotomicValue k). v.coefficients) (sym value-front)
-        ∙ remainder-itself (cyclotomic k) (take (phi_of k) xs) (array_front ∙ sym (cyclotomic_degree k entry))
-
   pub length-value : (u : CyclotomicValue k) → length u.coefficients ≡ phi_of k
   length-value u = u.count ∙ cyclotomic_degree k entry
 
@@ -132,11 +83,11 @@ module _ (k : ℕ) (entry : is_conductor k ≡ true) where
       let bounds = conductor_bounds k entry in
       let n = length u.coefficients in
       let long : length (u.coefficients ++ zeros (42 - n)) ≡ 42 =
-      omega (arith, length-append u.coefficients (zeros (42 - n)), length-zeros (42 - n), length-value u, bounds.2) in
+          omega (arith, length-append u.coefficients (zeros (42 - n)), length-zeros (42 - n), length-value u, bounds.2) in
       let rest : drop (phi_of k) (u.coefficients ++ zeros (42 - n)) ≡ zeros (42 - n) =
-      ap (λ j. drop j (u.coefficients ++ zeros (42 - n))) (sym (length-value u)) ∙ drop-append_seam u.coefficients (zeros (42 - n)) in
+          ap (λ j. drop j (u.coefficients ++ zeros (42 - n))) (sym (length-value u)) ∙ drop-append_seam u.coefficients (zeros (42 - n)) in
       ap₂ (λ x y. x && y) (eq-eqb (length (u.coefficients ++ zeros (42 - n))) 42 long)
-      (ap (list_all is_nought) rest ∙ zeros_noughts (42 - n))
+          (ap (list_all is_nought) rest ∙ zeros_noughts (42 - n))
 
   pub value-array_of : (u : CyclotomicValue k) → cyclotomic_value k (array_of u) ≡ u
   unfolding array_of
@@ -153,7 +104,7 @@ module _ (k : ℕ) (entry : is_conductor k ≡ true) where
 pub product_total : (xs : List ℤ) (i t : ℕ) → i < length xs → total_of (take (i + 1) xs) * t ≡ total_of (take i xs) * t + nat_abs (get_or xs i (pos 0)) * t
 product_total xs i t h =
     let more : total_of (take (i + 1) xs) ≡ total_of (take i xs) + nat_abs (get_or xs i (pos 0)) =
-    ap (λ n. total_of (take n xs)) (add-one i) ∙ total-take_suc xs i h in
+        ap (λ n. total_of (take n xs)) (add-one i) ∙ total-take_suc xs i h in
     omega (arith, ap (λ n. n * t) more)
 
 pub product_most : (xs : List ℤ) (i t : ℕ) → total_of (take i xs) * t ≤ total_of xs * t

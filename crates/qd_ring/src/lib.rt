@@ -3,6 +3,9 @@
 
 mod cyc;
 mod cyc_buffer;
+mod cyc_ops;
+mod cyc_ring;
+mod cyc_ring_laws;
 mod plain;
 mod reduction;
 mod ring;
@@ -15,6 +18,7 @@ mod value_reader;
 mod value_text;
 
 pub use cyc::Cyc;
+pub use cyc_ring::CycRing;
 pub use plain::{Plain, ValueFault};
 pub use ring::Ring;
 pub use root::Root;

@@ -3,7 +3,7 @@ use Rattle.std.proofs.Common.{◌≡◌, ◌≤◌, length, drop, ap, ◌∙◌,
 use Rattle.std.specs.List.{list_all}
 use Rattle.cyclotomic.proofs.Checks.{reduction_length}
 use Rattle.qd_ring.specs.CycArrays.{is_nought}
-use Rattle.qd_ring.proofs.ReductionSigns.{conductor_bounds}
+use Rattle.qd_ring.specs.ReductionSigns.{conductor_bounds}
 use Rattle.qd_ring.proofs.CycSums.{array_test}
 use Rattle.qd_ring.proofs.cyc_buffer.is_padded.Goals as goal
 

@@ -9,7 +9,7 @@ use Rattle.cyclotomic.specs.Division.{cancelled, remainder}
 use Rattle.cyclotomic.specs.Cyclotomic.{cyclotomic}
 use Rattle.cyclotomic.specs.Fit.{size_of}
 use Rattle.cyclotomic.proofs.Checks.{reduction_length}
-use Rattle.qd_ring.proofs.ReductionSigns.{reduction_ternary}
+use Rattle.qd_ring.specs.ReductionSigns.{reduction_ternary}
 use Rattle.qd_ring.proofs.ReduceLaws.{window_size, window_start, step_below, step_window}
 use Rattle.qd_ring.proofs.cyc_buffer.reduce.Goals as goal
 

@@ -1,4 +1,5 @@
 -- From an empty buffer the value is what is added, and its remainder is copied.
+use Rattle.qd_ring.specs.ArrayLaws.{value_of-zeros}
 use Rattle.std.proofs.Common.{◌≡◌, ◌+◌, ◌-◌, ◌*◌, ◌^◌, ◌<◌, ◌≤◌, ◌++◌, length, take, ap, sym, subst, ◌∙◌, refl, arith}
 use Rattle.cyclotomic.specs.Polynomial.{at_power, zeros}
 use Rattle.cyclotomic.specs.Cyclotomic.{cyclotomic}
@@ -9,8 +10,8 @@ use Rattle.cyclotomic.specs.Laws.Polynomials.{length-zeros}
 use Rattle.cyclotomic.proofs.Checks.{reduction_length}
 use Rattle.cyclotomic.proofs.Sizes.{total_of}
 use Rattle.qd_ring.specs.CycArrays.{array_of}
-use Rattle.qd_ring.proofs.ReductionSigns.{conductor_bounds}
-use Rattle.qd_ring.proofs.ProductLaws.{total-zeros, value_of-zeros, nought_sum, array_of_remainder}
+use Rattle.qd_ring.specs.ReductionSigns.{conductor_bounds}
+use Rattle.qd_ring.proofs.ProductLaws.{total-zeros, nought_sum, array_of_remainder}
 use Rattle.qd_ring.proofs.cyc_buffer.reduced_image.Goals as goal
 
 pub spread-requires-clause-size : goal.spread-requires-clause-size

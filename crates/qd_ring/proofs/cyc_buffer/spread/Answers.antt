@@ -12,7 +12,7 @@ use Rattle.cyclotomic.specs.Laws.Values.{sum_nought}
 use Rattle.cyclotomic.proofs.Checks.{conductor_positive}
 use Rattle.cyclotomic.proofs.Sizes.{total_of}
 use Rattle.qd_ring.proofs.BufferLaws.{read_128}
-use Rattle.qd_ring.proofs.ReductionSigns.{conductor_bounds}
+use Rattle.qd_ring.specs.ReductionSigns.{conductor_bounds}
 use Rattle.qd_ring.proofs.SpreadLaws.{spread_by, spread_none, spread_step, spread_all, place_start, place_next, total-take, total-take_suc}
 use Rattle.qd_ring.proofs.cyc_buffer.spread.Goals as goal
 

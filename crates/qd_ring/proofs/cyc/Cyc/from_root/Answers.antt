@@ -5,7 +5,7 @@ use Rattle.cyclotomic.specs.Ring.{value_product, value_one}
 use Rattle.cyclotomic.specs.CyclotomicRing.{cyclotomic_value, galois_image, root}
 use Rattle.cyclotomic.specs.Laws.Values.{product_one}
 use Rattle.qd_ring.specs.CycArrays.{array_of}
-use Rattle.qd_ring.proofs.ReductionSigns.{conductor_bounds}
+use Rattle.qd_ring.specs.ReductionSigns.{conductor_bounds}
 use Rattle.qd_ring.proofs.ProductLaws.{value-array_of}
 use Rattle.qd_ring.proofs.CycLaws.{small_total, array-is, times_alone}
 use Rattle.qd_ring.proofs.CycSums.{root_array_small}
