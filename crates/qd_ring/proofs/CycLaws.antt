@@ -51,7 +51,7 @@ module _ (k : ℕ) (entry : is_conductor k ≡ true) where
   pub image_alone : (t : ℕ) (u : CyclotomicValue k) → value_product (cyclotomic k) (root k 0) (galois_image k t u) ≡ galois_image k t u
   image_alone t u =
       ap (λ r. value_product (cyclotomic k) r (galois_image k t u)) (root-zero (cyclotomic k))
-          ∙ one_mul (remainder_ring (cyclotomic k)) (galois_image k t u)
+      ∙ one_mul (remainder_ring (cyclotomic k)) (galois_image k t u)
 
   pub image_modulo : (t : ℕ) (u : CyclotomicValue k) → value_product (cyclotomic k) (root k 0) (galois_image k (t % k) u) ≡ galois_image k t u
   image_modulo t u = image_alone (t % k) u ∙ sym (galois_modulo k entry t u)
@@ -84,4 +84,4 @@ module _ (k : ℕ) (entry : is_conductor k ≡ true) (xs ys : List ℤ) (a : is_
   pub product_no : 2 ^ 108 ≤ s * t → product_fits (cyclotomic_value k xs) (cyclotomic_value k ys) ≡ false
   product_no h =
       product_fits-sizes k entry xs ys a b
-          ∙ le-ltb (size_of xs * size_of ys) (2 ^ 108) (subst (λ z. 2 ^ 108 ≤ z) (ap₂ (λ x y. x * y) s_is t_is) h)
+      ∙ le-ltb (size_of xs * size_of ys) (2 ^ 108) (subst (λ z. 2 ^ 108 ≤ z) (ap₂ (λ x y. x * y) s_is t_is) h)

@@ -54,23 +54,23 @@ module _ (m xs : List ℤ) (w : Value (degree m)) where
   product_more i h =
       let a = get_or xs i (pos 0) in
       ap product_by (add-one i)
-          ∙ ap (λ u. value_product m u w) (value-take_suc m xs i h)
-          ∙ add_mul (remainder_ring m) (value_of m (take i xs)) (value_multiple a (value_root m i)) w
-          ∙ ap (value_sum (product_by i)) (multiple-product m a (value_root m i) w)
+      ∙ ap (λ u. value_product m u w) (value-take_suc m xs i h)
+      ∙ add_mul (remainder_ring m) (value_of m (take i xs)) (value_multiple a (value_root m i)) w
+      ∙ ap (value_sum (product_by i)) (multiple-product m a (value_root m i) w)
 
   -- a term that is 0 adds nothing
   pub product_skip : (i : ℕ) → i < length xs → get_or xs i (pos 0) ≡ pos 0 → product_by (i + 1) ≡ product_by i
   product_skip i h e =
       product_more i h
-          ∙ ap (λ a. value_sum (product_by i) (value_multiple a (value_product m (value_root m i) w))) e
-          ∙ ap (value_sum (product_by i)) ((times_x m).scale_zero (value_product m (value_root m i) w))
-          ∙ sum_nought m (product_by i)
+      ∙ ap (λ a. value_sum (product_by i) (value_multiple a (value_product m (value_root m i) w))) e
+      ∙ ap (value_sum (product_by i)) ((times_x m).scale_zero (value_product m (value_root m i) w))
+      ∙ sum_nought m (product_by i)
 
   pub product_step : (old now next : Value (degree m)) (i : ℕ) → i < length xs → now ≡ value_sum old (product_by i) → next ≡ value_sum now (value_multiple (get_or xs i (pos 0)) (value_product m (value_root m i) w)) → next ≡ value_sum old (product_by (i + 1))
   product_step old now next i h before is =
       let added = value_multiple (get_or xs i (pos 0)) (value_product m (value_root m i) w) in
       is ∙ ap (λ z. value_sum z added) before ∙ sum_assoc m old (product_by i) added
-          ∙ ap (value_sum old) (sym (product_more i h))
+      ∙ ap (value_sum old) (sym (product_more i h))
 
 -- ---- arrays
 module _ (k : ℕ) (entry : is_conductor k ≡ true) where
@@ -83,11 +83,11 @@ module _ (k : ℕ) (entry : is_conductor k ≡ true) where
       let bounds = conductor_bounds k entry in
       let n = length u.coefficients in
       let long : length (u.coefficients ++ zeros (42 - n)) ≡ 42 =
-          omega (arith, length-append u.coefficients (zeros (42 - n)), length-zeros (42 - n), length-value u, bounds.2) in
+      omega (arith, length-append u.coefficients (zeros (42 - n)), length-zeros (42 - n), length-value u, bounds.2) in
       let rest : drop (phi_of k) (u.coefficients ++ zeros (42 - n)) ≡ zeros (42 - n) =
-          ap (λ j. drop j (u.coefficients ++ zeros (42 - n))) (sym (length-value u)) ∙ drop-append_seam u.coefficients (zeros (42 - n)) in
+      ap (λ j. drop j (u.coefficients ++ zeros (42 - n))) (sym (length-value u)) ∙ drop-append_seam u.coefficients (zeros (42 - n)) in
       ap₂ (λ x y. x && y) (eq-eqb (length (u.coefficients ++ zeros (42 - n))) 42 long)
-          (ap (list_all is_nought) rest ∙ zeros_noughts (42 - n))
+      (ap (list_all is_nought) rest ∙ zeros_noughts (42 - n))
 
   pub value-array_of : (u : CyclotomicValue k) → cyclotomic_value k (array_of u) ≡ u
   unfolding array_of
@@ -104,7 +104,7 @@ module _ (k : ℕ) (entry : is_conductor k ≡ true) where
 pub product_total : (xs : List ℤ) (i t : ℕ) → i < length xs → total_of (take (i + 1) xs) * t ≡ total_of (take i xs) * t + nat_abs (get_or xs i (pos 0)) * t
 product_total xs i t h =
     let more : total_of (take (i + 1) xs) ≡ total_of (take i xs) + nat_abs (get_or xs i (pos 0)) =
-        ap (λ n. total_of (take n xs)) (add-one i) ∙ total-take_suc xs i h in
+    ap (λ n. total_of (take n xs)) (add-one i) ∙ total-take_suc xs i h in
     omega (arith, ap (λ n. n * t) more)
 
 pub product_most : (xs : List ℤ) (i t : ℕ) → total_of (take i xs) * t ≤ total_of xs * t
