@@ -1,20 +1,19 @@
 -- Sizes of arrays and of the values that they stand for, and the special images.
-use Rattle.qd_ring.specs.ArrayLaws.{array_length, array_parts, coefficients_of, size-padded, size-value}
-use Rattle.std.proofs.Common.{◌≡◌, ℕ, zero, suc, ◌+◌, ◌-◌, ◌*◌, ◌^◌, ◌%◌, ◌≤◌, ◌<◌, max, Bool, true, false, List, [], ◌∷◌, ◌++◌, length, take, drop, refl, sym, ap, ◌∙◌, subst, arith, nat_le, nat_lt}
-use Rattle.std.proofs.Math.Nat.{mul-le-mul, mul-le-mul_left}
-use Rattle.std.specs.Prelude.{ℤ, pos, nat_abs}
-use borrow.Author.Tests.{leb-true, le-leb, lt-leb, ltb-true, lt-ltb, le-ltb}
+use Rattle.qd_ring.specs.ArrayLaws.{array_length, size-padded, size-value}
+use Rattle.std.proofs.Common.{◌≡◌, ℕ, ◌-◌, ◌*◌, ◌^◌, ◌%◌, ◌≤◌, ◌<◌, true, false, List, length, sym, ap, ◌∙◌, subst, arith, nat_le, nat_lt}
+use Rattle.std.proofs.Math.Nat.{mul-le-mul}
+use Rattle.std.specs.Prelude.{ℤ}
+use borrow.Author.Tests.{leb-true, le-leb, lt-leb, lt-ltb, le-ltb}
 use mathlib.Core.Path.{ap₂}
-use Rattle.cyclotomic.specs.Polynomial.{zeros, at_power}
 use Rattle.cyclotomic.specs.Cyclotomic.{cyclotomic}
-use Rattle.cyclotomic.specs.Conductors.{is_conductor, phi_of}
+use Rattle.cyclotomic.specs.Conductors.{is_conductor}
 use Rattle.cyclotomic.specs.Fit.{size_of, value_size, value_fits, product_fits, greatest_magnitude}
-use Rattle.cyclotomic.specs.Ring.{Value, value_product, value_one, value_of}
-use Rattle.cyclotomic.specs.CyclotomicRing.{CyclotomicValue, cyclotomic_value, galois_image, conjugate, root, remainder_ring}
+use Rattle.cyclotomic.specs.Ring.{Value, value_product}
+use Rattle.cyclotomic.specs.CyclotomicRing.{CyclotomicValue, cyclotomic_value, galois_image, root, remainder_ring}
 use Rattle.algebra.proofs.RingLaws.{one_mul}
 use Rattle.cyclotomic.proofs.Images.{root-zero, image-one_power}
 use Rattle.cyclotomic.proofs.Inverses.{galois_modulo}
-use Rattle.cyclotomic.proofs.Sizes.{total_of, total-size, size-cons, size-zeros}
+use Rattle.cyclotomic.proofs.Sizes.{total_of, total-size}
 use Rattle.cyclotomic.proofs.Bounds.{product_that_fits}
 use Rattle.qd_ring.specs.CycArrays.{array_of, is_array, is_small}
 use Rattle.qd_ring.proofs.ProductLaws.{is_array-of}

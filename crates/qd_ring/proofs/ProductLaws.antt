@@ -1,29 +1,25 @@
 -- Products term by term, arrays of values, and what a zero buffer stands for.
-use Rattle.qd_ring.specs.ArrayLaws.{all_noughts, array_front, array_length, coefficients_of, value-front, value_of-padded, zeros_noughts}
-use Rattle.std.proofs.Common.{◌≡◌, ℕ, zero, suc, ◌+◌, ◌-◌, ◌*◌, ◌^◌, ◌≤◌, ◌<◌, Bool, true, false, List, [], ◌∷◌, ◌++◌, length, get_or, take, drop, refl, sym, ap, ◌∙◌, subst, arith, length-append, eqb-true, eq-eqb, ◌==◌, ◌&&◌}
+use Rattle.qd_ring.specs.ArrayLaws.{coefficients_of, value_of-padded, zeros_noughts}
+use Rattle.std.proofs.Common.{◌≡◌, ℕ, zero, suc, ◌+◌, ◌-◌, ◌*◌, ◌≤◌, ◌<◌, true, List, ◌++◌, length, get_or, take, drop, refl, sym, ap, ◌∙◌, arith, length-append, eq-eqb, ◌&&◌}
 use Rattle.std.proofs.Math.Nat.{mul-le-mul_right}
 use Rattle.std.proofs.Math.Numerals.{add-one}
-use Rattle.std.proofs.Math.Seq.{take-length, take-append_seam, drop-append_seam}
-use Rattle.std.proofs.lemmas.List.{take-append-drop, length-take-le, take-replicate}
-use Rattle.std.specs.Prelude.{ℤ, pos, negsuc, ◌*ℤ◌, nat_abs}
+use Rattle.std.proofs.Math.Seq.{drop-append_seam}
+use Rattle.std.proofs.lemmas.List.{take-replicate}
+use Rattle.std.specs.Prelude.{ℤ, pos, nat_abs}
 use Rattle.std.specs.List.{list_all}
 use mathlib.Core.Path.{ap₂}
 use Rattle.cyclotomic.specs.Polynomial.{zeros, at_power}
 use Rattle.cyclotomic.specs.Division.{degree, remainder}
 use Rattle.cyclotomic.specs.Cyclotomic.{cyclotomic}
 use Rattle.cyclotomic.specs.Conductors.{is_conductor, phi_of}
-use Rattle.cyclotomic.specs.Fit.{size_of, value_size, value_fits, greatest_magnitude}
-use Rattle.cyclotomic.specs.Ring.{Value, value_sum, value_multiple, value_nought, value_of, value_one, value_product, value_root, value_image}
-use Rattle.cyclotomic.specs.CyclotomicRing.{CyclotomicValue, cyclotomic_value, galois_image, root, remainder_ring}
-use Rattle.cyclotomic.specs.Laws.Action.{LinearMap, act, act-nil, act-cons, act-nothing}
+use Rattle.cyclotomic.specs.Ring.{Value, value_sum, value_multiple, value_nought, value_of, value_product, value_root, value_image}
+use Rattle.cyclotomic.specs.CyclotomicRing.{CyclotomicValue, cyclotomic_value, galois_image, remainder_ring}
 use Rattle.cyclotomic.specs.Laws.Polynomials.{length-zeros}
-use Rattle.cyclotomic.specs.Laws.Remainders.{remainder-itself}
-use Rattle.cyclotomic.specs.Laws.Values.{same_value, times_x, value_of-act, value_of-nil, value_of-itself, product_comm, sum_assoc, sum_nought, sum_comm}
+use Rattle.cyclotomic.specs.Laws.Values.{times_x, value_of-nil, value_of-itself, product_comm, sum_assoc, sum_nought, sum_comm}
 use Rattle.algebra.proofs.RingLaws.{add_mul, nought_mul}
-use Rattle.cyclotomic.proofs.Tests.{and_left, and_right}
 use Rattle.cyclotomic.proofs.Fields.{cyclotomic_degree}
-use Rattle.cyclotomic.proofs.Sizes.{total_of, size-cons, size-zeros}
-use Rattle.qd_ring.specs.CycArrays.{array_of, is_array, is_nought, is_small}
+use Rattle.cyclotomic.proofs.Sizes.{total_of}
+use Rattle.qd_ring.specs.CycArrays.{array_of, is_array, is_nought}
 use Rattle.qd_ring.proofs.BufferLaws.{value-take_suc}
 use Rattle.qd_ring.proofs.SpreadLaws.{product-multiple, total-take, total-take_suc}
 use Rattle.qd_ring.specs.ReductionSigns.{conductor_bounds}

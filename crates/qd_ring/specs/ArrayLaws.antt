@@ -1,16 +1,15 @@
 -- Arrays of values: their parts, their sizes, and that they fit.
-use Rattle.std.proofs.Common.{◌≡◌, ℕ, zero, suc, ◌+◌, ◌-◌, ◌*◌, ◌^◌, ◌≤◌, ◌<◌, max, Bool, true, false, List, [], ◌∷◌, ◌++◌, length, take, drop, refl, sym, ap, ◌∙◌, subst, arith, eqb-true, ◌==◌, ◌&&◌, nat_le}
+use Rattle.std.proofs.Common.{◌≡◌, ℕ, zero, suc, max, true, List, [], ◌∷◌, ◌++◌, length, take, drop, refl, sym, ap, ◌∙◌, arith, eqb-true, ◌==◌, nat_le}
 use Rattle.std.proofs.lemmas.List.{take-append-drop, length-take-le}
 use Rattle.std.specs.Prelude.{ℤ, pos, negsuc, nat_abs}
 use Rattle.std.specs.List.{list_all}
 use borrow.Author.Tests.{le-leb}
 use mathlib.Core.Path.{ap₂}
 use Rattle.cyclotomic.specs.Polynomial.{zeros}
-use Rattle.cyclotomic.specs.Division.{degree}
 use Rattle.cyclotomic.specs.Cyclotomic.{cyclotomic}
 use Rattle.cyclotomic.specs.Conductors.{is_conductor, phi_of}
 use Rattle.cyclotomic.specs.Fit.{size_of, value_size, value_fits, greatest_magnitude}
-use Rattle.cyclotomic.specs.Ring.{Value, value_nought, value_of, value_one}
+use Rattle.cyclotomic.specs.Ring.{value_nought, value_of, value_one}
 use Rattle.cyclotomic.specs.CyclotomicRing.{CyclotomicValue, cyclotomic_ring, cyclotomic_value, root}
 use Rattle.cyclotomic.specs.Laws.Action.{LinearMap, act, act-nil, act-cons, act-nothing}
 use Rattle.cyclotomic.specs.Laws.Remainders.{remainder-itself}
