@@ -1,0 +1,156 @@
+-- Powers of x modulo a monic polynomial m, and the images under which x goes to x^t.
+use Rattle.std.proofs.Common.{◌≡◌, ℕ, zero, suc, ◌+◌, ◌*◌, ◌%◌, ◌/◌, ◌<◌, List, [], ◌∷◌, refl, sym, ap, ◌∙◌, arith}
+use Rattle.std.specs.Prelude.{ℤ, pos}
+use mathlib.Core.Path.{ap₂}
+use Rattle.cyclotomic.specs.Polynomial.{times, x_to, at_power, leading}
+use Rattle.cyclotomic.specs.Division.{degree}
+use Rattle.cyclotomic.specs.Ring.{Value, value_sum, value_multiple, value_nought, value_of, value_one, value_product, value_root, value_image}
+use Rattle.cyclotomic.specs.Laws.Action.{map_power, iterate, act, act-nil, act-cons, act-plus, act-scaled, act-times, act_comm, act-x_to, act-remainder, act-at_power, act-same_map, act-power_power, act-nought, act-one, act-iterate, iterate-sum, iterate-power, iterate-zero}
+use Rattle.cyclotomic.specs.Laws.Values.{value_shift, times_x, value_of-act, act-itself, product-of}
+
+module _ (m : List ℤ) where
+  -- x^v, as the steps "times x" from 1
+  pub root_steps : (v : ℕ) → value_root m v ≡ iterate (value_shift m) v (value_one m)
+  root_steps v = value_of-act m (x_to v) ∙ act-x_to (times_x m) v (value_one m)
+
+  pub root-zero : value_root m 0 ≡ value_one m
+  root-zero = root_steps 0 ∙ iterate-zero (times_x m) (value_one m)
+
+  -- a product with x^v is v steps
+  pub product-root : (v : ℕ) (u : Value (degree m)) → value_product m (value_root m v) u ≡ iterate (value_shift m) v u
+  product-root v u = product-of m (x_to v) u ∙ act-x_to (times_x m) v u
+
+  pub root-sum : (v w : ℕ) → value_root m (v + w) ≡ value_product m (value_root m v) (value_root m w)
+  root-sum v w =
+      root_steps (v + w) ∙ iterate-sum (times_x m) v w (value_one m)
+      ∙ ap (iterate (value_shift m) v) (sym (root_steps w))
+      ∙ sym (product-root v (value_root m w))
+
+  module _ (k : ℕ) (periodic : value_root m k ≡ value_one m) where
+    -- where x^k is 1, k steps change nothing
+    pub steps_of_period : (u : Value (degree m)) → iterate (value_shift m) k u ≡ u
+    steps_of_period u =
+        ap (iterate (value_shift m) k) (sym (act-itself m u))
+        ∙ sym (act-iterate (times_x m) u.coefficients k (value_one m))
+        ∙ ap (act (times_x m) u.coefficients) (sym (root_steps k) ∙ periodic)
+        ∙ act-itself m u
+
+    pub steps_of_periods : (j : ℕ) (u : Value (degree m)) → iterate (value_shift m) (k * j) u ≡ u
+    unfolding iterate
+    steps_of_periods j u = sym (iterate-power (times_x m) k j u) ∙ all_the_same j
+      where
+        all_the_same : (i : ℕ) → iterate (iterate (value_shift m) k) i u ≡ u
+        all_the_same zero = refl
+        all_the_same (suc i) = ap (iterate (value_shift m) k) (all_the_same i) ∙ steps_of_period u
+
+    pub steps-mod : 0 < k → (v : ℕ) (u : Value (degree m)) → iterate (value_shift m) v u ≡ iterate (value_shift m) (v % k) u
+    steps-mod h v u =
+        let e : v ≡ v % k + k * (v / k) = omega arith in
+        ap (λ n. iterate (value_shift m) n u) e
+        ∙ iterate-sum (times_x m) (v % k) (k * (v / k)) u
+        ∙ ap (iterate (value_shift m) (v % k)) (steps_of_periods (v / k) u)
+
+    pub root-mod : 0 < k → (v : ℕ) → value_root m v ≡ value_root m (v % k)
+    root-mod h v =
+        root_steps v ∙ steps-mod h v (value_one m) ∙ sym (root_steps (v % k))
+
+    -- images under numbers that are the same modulo k are the same
+    pub image-mod : 0 < k → (t : ℕ) (u : Value (degree m)) → value_image m t u ≡ value_image m (t % k) u
+    unfolding value_image
+    image-mod h t u =
+        let M = times_x m in
+        value_of-act m (at_power t u.coefficients) ∙ act-at_power M t u.coefficients (value_one m)
+        ∙ act-same_map M t (t % k) (steps-mod h t) u.coefficients (value_one m)
+        ∙ sym (act-at_power M (t % k) u.coefficients (value_one m))
+        ∙ sym (value_of-act m (at_power (t % k) u.coefficients))
+
+  -- ---- images
+  pub image-act : (t : ℕ) (u : Value (degree m)) → value_image m t u ≡ act (map_power (times_x m) t) u.coefficients (value_one m)
+  unfolding value_image
+  image-act t u =
+      value_of-act m (at_power t u.coefficients) ∙ act-at_power (times_x m) t u.coefficients (value_one m)
+
+  pub image-sum : (t : ℕ) (u v : Value (degree m)) → value_image m t (value_sum u v) ≡ value_sum (value_image m t u) (value_image m t v)
+  unfolding value_sum
+  image-sum t u v =
+      image-act t (value_sum u v) ∙ act-plus (map_power (times_x m) t) u.coefficients v.coefficients (value_one m)
+      ∙ ap₂ value_sum (sym (image-act t u)) (sym (image-act t v))
+
+  pub image-multiple : (t : ℕ) (c : ℤ) (u : Value (degree m)) → value_image m t (value_multiple c u) ≡ value_multiple c (value_image m t u)
+  unfolding value_multiple
+  image-multiple t c u =
+      image-act t (value_multiple c u) ∙ act-scaled (map_power (times_x m) t) c u.coefficients (value_one m)
+      ∙ ap (value_multiple c) (sym (image-act t u))
+
+  pub image-one_power : (u : Value (degree m)) → value_image m 1 u ≡ u
+  unfolding iterate
+  image-one_power u = image-act 1 u ∙ one_step u.coefficients ∙ act-itself m u
+    where
+      one_step : (p : List ℤ) → act (map_power (times_x m) 1) p (value_one m) ≡ act (times_x m) p (value_one m)
+      one_step [] = act-nil (map_power (times_x m) 1) (value_one m) ∙ sym (act-nil (times_x m) (value_one m))
+      one_step (a ∷ p) =
+          act-cons (map_power (times_x m) 1) a p (value_one m)
+          ∙ ap (λ z. value_sum (value_multiple a (value_one m)) (value_shift m z)) (one_step p)
+          ∙ sym (act-cons (times_x m) a p (value_one m))
+
+  -- t is such that m divides m at x^t
+  module _ (monic : leading m ≡ pos 1) (t : ℕ) (divides : value_of m (at_power t m) ≡ value_nought) where
+    vanishes_at_power : (u : Value (degree m)) → act (map_power (times_x m) t) m u ≡ value_nought
+    vanishes_at_power u =
+        let M = times_x m in
+        sym (act-at_power M t m u)
+        ∙ ap (act M (at_power t m)) (sym (act-itself m u))
+        ∙ act_comm M (at_power t m) u.coefficients (value_one m)
+        ∙ ap (act M u.coefficients) (sym (value_of-act m (at_power t m)) ∙ divides)
+        ∙ act-nought M u.coefficients
+
+    -- the image of a polynomial's value is the polynomial at x^t
+    pub image-of : (p : List ℤ) → value_image m t (value_of m p) ≡ value_of m (at_power t p)
+    unfolding value_of
+    image-of p =
+        image-act t (value_of m p)
+        ∙ act-remainder (map_power (times_x m) t) m p (value_one m) monic (vanishes_at_power (value_one m))
+        ∙ sym (act-at_power (times_x m) t p (value_one m))
+        ∙ sym (value_of-act m (at_power t p))
+
+    pub image-one : value_image m t (value_one m) ≡ value_one m
+    image-one =
+        image-of (pos 1 ∷ []) ∙ value_of-act m (at_power t (pos 1 ∷ []))
+        ∙ act-at_power (times_x m) t (pos 1 ∷ []) (value_one m)
+        ∙ act-one (map_power (times_x m) t) (value_one m)
+
+    pub image-product : (u v : Value (degree m)) → value_image m t (value_product m u v) ≡ value_product m (value_image m t u) (value_image m t v)
+    unfolding value_product value_image
+    image-product u v =
+        let M = times_x m in
+        let Mt = map_power M t in
+        let p = u.coefficients in
+        let q = v.coefficients in
+        image-of (times p q)
+        ∙ value_of-act m (at_power t (times p q))
+        ∙ act-at_power M t (times p q) (value_one m)
+        ∙ act-times Mt p q (value_one m)
+        ∙ sym (act-at_power M t p (act Mt q (value_one m)))
+        ∙ ap (act M (at_power t p)) (sym (image-act t v))
+        ∙ sym (product-of m (at_power t p) (value_image m t v))
+
+    pub image-root : (v : ℕ) → value_image m t (value_root m v) ≡ value_root m (t * v)
+    image-root v =
+        let M = times_x m in
+        image-of (x_to v) ∙ value_of-act m (at_power t (x_to v))
+        ∙ act-at_power M t (x_to v) (value_one m)
+        ∙ act-x_to (map_power M t) v (value_one m)
+        ∙ iterate-power M t v (value_one m)
+        ∙ sym (root_steps (t * v))
+
+    -- the image under t of the image under s is the image under t s
+    pub image-image : (s : ℕ) (u : Value (degree m)) → value_image m t (value_image m s u) ≡ value_image m (t * s) u
+    unfolding value_image
+    image-image s u =
+        let M = times_x m in
+        image-of (at_power s u.coefficients)
+        ∙ value_of-act m (at_power t (at_power s u.coefficients))
+        ∙ act-at_power M t (at_power s u.coefficients) (value_one m)
+        ∙ act-at_power (map_power M t) s u.coefficients (value_one m)
+        ∙ act-power_power M t s u.coefficients (value_one m)
+        ∙ sym (image-act (t * s) u)

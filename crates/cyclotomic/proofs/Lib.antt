@@ -1,0 +1,12 @@
+pub mod Images
+pub mod Tests
+pub mod Gcd
+pub mod Rows
+pub mod Checks
+pub mod RowLaws
+pub mod Fields
+pub mod Orthogonality
+pub mod Sizes
+pub mod Bounds
+pub mod Inverses
+pub mod LongDivision

@@ -1,0 +1,188 @@
+-- x is a root of unity of order K modulo Phi_K: whole multiples cancel, and sums of its powers over all exponents vanish.
+use Rattle.std.proofs.Common.{◌≡◌, ℕ, zero, suc, ◌+◌, ◌*◌, ◌%◌, ◌/◌, ◌<◌, ◌≢◌, List, [], ◌∷◌, length, Bool, true, false, refl, sym, ap, ◌∙◌, arith, replicate, eqb-true, inl, inr}
+use Rattle.std.proofs.Math.Nat.{mod-lt, zero-mul, suc-mul}
+use Rattle.std.proofs.lemmas.Bool.{cases_eq, ne_eqb, eq-eqb}
+use Rattle.std.proofs.lemmas.Nat.{mul-mod_second}
+use Rattle.std.specs.Prelude.{ℤ, pos, ◌+ℤ◌, ◌*ℤ◌, ◌==◌}
+use mathlib.Core.Path.{ap₂}
+use borrow.Author.Differences.{up, down, same_in, product_is}
+use Rattle.algebra.specs.Structures.{CommRing}
+use Rattle.algebra.specs.Sums.{sum_below, multiple, power}
+use Rattle.algebra.specs.Roots.{RootOfUnity}
+use Rattle.algebra.proofs.RingLaws.{one_mul, add_cancel, nought_mul}
+use Rattle.algebra.proofs.SumLaws.{sum_suc, sum_first, sum_ext, mul_sum, multiple_zero, multiple_suc, mul_multiple, power_zero, power_suc, power_add, power_mul, one_power}
+use Rattle.algebra.proofs.RootLaws.{power_mod}
+use Rattle.cyclotomic.specs.Polynomial.{zeros, scaled, at_power}
+use Rattle.cyclotomic.specs.Division.{degree}
+use Rattle.cyclotomic.specs.Cyclotomic.{cyclotomic}
+use Rattle.cyclotomic.specs.Conductors.{is_conductor}
+use Rattle.cyclotomic.specs.Ring.{Value, value_sum, value_multiple, value_nought, value_one, value_product, value_root}
+use Rattle.cyclotomic.specs.Laws.Action.{map_power, iterate, act, act-nil, act-cons, act-at_power}
+use Rattle.cyclotomic.specs.CyclotomicRing.{remainder_ring}
+use Rattle.cyclotomic.specs.Laws.Values.{same_value, value_shift, times_x, product-of}
+use Rattle.cyclotomic.proofs.Images.{root-zero, root-sum, product-root}
+use Rattle.cyclotomic.proofs.Checks.{is_proper_divisor, powers_of_multiples, conductor_positive, some_divisor}
+use Rattle.cyclotomic.proofs.Fields.{cyclotomic_period, cyclotomic_sums}
+
+-- ---- whole multiples
+zero_factor : (d n : ℕ) → 0 < d → d * n ≡ 0 → n ≡ 0
+zero_factor zero n h e = absurd (omega arith)
+zero_factor (suc d) n h e = omega (arith, e)
+
+cancel_factor : (d : ℕ) (a : ℤ) → 0 < d → pos d *ℤ a ≡ pos 0 → a ≡ pos 0
+cancel_factor d a h e =
+    let product = product_is (pos d) a in
+    let up_is : d * up a ≡ 0 = omega (arith, product.0, ap up e) in
+    let down_is : d * down a ≡ 0 = omega (arith, product.1, ap down e) in
+    same_in a (pos 0) (omega (arith, zero_factor d (up a) h up_is, zero_factor d (down a) h down_is))
+
+tail_of : List ℤ → List ℤ
+tail_of [] = []
+tail_of (a ∷ p) = p
+
+head_of : List ℤ → ℤ
+head_of [] = pos 0
+head_of (a ∷ p) = a
+
+cancel_scaled : (d n : ℕ) (p : List ℤ) → 0 < d → length p ≡ n → scaled (pos d) p ≡ zeros n → p ≡ zeros n
+unfolding scaled tail_of head_of
+cancel_scaled d zero [] h same e = refl
+cancel_scaled d zero (a ∷ p) h same e = absurd (omega (arith, same))
+cancel_scaled d (suc n) [] h same e = absurd (omega (arith, same))
+cancel_scaled d (suc n) (a ∷ p) h same e =
+    ap₂ (λ x y. x ∷ y) (cancel_factor d a h (ap head_of e)) (cancel_scaled d n p h (omega (arith, same)) (ap tail_of e))
+
+-- a whole multiple, by a number from 1, that is 0 comes from 0
+pub cancel_multiple : {n : ℕ} (d : ℕ) (u : Value n) → 0 < d → value_multiple (pos d) u ≡ value_nought → u ≡ value_nought
+unfolding value_multiple value_nought
+cancel_multiple {n} d u h e =
+    same_value _ _ (cancel_scaled d n u.coefficients h u.count (ap (λ v. v.coefficients) e))
+
+module _ (m : List ℤ) where
+  pub multiple-is : (d : ℕ) (u : Value (degree m)) → multiple (remainder_ring m) d u ≡ value_multiple (pos d) u
+  multiple-is zero u = multiple_zero (remainder_ring m) u ∙ sym ((times_x m).scale_zero u)
+  multiple-is (suc d) u =
+      let M = times_x m in
+      let e : pos d +ℤ pos 1 ≡ pos (suc d) = ap pos (omega arith) in
+      multiple_suc (remainder_ring m) d u
+      ∙ ap₂ value_sum (multiple-is d u) (sym (M.scale_one u))
+      ∙ sym (M.scale_sum (pos d) (pos 1) u)
+      ∙ ap (λ c. value_multiple c u) e
+
+  -- powers of x
+  pub power-root : (v : ℕ) → power (remainder_ring m) (value_root m 1) v ≡ value_root m v
+  power-root zero = power_zero (remainder_ring m) (value_root m 1) ∙ sym (root-zero m)
+  power-root (suc v) =
+      let e : v + 1 ≡ suc v = omega arith in
+      power_suc (remainder_ring m) (value_root m 1) v
+      ∙ ap (λ u. value_product m u (value_root m 1)) (power-root v)
+      ∙ sym (root-sum m v 1) ∙ ap (value_root m) e
+
+  -- the powers x^0, x^g, .., d of them, times what x^g doesn't change
+  pub fixed_multiple : (g d : ℕ) (u : Value (degree m)) → value_product m (value_root m g) u ≡ u → act (map_power (times_x m) g) (replicate d (pos 1)) u ≡ multiple (remainder_ring m) d u
+  fixed_multiple g zero u fixed = act-nil (map_power (times_x m) g) u ∙ sym (multiple_zero (remainder_ring m) u)
+  fixed_multiple g (suc d) u fixed =
+      let R = remainder_ring m in
+      let M = times_x m in
+      act-cons (map_power M g) (pos 1) (replicate d (pos 1)) u
+      ∙ ap₂ (λ x y. value_sum x (iterate (value_shift m) g y)) (M.scale_one u) (fixed_multiple g d u fixed)
+      ∙ ap (value_sum u) (sym (product-root m g (multiple R d u)) ∙ mul_multiple R d (value_root m g) u ∙ ap (multiple R d) fixed)
+      ∙ R.add_comm u (multiple R d u)
+      ∙ sym (multiple_suc R d u)
+
+-- ---- the sum over all exponents
+module _ {A : Type 0} (R : CommRing A) (z : A) (n e : ℕ) (cycle : power R z n ≡ R.one) where
+  -- the sum of z^(j e) over the j below n
+  power_sum : A
+  power_sum = sum_below R n (λ j. power R z (j * e))
+
+  sum_is_fixed : R.mul (power R z e) power_sum ≡ power_sum
+  unfolding power_sum
+  sum_is_fixed =
+      let f : ℕ → A = λ j. power R z (j * e) in
+      let last : f n ≡ R.one = power_mul R z n e ∙ ap (λ y. power R y e) cycle ∙ one_power R e in
+      let first : f 0 ≡ R.one = ap (power R z) (zero-mul e) ∙ power_zero R z in
+      let moved : R.mul (power R z e) (sum_below R n f) ≡ sum_below R n (λ j. f (suc j)) =
+      mul_sum R n (power R z e) f
+      ∙ sum_ext R n (λ j. R.mul (power R z e) (f j)) (λ j. f (suc j))
+      (λ j h. R.mul_comm (power R z e) (f j) ∙ sym (power_add R z (j * e) e) ∙ ap (power R z) (sym (suc-mul j e))) in
+      let both : R.add R.one (sum_below R n (λ j. f (suc j))) ≡ R.add R.one (sum_below R n f) =
+      ap (λ y. R.add y (sum_below R n (λ j. f (suc j)))) (sym first) ∙ sym (sum_first R n f)
+      ∙ sum_suc R n f ∙ ap (R.add (sum_below R n f)) last ∙ R.add_comm (sum_below R n f) R.one in
+      moved ∙ add_cancel R R.one (sum_below R n (λ j. f (suc j))) (sum_below R n f) both
+
+  sum_is_fixed_by_powers : (a : ℕ) → R.mul (power R z (a * e)) power_sum ≡ power_sum
+  sum_is_fixed_by_powers zero = ap (λ y. R.mul y power_sum) (ap (power R z) (zero-mul e) ∙ power_zero R z) ∙ one_mul R power_sum
+  sum_is_fixed_by_powers (suc a) =
+      ap (λ y. R.mul y power_sum) (ap (power R z) (suc-mul a e) ∙ power_add R z (a * e) e)
+      ∙ R.mul_assoc (power R z (a * e)) (power R z e) power_sum
+      ∙ ap (R.mul (power R z (a * e))) sum_is_fixed
+      ∙ sum_is_fixed_by_powers a
+
+  pub sum_is_fixed_modulo : (a : ℕ) → R.mul (power R z ((a * e) % n)) (sum_below R n (λ j. power R z (j * e))) ≡ sum_below R n (λ j. power R z (j * e))
+  unfolding power_sum
+  sum_is_fixed_modulo a =
+      ap (λ y. R.mul y power_sum) (sym (power_mod R z n cycle (a * e))) ∙ sum_is_fixed_by_powers a
+
+positive_quotient : (k g d : ℕ) → 0 < k → g * d ≡ k → 0 < d
+positive_quotient k g zero h e = absurd (omega (arith, e))
+positive_quotient k g (suc d) h e = omega arith
+
+proper_divisor_means : (k g : ℕ) → is_proper_divisor k g ≡ true → (0 < g) × (k % g ≡ 0)
+unfolding is_proper_divisor
+proper_divisor_means k g h = elim (cases_eq g 0) [
+  | inl zero_g ↦ absurd (apart (sym (ap (λ (b : Bool). elim b [ true ↦ false | false ↦ k % g == 0 ]) (eq-eqb g 0 zero_g)) ∙ h))
+  | inr nonzero ↦ (omega arith, eqb-true (k % g) 0 (sym (ap (λ (b : Bool). elim b [ true ↦ false | false ↦ k % g == 0 ]) (ne_eqb g 0 nonzero)) ∙ h))
+]
+  where
+    apart : false ≡ true → ⊥
+    apart e = cc
+
+module _ (k : ℕ) (entry : is_conductor k ≡ true) where
+  pub x_cycle : power (remainder_ring (cyclotomic k)) (value_root (cyclotomic k) 1) k ≡ value_one (cyclotomic k)
+  x_cycle = power-root (cyclotomic k) k ∙ cyclotomic_period k entry
+
+  -- a value that x^g doesn't change, for a proper divisor g of k, is 0
+  fixed_is_nought : (g : ℕ) (u : Value (degree (cyclotomic k))) → g < k → is_proper_divisor k g ≡ true → value_product (cyclotomic k) (value_root (cyclotomic k) g) u ≡ u → u ≡ value_nought
+  unfolding powers_of_multiples
+  fixed_is_nought g u small divides fixed =
+      let m = cyclotomic k in
+      let R = remainder_ring m in
+      let M = times_x m in
+      let d = k / g in
+      let meaning = proper_divisor_means k g divides in
+      let positive : 0 < k = conductor_positive k entry in
+      let whole : g * d ≡ k = omega (arith, meaning.0, meaning.1) in
+      let ones = replicate d (pos 1) in
+      let vanishes : value_multiple (pos d) u ≡ value_nought =
+      sym (multiple-is m d u) ∙ sym (fixed_multiple m g d u fixed) ∙ sym (act-at_power M g ones u)
+      ∙ sym (product-of m (at_power g ones) u)
+      ∙ ap (λ v. value_product m v u) (cyclotomic_sums k entry g small divides)
+      ∙ nought_mul R u in
+      cancel_multiple d u (positive_quotient k g d positive whole) vanishes
+
+  pub x_sum_vanishes : (e : ℕ) → e % k ≢ 0 → sum_below (remainder_ring (cyclotomic k)) k (λ j. power (remainder_ring (cyclotomic k)) (value_root (cyclotomic k) 1) (j * e)) ≡ value_nought
+  x_sum_vanishes e apart =
+      let m = cyclotomic k in
+      let R = remainder_ring m in
+      let z = value_root m 1 in
+      let total = sum_below R k (λ j. power R z (j * e)) in
+      let positive : 0 < k = conductor_positive k entry in
+      let reached = some_divisor k entry (e % k) (mod-lt e positive) apart in
+      let a = reached.0 in
+      let g = (a * e) % k in
+      let divides : is_proper_divisor k g ≡ true =
+      ap (is_proper_divisor k) (sym (mul-mod_second a e k)) ∙ reached.1 in
+      let fixed : value_product m (value_root m g) total ≡ total =
+      ap (λ v. value_product m v total) (sym (power-root m g)) ∙ sum_is_fixed_modulo R z k e x_cycle a in
+      fixed_is_nought g total (mod-lt (a * e) positive) divides fixed
+
+-- x as a root of unity in the ring modulo Phi_K
+abbrev pub x_root : (k : ℕ) → is_conductor k ≡ true → RootOfUnity (remainder_ring (cyclotomic k)) k
+x_root k entry = record {
+  root = value_root (cyclotomic k) 1;
+  positive = conductor_positive k entry;
+  cycle = x_cycle k entry;
+  sum_vanishes = x_sum_vanishes k entry;
+  cancel = λ u e. cancel_multiple k u (conductor_positive k entry) (sym (multiple-is (cyclotomic k) k u) ∙ e);
+}

@@ -1,0 +1,83 @@
+-- Tests that compute over the table of conductors, and what they mean.
+use Rattle.std.proofs.Common.{◌≡◌, ℕ, zero, suc, ◌<◌, List, [], ◌∷◌, Bool, true, false, refl, sym, ap, ◌∙◌, arith, inl, inr, eqb-true}
+use Rattle.std.proofs.lemmas.Bool.{cases_eq, ne_eqb}
+use Rattle.std.specs.Prelude.{ℤ, pos, negsuc, ◌==◌, ◌&&◌, ◌||◌}
+use Rattle.std.specs.List.{list_all, list_any}
+use mathlib.Core.Path.{ap₂}
+use Rattle.scan.specs.First.{all_below}
+use Rattle.cyclotomic.specs.Conductors.{conductors, is_conductor}
+
+-- ---- conjunctions
+pub and_left : (a b : Bool) → (a && b) ≡ true → a ≡ true
+and_left true b e = refl
+and_left false b e = cc
+
+pub and_right : (a b : Bool) → (a && b) ≡ true → b ≡ true
+and_right true b e = e
+and_right false b e = cc
+
+-- ---- equal lists of whole numbers
+unfoldable pub same_number : ℤ → ℤ → Bool
+same_number (pos a) (pos b) = a == b
+same_number (pos a) (negsuc b) = false
+same_number (negsuc a) (pos b) = false
+same_number (negsuc a) (negsuc b) = a == b
+
+unfoldable pub same_list : List ℤ → List ℤ → Bool
+same_list [] [] = true
+same_list [] (b ∷ q) = false
+same_list (a ∷ p) [] = false
+same_list (a ∷ p) (b ∷ q) = same_number a b && same_list p q
+
+pub same_number_means : (a b : ℤ) → same_number a b ≡ true → a ≡ b
+unfolding same_number
+same_number_means (pos a) (pos b) e = ap pos (eqb-true a b e)
+same_number_means (pos a) (negsuc b) e = cc
+same_number_means (negsuc a) (pos b) e = cc
+same_number_means (negsuc a) (negsuc b) e = ap negsuc (eqb-true a b e)
+
+pub same_list_means : (p q : List ℤ) → same_list p q ≡ true → p ≡ q
+unfolding same_list
+same_list_means [] [] e = refl
+same_list_means [] (b ∷ q) e = cc
+same_list_means (a ∷ p) [] e = cc
+same_list_means (a ∷ p) (b ∷ q) e =
+    ap₂ (λ x y. x ∷ y)
+    (same_number_means a b (and_left (same_number a b) (same_list p q) e))
+    (same_list_means p q (and_right (same_number a b) (same_list p q) e))
+
+-- ---- each number below a bound
+pub all_below_means : (n : ℕ) (test : ℕ → Bool) → all_below n test ≡ true → (i : ℕ) → i < n → test i ≡ true
+unfolding all_below
+all_below_means zero test e i h = absurd (omega arith)
+all_below_means (suc n) test e i h = elim (cases_eq i n) [
+  | inl here ↦ ap test here ∙ and_right (all_below n test) (test n) e
+  | inr apart ↦ all_below_means n test (and_left (all_below n test) (test n) e) i (omega arith)
+]
+
+-- some number below a bound passes
+unfoldable pub any_below : ℕ → (ℕ → Bool) → Bool
+any_below zero test = false
+any_below (suc n) test = any_below n test || test n
+
+pub any_below_means : (n : ℕ) (test : ℕ → Bool) → any_below n test ≡ true → (i : ℕ) × (test i ≡ true)
+unfolding any_below
+any_below_means zero test e = cc
+any_below_means (suc n) test e = from (any_below n test) (any_below_means n test) e
+  where
+    from : (b : Bool) → (b ≡ true → (i : ℕ) × (test i ≡ true)) → (b || test n) ≡ true → (i : ℕ) × (test i ≡ true)
+    from true found h = found refl
+    from false found h = (n, h)
+
+-- ---- each entry of the table
+all_entries : (test : ℕ → Bool) (k : ℕ) (entries : List (ℕ × ℕ)) → list_all (λ (entry : ℕ × ℕ). test entry.0) entries ≡ true → list_any (λ (entry : ℕ × ℕ). entry.0 == k) entries ≡ true → test k ≡ true
+all_entries test k [] all found = cc
+all_entries test k (entry ∷ rest) all found = elim (cases_eq entry.0 k) [
+  | inl here ↦ ap test (sym here) ∙ and_left (test entry.0) (list_all (λ (e : ℕ × ℕ). test e.0) rest) all
+  | inr apart ↦ all_entries test k rest (and_right (test entry.0) (list_all (λ (e : ℕ × ℕ). test e.0) rest) all)
+      (sym (ap (λ b. b || list_any (λ (e : ℕ × ℕ). e.0 == k) rest) (ne_eqb entry.0 k apart)) ∙ found)
+]
+
+pub at_each_conductor : (test : ℕ → Bool) → list_all (λ (entry : ℕ × ℕ). test entry.0) conductors ≡ true → (k : ℕ) → is_conductor k ≡ true → test k ≡ true
+unfolding is_conductor
+at_each_conductor test all k found = all_entries test k conductors all found

@@ -1,0 +1,48 @@
+-- The multiple of 1 by the root.
+use Rattle.std.proofs.Common.{ap, ◌∙◌, arith}
+use Rattle.cyclotomic.specs.Cyclotomic.{cyclotomic}
+use Rattle.cyclotomic.specs.Ring.{value_product}
+use Rattle.cyclotomic.specs.CyclotomicRing.{cyclotomic_value, root}
+use Rattle.cyclotomic.specs.Laws.Values.{product_one}
+use Rattle.qd_ring.specs.CycArrays.{array_of}
+use Rattle.qd_ring.specs.ReductionSigns.{conductor_bounds}
+use Rattle.qd_ring.proofs.ProductLaws.{value-array_of}
+use Rattle.qd_ring.proofs.CycLaws.{small_total, array-is, times_alone}
+use Rattle.qd_ring.proofs.CycSums.{root_array_small}
+use Rattle.qd_ring.proofs.cyc.Cyc.from_root.Goals as goal
+
+pub image-requires-clause-stride : goal.image-requires-clause-stride
+image-requires-clause-stride g c =
+    let bounds = conductor_bounds g.row.K c.args.r.conductor in
+    omega (arith, bounds.1, bounds.3)
+
+pub image-requires-clause-room : goal.image-requires-clause-room
+image-requires-clause-room g c =
+    small_total g.row.K c.args.r.conductor c.one-one.result.coefficients c.one-one.result.array c.one-one.result.small
+
+pub invariant_of-result : goal.invariant_of-result
+invariant_of-result g c =
+    let k = g.row.K in
+    let e = c.exponent.result in
+    let u = cyclotomic_value k c.one-one.result.coefficients in
+    let is = c.image.ensures ∙ ap array_of
+    (times_alone k c.args.r.conductor e u
+    ∙ ap (value_product (cyclotomic k) (root k e)) c.one-one.ensures
+    ∙ product_one (cyclotomic k) (root k e)) in
+    record {
+      conductor = c.args.r.conductor;
+      array = array-is k c.args.r.conductor (root k e) c.image.result is;
+      small = root_array_small k c.args.r.conductor e c.image.result is;
+    }
+
+pub returns : goal.returns
+returns g c =
+    let k = g.row.K in
+    let e = c.exponent.result in
+    let u = cyclotomic_value k c.one-one.result.coefficients in
+    ap (cyclotomic_value k) (c.image.ensures ∙ ap array_of
+    (times_alone k c.args.r.conductor e u
+    ∙ ap (value_product (cyclotomic k) (root k e)) c.one-one.ensures
+    ∙ product_one (cyclotomic k) (root k e)))
+    ∙ value-array_of k c.args.r.conductor (root k e)
+    ∙ ap (root k) c.exponent.ensures.exponent

@@ -1,0 +1,38 @@
+-- The image of the first phi(K) places.
+use Rattle.std.proofs.Common.{length, take, ap, ◌∙◌, arith}
+use Rattle.cyclotomic.specs.Polynomial.{at_power}
+use Rattle.cyclotomic.specs.Cyclotomic.{cyclotomic}
+use Rattle.cyclotomic.specs.Ring.{value_product}
+use Rattle.cyclotomic.specs.CyclotomicRing.{cyclotomic_value, root}
+use Rattle.cyclotomic.proofs.Checks.{reduction_length}
+use Rattle.qd_ring.specs.CycArrays.{array_of}
+use Rattle.qd_ring.specs.ReductionSigns.{conductor_bounds}
+use Rattle.qd_ring.proofs.SpreadLaws.{total-take}
+use Rattle.qd_ring.proofs.ProductLaws.{image-front, empty_front, empty_length}
+use Rattle.qd_ring.proofs.cyc_buffer.image.Goals as goal
+
+pub slice_bounds-buffer-end : goal.slice_bounds-buffer-end
+slice_bounds-buffer-end c = (conductor_bounds c.args.k c.requires.conductor).0
+
+pub slice_bounds-reduced_image-end : goal.slice_bounds-reduced_image-end
+slice_bounds-reduced_image-end c = empty_length c.args.k c.requires.conductor
+
+pub shared_ref_as_front-reduced_image : goal.shared_ref_as_front-reduced_image
+shared_ref_as_front-reduced_image c =
+    omega
+    (arith, (conductor_bounds c.args.k c.requires.conductor).2, ap length c.reduction-phi.ensures, reduction_length c.args.k c.requires.conductor)
+
+pub reduced_image-requires-clause-empty : goal.reduced_image-requires-clause-empty
+reduced_image-requires-clause-empty c = empty_front c.args.k c.requires.conductor
+
+pub reduced_image-requires-clause-room : goal.reduced_image-requires-clause-room
+reduced_image-requires-clause-room c =
+    omega (arith, total-take c.args.a.now (length c.reduction-phi.result.now), c.requires.room)
+
+pub returns : goal.returns
+returns c =
+    let k = c.args.k in
+    let count = ap length c.reduction-phi.ensures ∙ reduction_length k c.requires.conductor in
+    c.reduced_image.ensures
+    ∙ ap (λ n. array_of (value_product (cyclotomic k) (root k c.args.start) (cyclotomic_value k (at_power c.args.stride (take n c.args.a.now))))) count
+    ∙ ap (λ u. array_of (value_product (cyclotomic k) (root k c.args.start) u)) (image-front k c.requires.conductor c.args.stride c.args.a.now c.requires.array)

@@ -1,0 +1,16 @@
+-- What the coefficients so far have added.
+use Rattle.std.proofs.Common.{◌≡◌, ◌+◌, ◌*◌, ◌%◌, ◌≤◌, ◌<◌, take}
+use Rattle.cyclotomic.specs.Polynomial.{at_power}
+use Rattle.cyclotomic.specs.Cyclotomic.{cyclotomic}
+use Rattle.cyclotomic.specs.Ring.{value_sum, value_product}
+use Rattle.cyclotomic.specs.CyclotomicRing.{cyclotomic_value, root}
+use Rattle.cyclotomic.proofs.Sizes.{total_of}
+use Rattle.qd_ring.proofs.cyc_buffer.spread.Given as goal
+
+abbrev pub invariant-loop-a : goal.invariant-loop-a
+invariant-loop-a l = record {
+  below : l.place < l.k;
+  place : l.place ≡ (l.start + l.stride * l.a-index) % l.k;
+  value : cyclotomic_value l.k l.buffer ≡ value_sum (cyclotomic_value l.k l.initial.buffer) (value_product (cyclotomic l.k) (root l.k l.start) (cyclotomic_value l.k (at_power l.stride (take l.a-index l.coefficients))));
+  total : total_of l.buffer ≤ total_of l.initial.buffer + total_of (take l.a-index l.coefficients);
+}

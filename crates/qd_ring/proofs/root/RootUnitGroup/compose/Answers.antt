@@ -1,0 +1,5 @@
+use Rattle.algebra.specs.Below.{below_equal}
+use Rattle.qd_ring.proofs.root.RootUnitGroup.compose.Goals as goal
+
+pub returns : goal.returns
+returns g c h = below_equal _ _ c.mul.ensures

@@ -1,0 +1,6 @@
+use Rattle.std.proofs.Common.{refl}
+use Rattle.algebra.specs.Below.{below_equal}
+use Rattle.qd_ring.proofs.root.RootUnitGroup.inverse.Goals as goal
+
+pub returns : goal.returns
+returns g c h = below_equal _ _ refl

@@ -1,0 +1,10 @@
+pub mod Fit
+pub mod CycArrays
+pub mod CyclotomicFit
+pub mod ReductionSigns
+pub mod ArrayLaws
+pub mod Thirds
+pub mod ValueText
+pub mod ValueReading
+pub mod ValueOutcome
+pub mod RowLists
