@@ -1,7 +1,7 @@
 ghost use Rattle.std.specs.Prelude.{◌≡◌};
 ghost use Rattle.group_table.specs.declared.fault.GroupRefusal.TheVariants as refusals;
 
-use crate::memory::Memory;
+use crate::Memory;
 
 /// The first law of a group that a table breaks, at its least place.
 #[derive(Clone, Copy, Debug, PartialEq, Eq)]

@@ -4,9 +4,9 @@ ghost use Rattle.orders.specs.Order.{order_of, exponent_of, IsOrder, IsExponent}
 ghost use Rattle.group_table.specs.Group.{product, identity_of, inverse, inverse_of, group_fault, IsGroup, IsSmall};
 ghost use Rattle.group_table.specs.Refusal.{Refuses};
 
+use crate::Memory;
 use crate::fault::GroupRefusal;
 use crate::laws::{checked_identity, inverses};
-use crate::memory::Memory;
 use crate::nats::Nats;
 use crate::powers::{element_order, exponent, power};
 use std::alloc::Global;

@@ -3,8 +3,8 @@
 ghost use Rattle.std.specs.Prelude.{◌≡◌, ℕ, ◌*◌, ◌<◌, ◌≤◌, length, Some, None, IfOk, IfErr};
 ghost use Rattle.group_table.specs.Group.{product, entry_fault, identity_of, is_identity, two_sided_identity, inverse_of, inverse_fault, associates, associativity_fault, associativity_fault_in, group_fault, IsGroup, ListsInverses};
 
+use crate::Memory;
 use crate::fault::GroupFault;
-use crate::memory::Memory;
 use crate::nats::Nats;
 use scan::{first_below, holds_below};
 use std::alloc::Global;

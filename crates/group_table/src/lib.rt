@@ -6,7 +6,6 @@ ghost use Rattle.group_table.specs.Laws.{GroupOfNumbers};
 mod fault;
 mod group;
 mod laws;
-mod memory;
 mod nats;
 mod powers;
 #[cfg(test)]
@@ -14,8 +13,9 @@ mod tests;
 
 pub use fault::{GroupFault, GroupRefusal};
 pub use group::Group;
-pub use memory::Memory;
 pub use nats::Nats;
+/// There was no memory for what was asked. Nothing that was lent has changed.
+pub use std::alloc::AllocError as Memory;
 
 /// The sentences of a group, from a table that breaks no law: products and the identity are elements, the identity is neutral on
 /// both sides, each element has a right inverse, and products associate.

@@ -1,7 +1,7 @@
 ghost use Rattle.std.specs.Prelude.{◌≡◌, ℕ, ◌+◌, ◌^◌, ◌<◌, Bool, List, [], ◌∷◌, ◌++◌, ◌↔◌, IsTrue, length, slice_index, vec_len, IfOk, OnOk, OnErr};
 ghost use Rattle.group_table.specs.Numbers.{passing_below};
 
-use crate::memory::Memory;
+use crate::Memory;
 use std::alloc::Global;
 use std::marker::Model;
 

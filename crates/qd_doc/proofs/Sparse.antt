@@ -2,7 +2,7 @@
 use Rattle.std.proofs.Common.{◌≡◌, ◌≢◌, ℕ, zero, suc, ◌+◌, ◌*◌, ◌<◌, Bool, true, false, nat_eq, List, length, map, Option, None, refl, sym, ap, ◌∙◌, ◌⊎◌, inl, inr, arith, zero-add}
 use Rattle.std.specs.Prelude.{slice_set, replicate, unwrap_or}
 use Rattle.std.specs.List.{range_with_len}
-use Rattle.std.proofs.lemmas.Bool.{eqb-true, eqb-false, eq-eqb}
+use Rattle.std.proofs.lemmas.Bool.{eqb-true, eqb-false, eq-eqb, ne_eqb}
 use Rattle.std.proofs.lemmas.List.{length-set, get_or-set_other}
 use Rattle.std.proofs.lemmas.Grind.{get_or-set_at}
 use Rattle.std.proofs.lemmas.List.FromFn.{fill_by_all, length-map-range_with_len, get_or-map-range_with_len}
@@ -45,11 +45,7 @@ abbrev pub place_of : List Lexeme → ℕ → ℕ → ℕ
 place_of all n at = (number_at all at * n + number_at all (at + 1)) * n + number_at all (at + 2)
 
 other_key : (key place : ℕ) → place ≢ key → nat_eq key place ≡ false
-other_key key place other = by (nat_eq key place) refl
-  where
-    by : (b : Bool) → nat_eq key place ≡ b → nat_eq key place ≡ false
-    by true e = absurd (other (sym (eqb-true key place e)))
-    by false e = e
+other_key key place other = ne_eqb key place (λ e. other (sym e))
 
 -- one more entry sets its place
 pub sparse_exponents-suc : (all : List Lexeme) (n start i : ℕ)

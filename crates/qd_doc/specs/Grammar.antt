@@ -48,7 +48,8 @@ exponent_runs text n listed =
     else if is_word text (codes "sparse") then once Natural ∷ entry_runs n listed
     else []
 
--- the tokens of a document up to its last section, where these come first: the order is token 3
+-- the tokens of a document up to the end of its exponents, where the tokens `before` come first. The
+-- order is token 3. Tokens that aren't among those before count as 0: no place up to theirs depends on them
 unfoldable pub runs_after : List Lexeme → List Run
 runs_after before =
     let n = number_at before 3 in

@@ -1,4 +1,6 @@
--- Reading token after token: each step answers what it read and the tokens that are left, or a refusal.
+-- Reading token after token, for the contracts of the private steps: each answers what it read and the
+-- tokens that are left, or a refusal. What a document is stands in Grammar and Contents; that reading
+-- finds it is a theorem.
 use Rattle.std.specs.Prelude.{◌≡◌, ℕ, zero, suc, ◌+◌, ◌*◌, if◌then◌else◌, List, [], ◌∷◌, length, replicate, codes, slice_set, Option, Some, None, Result, Ok, Err, ◌≤◌, ◌<◌, ◌^◌}
 use Rattle.qd_text.specs.Tokens.{Lexeme}
 use Rattle.qd_text.specs.Numbers.{value}

@@ -36,7 +36,8 @@ pub fn numbers(
     count: u32,
 ) -> Result<(Nats, u32), DocRefusal>
     requires offset { IsOffset bytes.now.items at }
-    ensures gives { Gives (λ found. (found.0, tokens_from found.1 bytes.now.items)) result (read_numbers (length bytes.now.items) count (tokens_from at bytes.now.items)) }
+    ensures gives { Gives (λ found. (found.0, tokens_from found.1 bytes.now.items)) result
+        (read_numbers (length bytes.now.items) count (tokens_from at bytes.now.items)) }
     ensures offset { IfOk result (λ found. IsOffset bytes.now.items found.1) }
     ensures all { IfOk result (λ found. length found.0 ≡ count) }
 {
@@ -91,7 +92,8 @@ fn triple(order: u32, x: u32, y: u32, z: u32) -> u32
 fn next_entry(bytes: &Vec<u8>, at: u32, order: u32) -> Result<Entry, DocRefusal>
     requires offset { IsOffset bytes.now.items at }
     requires order { order ≤ 60 }
-    ensures gives { Gives (λ entry. ((entry.place, entry.exponent), tokens_from entry.next bytes.now.items)) result (read_entry (length bytes.now.items) order (tokens_from at bytes.now.items)) }
+    ensures gives { Gives (λ entry. ((entry.place, entry.exponent), tokens_from entry.next bytes.now.items)) result
+        (read_entry (length bytes.now.items) order (tokens_from at bytes.now.items)) }
     ensures offset { IfOk result (λ entry. IsOffset bytes.now.items entry.next) }
     ensures within { IfOk result (λ entry. entry.place < order * order * order) }
 {
@@ -117,7 +119,8 @@ fn entries(
     requires offset { IsOffset bytes.now.items at }
     requires order { order ≤ 60 }
     requires all { vec_len exponents.old ≡ order * order * order }
-    ensures gives { Gives (λ next. (exponents.new.items, tokens_from next bytes.now.items)) result (read_entries (length bytes.now.items) order count exponents.old.items (tokens_from at bytes.now.items)) }
+    ensures gives { Gives (λ next. (exponents.new.items, tokens_from next bytes.now.items)) result
+        (read_entries (length bytes.now.items) order count exponents.old.items (tokens_from at bytes.now.items)) }
     ensures offset { IfOk result (IsOffset bytes.now.items) }
     ensures all { vec_len exponents.new ≡ order * order * order }
 {
@@ -135,7 +138,8 @@ fn entries(
 fn sparse(alloc: Global, bytes: &Vec<u8>, at: u32, order: u32) -> Result<(Nats, u32), DocRefusal>
     requires offset { IsOffset bytes.now.items at }
     requires order { order ≤ 60 }
-    ensures gives { Gives (λ found. (found.0, tokens_from found.1 bytes.now.items)) result (read_sparse (length bytes.now.items) order (tokens_from at bytes.now.items)) }
+    ensures gives { Gives (λ found. (found.0, tokens_from found.1 bytes.now.items)) result
+        (read_sparse (length bytes.now.items) order (tokens_from at bytes.now.items)) }
     ensures offset { IfOk result (λ found. IsOffset bytes.now.items found.1) }
     ensures all { IfOk result (λ found. length found.0 ≡ order * order * order) }
 {
@@ -163,7 +167,8 @@ pub fn exponents(
 ) -> Result<(Nats, u32), DocRefusal>
     requires offset { IsOffset bytes.now.items at }
     requires order { order ≤ 60 }
-    ensures gives { Gives (λ found. (found.0, tokens_from found.1 bytes.now.items)) result (read_exponents (length bytes.now.items) order (tokens_from at bytes.now.items)) }
+    ensures gives { Gives (λ found. (found.0, tokens_from found.1 bytes.now.items)) result
+        (read_exponents (length bytes.now.items) order (tokens_from at bytes.now.items)) }
     ensures offset { IfOk result (λ found. IsOffset bytes.now.items found.1) }
     ensures all { IfOk result (λ found. length found.0 ≡ order * order * order) }
 {

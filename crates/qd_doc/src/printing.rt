@@ -38,7 +38,8 @@ pub fn printed_is_read()
 
 /// The lines before the table.
 fn append_front(out: &mut Vec<u8>, order: u32) -> Result<(), Memory>
-    ensures added { OnOk result (out.new.items ≡ out.old.items ++ (codes "qdouble 1\norder " ++ (decimal order ++ codes "\ntable\n"))) }
+    ensures added { OnOk result
+        (out.new.items ≡ out.old.items ++ (codes "qdouble 1\norder " ++ (decimal order ++ codes "\ntable\n"))) }
 {
     append_word(out, "qdouble 1\norder ")?;
     append_number(out, u128::from(order))?;
@@ -47,7 +48,8 @@ fn append_front(out: &mut Vec<u8>, order: u32) -> Result<(), Memory>
 
 /// The line of the number of roots.
 fn append_roots(out: &mut Vec<u8>, roots: u32) -> Result<(), Memory>
-    ensures added { OnOk result (out.new.items ≡ out.old.items ++ (codes "roots " ++ (decimal roots ++ codes "\n"))) }
+    ensures added { OnOk result
+        (out.new.items ≡ out.old.items ++ (codes "roots " ++ (decimal roots ++ codes "\n"))) }
 {
     append_word(out, "roots ")?;
     append_number(out, u128::from(roots))?;
@@ -66,7 +68,8 @@ fn append_exponents(
     requires order { order ≤ 60 }
     requires roots { 1 ≤ roots }
     requires all { length exponents.now ≡ order * order * order }
-    ensures added { OnOk result (out.new.items ≡ out.old.items ++ flat_map line (omega_lines order roots exponents.now)) }
+    ensures added { OnOk result
+        (out.new.items ≡ out.old.items ++ flat_map line (omega_lines order roots exponents.now)) }
 {
     if is_trivial(exponents, roots) {
         return append_word(out, "omega trivial\n");
@@ -97,7 +100,8 @@ fn reduced(alloc: Global, exponents: &[u32], roots: u32) -> Result<Vec<u32>, Mem
 /// So many lines of `width` numbers each.
 fn append_rows(out: &mut Vec<u8>, count: u32, width: u32, numbers: &[u32]) -> Result<(), Memory>
     requires all { length numbers.now ≡ count * width }
-    ensures added { OnOk result (out.new.items ≡ out.old.items ++ flat_map line (rows count width numbers.now)) }
+    ensures added { OnOk result
+        (out.new.items ≡ out.old.items ++ flat_map line (rows count width numbers.now)) }
 {
     let mut rest = numbers;
     for _ in 0..count {
@@ -121,7 +125,8 @@ fn append_row(out: &mut Vec<u8>, numbers: &[u32]) -> Result<(), Memory>
 
 /// Numbers that follow another in a line.
 fn append_more(out: &mut Vec<u8>, numbers: &[u32]) -> Result<(), Memory>
-    ensures added { OnOk result (out.new.items ≡ out.old.items ++ flat_map (λ next. 32 ∷ next) (map decimal numbers.now)) }
+    ensures added { OnOk result
+        (out.new.items ≡ out.old.items ++ flat_map (λ next. 32 ∷ next) (map decimal numbers.now)) }
 {
     for number in numbers {
         append_word(out, " ")?;

@@ -3,6 +3,8 @@ ghost use Rattle.qd_doc.specs.declared.refusal.DocRefusal.TheVariants.{Memory};
 
 use qd_text::Expected;
 use std::alloc::{AllocError, AllocFailed};
+use std::error::Error;
+use std::fmt;
 
 /// Why a text is no document. Offsets count bytes from 0; the offset of a missing token is the
 /// length of the text.
@@ -22,6 +24,23 @@ pub enum DocRefusal {
     Memory,
 }
 
+impl fmt::Display for DocRefusal {
+    fn fmt<W: fmt::Write>(&self, f: &mut fmt::Formatter<W>) -> fmt::Result {
+        match self {
+            DocRefusal::Syntax { offset, expected } => {
+                write!(f, "expected {} at byte {offset}", expected.text())
+            }
+            DocRefusal::Wide { offset } => write!(f, "number over 4294967295 at byte {offset}"),
+            DocRefusal::Section { offset } => write!(f, "section out of place at byte {offset}"),
+            DocRefusal::Order { number } => write!(f, "order {number} isn't 1 to 60"),
+            DocRefusal::Roots { number } => write!(f, "number of roots {number} isn't 1 to 64"),
+            DocRefusal::Memory => f.write_str("out of memory"),
+        }
+    }
+}
+
+impl Error for DocRefusal {}
+
 impl From<AllocError> for DocRefusal {
     ghost from_gives = { λ _ e. e ≡ Memory };
 
@@ -34,22 +53,6 @@ impl<T: Drop> From<AllocFailed<T>> for DocRefusal {
     ghost from_gives = { λ _ e. e ≡ Memory };
 
     fn from(_error: AllocFailed<T>) -> DocRefusal {
-        DocRefusal::Memory
-    }
-}
-
-impl From<group_table::Memory> for DocRefusal {
-    ghost from_gives = { λ _ e. e ≡ Memory };
-
-    fn from(_error: group_table::Memory) -> DocRefusal {
-        DocRefusal::Memory
-    }
-}
-
-impl From<qd_text::Memory> for DocRefusal {
-    ghost from_gives = { λ _ e. e ≡ Memory };
-
-    fn from(_error: qd_text::Memory) -> DocRefusal {
         DocRefusal::Memory
     }
 }

@@ -21,7 +21,8 @@ pub struct Numeral {
 /// The next token, or the refusal of the end.
 pub fn token(bytes: &Vec<u8>, at: u32, expected: Expected) -> Result<Token, DocRefusal>
     requires offset { IsOffset bytes.now.items at }
-    ensures token { IfOk result (λ token. tokens_from at bytes.now.items ≡ lexeme_of bytes.now.items token ∷ tokens_from (token.start + token.len) bytes.now.items) }
+    ensures token { IfOk result (λ token.
+        tokens_from at bytes.now.items ≡ lexeme_of bytes.now.items token ∷ tokens_from (token.start + token.len) bytes.now.items) }
     ensures inside { IfOk result (IsWithin bytes.now.items) }
     ensures nothing { IfErr result (λ _. tokens_from at bytes.now.items ≡ []) }
     ensures refusal { IfErr result (λ refusal. refusal ≡ DocRefusal.Syntax (length bytes.now.items) expected) }
@@ -48,7 +49,8 @@ pub fn is_text(bytes: &Vec<u8>, token: Token, word: &str) -> bool
 #[tactic(auto, unfolding(crate::specs::Reading::read, crate::specs::Kinds::refusal, crate::specs::Kinds::missing))]
 pub fn word(bytes: &Vec<u8>, at: u32, expected: Expected) -> Result<u32, DocRefusal>
     requires offset { IsOffset bytes.now.items at }
-    ensures gives { Gives (λ next. tokens_from next bytes.now.items) result (skip (length bytes.now.items) (Word expected) (tokens_from at bytes.now.items)) }
+    ensures gives { Gives (λ next. tokens_from next bytes.now.items) result
+        (skip (length bytes.now.items) (Word expected) (tokens_from at bytes.now.items)) }
     ensures offset { IfOk result (IsOffset bytes.now.items) }
 {
     let token = token(bytes, at, expected)?;
@@ -83,7 +85,8 @@ fn check_value(kind: Kind, start: u32, value: u32) -> Result<(), DocRefusal>
 #[tactic(auto, using(qd_text::proofs::Digits::values), unfolding(crate::specs::Reading::read, crate::specs::Kinds::refusal, crate::specs::Kinds::missing))]
 pub fn natural(bytes: &Vec<u8>, at: u32, kind: Kind) -> Result<Numeral, DocRefusal>
     requires offset { IsOffset bytes.now.items at }
-    ensures gives { Gives (λ numeral. (numeral.value, tokens_from numeral.next bytes.now.items)) result (read_number (length bytes.now.items) (what_of kind) (tokens_from at bytes.now.items)) }
+    ensures gives { Gives (λ numeral. (numeral.value, tokens_from numeral.next bytes.now.items)) result
+        (read_number (length bytes.now.items) (what_of kind) (tokens_from at bytes.now.items)) }
     ensures offset { IfOk result (λ numeral. IsOffset bytes.now.items numeral.next) }
     ensures of_kind { IfOk result (λ numeral. IsOf kind numeral.value) }
 {
@@ -110,7 +113,8 @@ pub fn natural(bytes: &Vec<u8>, at: u32, kind: Kind) -> Result<Numeral, DocRefus
 #[tactic(auto, unfolding(crate::specs::Reading::read, crate::specs::Kinds::refusal, crate::specs::Kinds::missing))]
 pub fn listing_word(bytes: &Vec<u8>, at: u32) -> Result<(Listing, u32), DocRefusal>
     requires offset { IsOffset bytes.now.items at }
-    ensures gives { Gives (λ found. (found.0, tokens_from found.1 bytes.now.items)) result (read listing_of (length bytes.now.items) FormWord (tokens_from at bytes.now.items)) }
+    ensures gives { Gives (λ found. (found.0, tokens_from found.1 bytes.now.items)) result
+        (read listing_of (length bytes.now.items) FormWord (tokens_from at bytes.now.items)) }
     ensures offset { IfOk result (λ found. IsOffset bytes.now.items found.1) }
 {
     let token = token(bytes, at, Expected::Form)?;
@@ -133,7 +137,8 @@ pub fn listing_word(bytes: &Vec<u8>, at: u32) -> Result<(Listing, u32), DocRefus
 #[tactic(auto, unfolding(crate::specs::Reading::read, crate::specs::Kinds::refusal, crate::specs::Kinds::missing))]
 pub fn end_word(bytes: &Vec<u8>, at: u32) -> Result<u32, DocRefusal>
     requires offset { IsOffset bytes.now.items at }
-    ensures gives { Gives (λ next. tokens_from next bytes.now.items) result (skip (length bytes.now.items) EndWord (tokens_from at bytes.now.items)) }
+    ensures gives { Gives (λ next. tokens_from next bytes.now.items) result
+        (skip (length bytes.now.items) EndWord (tokens_from at bytes.now.items)) }
     ensures offset { IfOk result (IsOffset bytes.now.items) }
 {
     let token = token(bytes, at, Expected::End)?;
@@ -155,7 +160,8 @@ pub fn end_word(bytes: &Vec<u8>, at: u32) -> Result<u32, DocRefusal>
 #[tactic(auto, unfolding(crate::specs::Reading::read, crate::specs::Kinds::refusal, crate::specs::Kinds::missing))]
 pub fn nothing(bytes: &Vec<u8>, at: u32) -> Result<(), DocRefusal>
     requires offset { IsOffset bytes.now.items at }
-    ensures gives { Gives (λ _. []) result (skip (length bytes.now.items) NoToken (tokens_from at bytes.now.items)) }
+    ensures gives { Gives (λ _. []) result
+        (skip (length bytes.now.items) NoToken (tokens_from at bytes.now.items)) }
 {
     match next_token(bytes, at) {
         Some(token) => Err(DocRefusal::Syntax {

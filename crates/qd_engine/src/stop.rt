@@ -2,7 +2,6 @@ ghost use Rattle.std.specs.Prelude.{◌≡◌};
 ghost use Rattle.qd_engine.specs.declared.stop.Stop.TheVariants as stops;
 
 use crate::cause::Cause;
-use group_table::Memory;
 use std::alloc::AllocError;
 
 /// Why the program has no report to write.

@@ -3,7 +3,8 @@ use qd_io::{MemSink, MemSource, SureSink, SureSource};
 use std::alloc::{AllocError, Global};
 use std::test::Fail;
 
-const SEMION: &str = "qdouble 1\norder 2\ntable\n0 1\n1 0\nroots 2\nomega dense\n0 0\n0 0\n0 0\n0 1\nend\n";
+const SEMION: &str =
+    "qdouble 1\norder 2\ntable\n0 1\n1 0\nroots 2\nomega dense\n0 0\n0 0\n0 0\n0 1\nend\n";
 
 const NO_GROUP: &str = "qdouble 1\norder 2\ntable\n0 1\n1 1\nroots 1\nomega trivial\nend\n";
 
@@ -30,7 +31,13 @@ fn checks_a_document(rt: HostRuntime) -> Result<(), Fail> {
     let mut source = SureSource::new(Vec::from_slice(alloc, SEMION.as_bytes())?);
     let mut sink = SureSink::new(alloc, REPORT.len())?;
     let answer = run(alloc, &check(alloc)?, &mut source, &mut sink);
-    assert_eq!(rt; answer, Answer { status: 0, why: Why::Done });
+    assert_eq!(rt;
+        answer,
+        Answer {
+            status: 0,
+            why: Why::Done
+        }
+    );
     assert_eq!(rt; sink.written().as_slice(), REPORT.as_bytes());
     Ok(())
 }
@@ -43,9 +50,30 @@ fn tells_of_streams_that_fail(rt: HostRuntime) -> Result<(), Fail> {
 
     // What is read, which calls of the source and of the sink fail, and what comes of it.
     let rows = [
-        (SEMION, [2].as_slice(), never.as_slice(), 12, Why::Read, "refused 12 read\n"),
-        (SEMION, never.as_slice(), [3].as_slice(), 13, Why::Write { planned: 0 }, "group order 2 id"),
-        (NO_GROUP, never.as_slice(), [2].as_slice(), 13, Why::Write { planned: 4 }, "refused "),
+        (
+            SEMION,
+            [2].as_slice(),
+            never.as_slice(),
+            12,
+            Why::Read,
+            "refused 12 read\n",
+        ),
+        (
+            SEMION,
+            never.as_slice(),
+            [3].as_slice(),
+            13,
+            Why::Write { planned: 0 },
+            "group order 2 id",
+        ),
+        (
+            NO_GROUP,
+            never.as_slice(),
+            [2].as_slice(),
+            13,
+            Why::Write { planned: 4 },
+            "refused ",
+        ),
     ];
     for (text, source_fails, sink_fails, status, why, written) in rows {
         let mut source = source(alloc, text, source_fails)?;
@@ -64,7 +92,13 @@ fn asks_for_a_command(rt: HostRuntime) -> Result<(), Fail> {
     let mut source = source(alloc, SEMION, &never)?;
     let mut sink = sink(alloc, &never)?;
     let answer = run(alloc, &Vec::new(alloc), &mut source, &mut sink);
-    assert_eq!(rt; answer, Answer { status: 2, why: Why::Usage });
+    assert_eq!(rt;
+        answer,
+        Answer {
+            status: 2,
+            why: Why::Usage
+        }
+    );
     assert_eq!(rt; sink.written().as_slice(), b"refused 2 usage\n".as_slice());
     Ok(())
 }

@@ -19,3 +19,5 @@ pub use source::{Failed, Source};
 pub use streams::{StdSink, StdSource};
 pub use sure::{SureSink, SureSource};
 pub use writing::{WriteFault, write_whole};
+/// There was no memory for what was asked.
+pub use std::alloc::AllocError as Memory;

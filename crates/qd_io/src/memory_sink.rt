@@ -3,9 +3,10 @@ ghost use Rattle.std.specs.Io.KnownBytes.{WriteAppends};
 ghost use Rattle.qd_io.specs.Stream.{Rises, KeepsRoom};
 ghost use Rattle.qd_io.specs.Memory.{accepted, after_write, is_due, is_refused, next_call};
 
+use crate::Memory;
 use crate::sink::Sink;
 use crate::source::Failed;
-use std::alloc::{AllocError, Global};
+use std::alloc::Global;
 use std::marker::Model;
 
 /// A sink into memory that takes few bytes a call, has little room, and fails at chosen calls.
@@ -33,12 +34,7 @@ impl Model for MemSink {
 impl MemSink {
     /// A sink with room for `room` bytes, made now, that takes at most `step` of them a call; the calls whose
     /// numbers, from 1, stand in `fails` fail. A call past number 4,294,967,295 does not fail by that list.
-    pub fn new(
-        alloc: Global,
-        room: usize,
-        step: usize,
-        fails: Vec<u32>,
-    ) -> Result<MemSink, AllocError>
+    pub fn new(alloc: Global, room: usize, step: usize, fails: Vec<u32>) -> Result<MemSink, Memory>
         requires step { 1 ≤ step }
         ensures made { IfOk result (λ sink. sink ≡ record { written = []; room = room; step = step; fails = fails.items; calls = 0; faults = 0 }) }
     {

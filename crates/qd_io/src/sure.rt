@@ -2,10 +2,11 @@ ghost use Rattle.std.specs.Prelude.{◌≡◌, ◌-◌, ◌<◌, ◌≤◌, ◌�
 ghost use Rattle.std.specs.Io.KnownBytes.{ReadConsumes, WriteAppends};
 ghost use Rattle.qd_io.specs.Stream.{Rises, KeepsRoom};
 
+use crate::Memory;
 use crate::copying::copy_front;
 use crate::sink::Sink;
 use crate::source::{Failed, Source};
-use std::alloc::{AllocError, Global};
+use std::alloc::Global;
 use std::marker::Model;
 
 /// A source over bytes in memory that never fails.
@@ -74,7 +75,7 @@ impl Model for SureSink {
 
 impl SureSink {
     /// A sink that promises room for `room` bytes, which is made now.
-    pub fn new(alloc: Global, room: usize) -> Result<SureSink, AllocError>
+    pub fn new(alloc: Global, room: usize) -> Result<SureSink, Memory>
         ensures made { IfOk result (λ sink. sink ≡ record { written = []; room = room; faults = 0 }) }
     {
         Ok(SureSink {

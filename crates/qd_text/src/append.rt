@@ -1,7 +1,7 @@
 ghost use Rattle.std.specs.Prelude.{◌≡◌, ◌++◌, OnOk, OnErr};
 ghost use Rattle.std.specs.Fmt.{decimal};
 
-use crate::memory::Memory;
+use crate::Memory;
 use itoa::Buffer;
 
 /// Adds a number in decimal at the end of a text. After `Memory` the text is as before.
