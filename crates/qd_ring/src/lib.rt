@@ -3,6 +3,9 @@
 
 mod cyc;
 mod cyc_buffer;
+mod cyc_ops;
+mod cyc_ring;
+mod cyc_ring_laws;
 mod memory;
 mod plain;
 mod reduction;
@@ -16,6 +19,7 @@ mod value_reader;
 mod value_text;
 
 pub use cyc::Cyc;
+pub use cyc_ring::CycRing;
 pub use memory::Memory;
 pub use plain::{Plain, ValueFault};
 pub use ring::Ring;
