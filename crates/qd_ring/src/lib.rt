@@ -6,7 +6,6 @@ mod cyc_buffer;
 mod cyc_ops;
 mod cyc_ring;
 mod cyc_ring_laws;
-mod memory;
 mod plain;
 mod reduction;
 mod ring;
@@ -20,7 +19,6 @@ mod value_text;
 
 pub use cyc::Cyc;
 pub use cyc_ring::CycRing;
-pub use memory::Memory;
 pub use plain::{Plain, ValueFault};
 pub use ring::Ring;
 pub use root::Root;
@@ -30,3 +28,5 @@ pub use sum::{root_of, try_sum, try_sum_below, try_term};
 pub use unit_group::UnitGroup;
 pub use value_reader::read_plain;
 pub use value_text::append_plain;
+/// There was no memory for what was asked. Nothing that was lent has changed.
+pub use std::alloc::AllocError as Memory;
