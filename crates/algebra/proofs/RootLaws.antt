@@ -1,12 +1,12 @@
 -- An element whose n-th power is one gives roots with exponents modulo n.
-use Rattle.std.proofs.Common.{◌≡◌, ℕ, ◌*◌, ◌/◌, ◌%◌, sym, ◌∙◌, ap}
-use Rattle.std.proofs.Math.Nat.{div-add-mod}
+use Rattle.std.proofs.Common.{◌≡◌, ◌≢◌, ℕ, zero, suc, ◌*◌, ◌/◌, ◌%◌, sym, ◌∙◌, ap}
+use Rattle.std.proofs.Math.Nat.{zero-mul, suc-mul, div-add-mod}
 use Rattle.algebra.specs.Structures.{CommRing}
 use Rattle.algebra.specs.Sums.{power}
 use Rattle.algebra.specs.Congruences.{Same}
-use Rattle.algebra.specs.Roots.{Roots}
-use Rattle.algebra.proofs.RingLaws.{one_mul}
-use Rattle.algebra.proofs.SumLaws.{power_zero, power_add, power_mul, one_power}
+use Rattle.algebra.specs.Roots.{Roots, RootOfUnity}
+use Rattle.algebra.proofs.RingLaws.{one_mul, nought_mul}
+use Rattle.algebra.proofs.SumLaws.{sum_constant, sum_ext, sum_mul, power_zero, power_add, power_mul, one_power}
 
 module _ {A : Type 0} (R : CommRing A) (z : A) (n : ℕ) (cycle : power R z n ≡ R.one) where
   -- a power depends on the exponent modulo n alone
@@ -22,3 +22,29 @@ module _ {A : Type 0} (R : CommRing A) (z : A) (n : ℕ) (cycle : power R z n �
   -- the powers of z
   abbrev pub roots_of_power : Roots R n
   roots_of_power = record { root = λ v. power R z v; root_zero = power_zero R z; root_add = power_add R z; root_same = power_same }
+
+-- a root of unity of order n gives roots with exponents modulo each divisor m of n = k m
+module _ {A : Type 0} (R : CommRing A) (m k : ℕ) {n : ℕ} (u : RootOfUnity R n) (divides : k * m ≡ n) where
+  pub divided_cycle : power R (power R u.root k) m ≡ R.one
+  divided_cycle = sym (power_mul R u.root k m) ∙ ap (λ e. power R u.root e) divides ∙ u.cycle
+
+  abbrev pub roots_of_unit : Roots R m
+  roots_of_unit = roots_of_power R (power R u.root k) m divided_cycle
+
+  -- the root with exponent v modulo m is the power k v of z
+  pub root_exponent : (v : ℕ) → roots_of_unit.root v ≡ power R u.root (k * v)
+  root_exponent v = sym (power_mul R u.root k v)
+
+-- what a power of z other than 1 leaves as it is, is nought
+module _ {A : Type 0} (R : CommRing A) {n : ℕ} (u : RootOfUnity R n) (e : ℕ) (apart : e % n ≢ 0) (x : A) (fixed : R.mul (power R u.root e) x ≡ x) where
+  fixed_again : (j : ℕ) → R.mul (power R u.root (j * e)) x ≡ x
+  fixed_again zero = ap (λ i. R.mul (power R u.root i) x) (zero-mul e) ∙ ap (λ a. R.mul a x) (power_zero R u.root) ∙ one_mul R x
+  fixed_again (suc j) =
+      ap (λ i. R.mul (power R u.root i) x) (suc-mul j e) ∙ ap (λ a. R.mul a x) (power_add R u.root (j * e) e)
+      ∙ R.mul_assoc (power R u.root (j * e)) (power R u.root e) x ∙ ap (λ a. R.mul (power R u.root (j * e)) a) fixed ∙ fixed_again j
+
+  pub fixed_is_nought : x ≡ R.nought
+  fixed_is_nought =
+      u.cancel x
+      (sym (sum_constant R n x) ∙ sum_ext R n (λ j. x) (λ j. R.mul (power R u.root (j * e)) x) (λ j h. sym (fixed_again j))
+      ∙ sym (sum_mul R n (λ j. power R u.root (j * e)) x) ∙ ap (λ a. R.mul a x) (u.sum_vanishes e apart) ∙ nought_mul R x)

@@ -7,7 +7,7 @@ use Rattle.std.proofs.Math.Numerals.{add-one}
 use Rattle.std.proofs.Math.Nat.{add-zero, add-suc, suc-add, zero-mul, suc-mul, mul-zero, mul-suc}
 use Rattle.std.proofs.Math.Dec.{eqb}
 use Rattle.std.proofs.lemmas.Bool.{eq-eqb, ne_eqb, cases_eq}
-use Rattle.std.specs.Prelude.{◌&&◌}
+use Rattle.std.specs.Prelude.{◌&&◌, not}
 use Rattle.algebra.specs.Structures.{CommRing}
 use Rattle.algebra.specs.Sums.{sum_below, pick, multiple, power, sum_list}
 use Rattle.algebra.proofs.RingLaws.{nought_add, mul_add, add_mul, mul_nought, nought_mul, one_mul, neg_add, neg_nought, sum_rules, product_rules}
@@ -264,3 +264,9 @@ module _ {A : Type 0} (R : CommRing A) where
   sum_list_range a (suc n) f =
       sum_list_cons R (f a) (map f (range_with_len (a + 1) n)) ∙ ap (λ s. R.add (f a) s) (sum_list_range (a + 1) n f)
       ∙ sym (sum_first n (λ i. f (a + i)) ∙ simp (add-zero, add-suc, add-one, suc-add))
+
+-- a value in two parts, by a test
+module _ {A : Type 0} (R : CommRing A) where
+  pub pick_not : (b : Bool) (x : A) → R.add (pick R b x) (pick R (not b) x) ≡ x
+  pick_not true x = simp (pick_true, pick_false, R.add_nought)
+  pick_not false x = simp (pick_true, pick_false, nought_add)

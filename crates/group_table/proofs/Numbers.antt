@@ -1,7 +1,8 @@
 -- The numbers below a bound that pass a test.
-use Rattle.std.proofs.Common.{◌≡◌, ℕ, zero, suc, ◌+◌, ◌<◌, ◌≤◌, ◌⊎◌, Bool, true, false, cond, List, [], ◌∷◌, ◌++◌, length, refl, sym, ap, ◌∙◌, arith, inl, inr, add-one, eq-or-lt_of_le, length-append}
+use Rattle.std.proofs.Common.{◌≡◌, ℕ, zero, suc, ◌+◌, ◌<◌, ◌≤◌, ◌⊎◌, Bool, true, false, ◌↔◌, cond, List, [], get_or, ◌∷◌, ◌++◌, length, refl, sym, ap, ◌∙◌, arith, inl, inr, add-one, eq-or-lt_of_le, length-append}
 use Rattle.std.specs.List.{All, Contains}
-use Rattle.std.proofs.lemmas.List.Elements.{All-nil, All-push, All-weaker, Contains-push, Contains-append_left}
+use Rattle.std.proofs.lemmas.List.Elements.{All-nil, All-push, All-weaker, All-get_or, All-contains, Contains-push, Contains-append_left}
+use Rattle.std.proofs.lemmas.List.{get_or_push, get_or_append_left}
 use Rattle.group_table.specs.Numbers.{passing_below}
 
 pub passing_below-zero : (test : ℕ → Bool) → passing_below 0 test ≡ []
@@ -70,3 +71,37 @@ passing_below-contains (suc n) i test below passes =
     rw (passing_below-suc n test)
     (contains-push n i test (test n) (passing_below n test) refl passes
     (elim place [ inl last ↦ inl last | inr before ↦ inr (passing_below-contains n i test before passes) ]))
+
+-- the numbers ascend
+ascending-push : (n : ℕ) (b : Bool) (front : List ℕ) → ((i j : ℕ) → i < j → j < length front → get_or front i 0 < get_or front j 0)
+    → ((i : ℕ) → i < length front → get_or front i 0 < n)
+    → (i j : ℕ) → i < j → j < length (cond b (front ++ n ∷ []) front) → get_or (cond b (front ++ n ∷ []) front) i 0 < get_or (cond b (front ++ n ∷ []) front) j 0
+ascending-push n false front ascends below i j less last = ascends i j less last
+ascending-push n true front ascends below i j less last =
+    let count : length (front ++ n ∷ []) ≡ length front + 1 = length-append front (n ∷ []) in
+    let i_front : i < length front = omega arith in
+    by i_front (get_or_append_left front (n ∷ []) 0 i i_front) (place j (length front) (omega arith))
+  where
+    place : (j m : ℕ) → j ≤ m → (j ≡ m) ⊎ (j < m)
+    place j m most = eq-or-lt_of_le most
+
+    by : i < length front → get_or (front ++ n ∷ []) i 0 ≡ get_or front i 0 → (j ≡ length front) ⊎ (j < length front) → get_or (front ++ n ∷ []) i 0 < get_or (front ++ n ∷ []) j 0
+    by i_front first (inl end) = rw (first, get_or_push front n 0 j (sym end)) (below i i_front)
+    by i_front first (inr before) = rw (first, get_or_append_left front (n ∷ []) 0 j before) (ascends i j less before)
+
+pub passing_below-ascending : (n : ℕ) (test : ℕ → Bool) (i j : ℕ) → i < j → j < length (passing_below n test)
+    → get_or (passing_below n test) i 0 < get_or (passing_below n test) j 0
+passing_below-ascending zero test i j less last =
+    absurd (let none : length (passing_below 0 test) ≡ 0 = ap length (passing_below-zero test) in omega arith)
+passing_below-ascending (suc n) test i j less last =
+    rw (passing_below-suc n test)
+    (ascending-push n (test n) (passing_below n test) (λ i j less last. passing_below-ascending n test i j less last)
+    (λ i p. (All-get_or (IsPassing n test) (passing_below n test) i 0 p (passing_below-all n test)).below)
+    i j less (rw (passing_below-suc n test) at last))
+
+-- a number is in the list exactly where it is below the bound and passes
+pub passing_below-exactly : (n i : ℕ) (test : ℕ → Bool) → Contains (passing_below n test) i ↔ ((i < n) × (test i ≡ true))
+passing_below-exactly n i test = (
+  λ listed. let here = All-contains (IsPassing n test) (passing_below n test) i (passing_below-all n test) listed in (here.below, here.passes),
+  λ passes. passing_below-contains n i test passes.0 passes.1,
+)

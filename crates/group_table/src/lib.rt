@@ -1,7 +1,7 @@
 //! Finite groups by their multiplication tables.
 #![tactic(auto)]
 
-ghost use Rattle.group_table.specs.Laws.{GroupOfNumbers};
+ghost use Rattle.group_table.specs.Laws.{GroupOfNumbers, PassingExactly, PassingAscends};
 
 mod fault;
 mod group;
@@ -21,4 +21,10 @@ pub use std::alloc::AllocError as Memory;
 /// both sides, each element has a right inverse, and products associate.
 pub fn group_laws()
     ensures sentences { GroupOfNumbers }
+{}
+
+/// The numbers below a bound that pass a test: each of them is in the list, no other is, and the list ascends.
+pub fn number_laws()
+    ensures exactly { PassingExactly }
+    ensures ascends { PassingAscends }
 {}

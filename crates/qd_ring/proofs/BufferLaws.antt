@@ -29,7 +29,7 @@ read_128 z h = to_z-of_z w128 z (fits_128 z h)
 pub read_sum : (a c : ℤ) → nat_abs a + nat_abs c < 2 ^ 127 → to_z w128 (of_z w128 (to_z w128 (of_z w128 a) +ℤ to_z w128 (of_z w128 c))) ≡ a +ℤ c
 read_sum a c h =
     ap₂ (λ x y. to_z w128 (of_z w128 (x +ℤ y))) (read_128 a (omega arith)) (read_128 c (omega arith))
-        ∙ read_128 (a +ℤ c) (omega (arith, magnitude-sum a c))
+    ∙ read_128 (a +ℤ c) (omega (arith, magnitude-sum a c))
 
 -- ---- magnitudes at a place
 pub magnitude_at : (xs : List ℤ) (v : ℕ) → nat_abs (get_or xs v (pos 0)) ≤ total_of xs
@@ -56,43 +56,43 @@ module _ {V : Type 0} (M : LinearMap V) where
   act-add_at [] v c w h = absurd (omega arith)
   act-add_at (a ∷ xs) zero c w h =
       act-cons M (a +ℤ c) xs w
-          ∙ ap (λ z. M.add z (M.map (act M xs w))) (M.scale_sum a c w)
-          ∙ M.add_assoc (M.scale a w) (M.scale c w) (M.map (act M xs w))
-          ∙ ap (M.add (M.scale a w)) (M.add_comm (M.scale c w) (M.map (act M xs w)))
-          ∙ sym (M.add_assoc (M.scale a w) (M.map (act M xs w)) (M.scale c w))
-          ∙ ap₂ M.add (sym (act-cons M a xs w)) (ap (M.scale c) (sym (iterate-zero M w)))
+      ∙ ap (λ z. M.add z (M.map (act M xs w))) (M.scale_sum a c w)
+      ∙ M.add_assoc (M.scale a w) (M.scale c w) (M.map (act M xs w))
+      ∙ ap (M.add (M.scale a w)) (M.add_comm (M.scale c w) (M.map (act M xs w)))
+      ∙ sym (M.add_assoc (M.scale a w) (M.map (act M xs w)) (M.scale c w))
+      ∙ ap₂ M.add (sym (act-cons M a xs w)) (ap (M.scale c) (sym (iterate-zero M w)))
   act-add_at (a ∷ xs) (suc v) c w h =
       act-cons M a (set xs v (get_or xs v (pos 0) +ℤ c)) w
-          ∙ ap (λ z. M.add (M.scale a w) (M.map z)) (act-add_at xs v c w (omega arith))
-          ∙ ap (M.add (M.scale a w)) (M.map_add (act M xs w) (M.scale c (iterate M.map v w)))
-          ∙ sym (M.add_assoc (M.scale a w) (M.map (act M xs w)) (M.map (M.scale c (iterate M.map v w))))
-          ∙ ap₂ M.add (sym (act-cons M a xs w)) (M.map_scale c (iterate M.map v w) ∙ ap (M.scale c) (sym (iterate-suc M v w)))
+      ∙ ap (λ z. M.add (M.scale a w) (M.map z)) (act-add_at xs v c w (omega arith))
+      ∙ ap (M.add (M.scale a w)) (M.map_add (act M xs w) (M.scale c (iterate M.map v w)))
+      ∙ sym (M.add_assoc (M.scale a w) (M.map (act M xs w)) (M.map (M.scale c (iterate M.map v w))))
+      ∙ ap₂ M.add (sym (act-cons M a xs w)) (M.map_scale c (iterate M.map v w) ∙ ap (M.scale c) (sym (iterate-suc M v w)))
 
   -- one more coefficient at the end
   pub act-take_suc : (xs : List ℤ) (j : ℕ) (w : V) → j < length xs → act M (take (suc j) xs) w ≡ M.add (act M (take j xs) w) (M.scale (get_or xs j (pos 0)) (iterate M.map j w))
   act-take_suc [] j w h = absurd (omega arith)
   act-take_suc (a ∷ xs) zero w h =
       act-cons M a [] w ∙ ap (λ z. M.add (M.scale a w) (M.map z)) (act-nil M w)
-          ∙ ap (M.add (M.scale a w)) (map_nought M) ∙ M.add_comm (M.scale a w) M.nought
-          ∙ ap₂ M.add (sym (act-nil M w)) (ap (M.scale a) (sym (iterate-zero M w)))
+      ∙ ap (M.add (M.scale a w)) (map_nought M) ∙ M.add_comm (M.scale a w) M.nought
+      ∙ ap₂ M.add (sym (act-nil M w)) (ap (M.scale a) (sym (iterate-zero M w)))
   act-take_suc (a ∷ xs) (suc j) w h =
       act-cons M a (take (suc j) xs) w
-          ∙ ap (λ z. M.add (M.scale a w) (M.map z)) (act-take_suc xs j w (omega arith))
-          ∙ ap (M.add (M.scale a w)) (M.map_add (act M (take j xs) w) (M.scale (get_or xs j (pos 0)) (iterate M.map j w)))
-          ∙ sym (M.add_assoc (M.scale a w) (M.map (act M (take j xs) w)) (M.map (M.scale (get_or xs j (pos 0)) (iterate M.map j w))))
-          ∙ ap₂ M.add (sym (act-cons M a (take j xs) w)) (M.map_scale (get_or xs j (pos 0)) (iterate M.map j w) ∙ ap (M.scale (get_or xs j (pos 0))) (sym (iterate-suc M j w)))
+      ∙ ap (λ z. M.add (M.scale a w) (M.map z)) (act-take_suc xs j w (omega arith))
+      ∙ ap (M.add (M.scale a w)) (M.map_add (act M (take j xs) w) (M.scale (get_or xs j (pos 0)) (iterate M.map j w)))
+      ∙ sym (M.add_assoc (M.scale a w) (M.map (act M (take j xs) w)) (M.map (M.scale (get_or xs j (pos 0)) (iterate M.map j w))))
+      ∙ ap₂ M.add (sym (act-cons M a (take j xs) w)) (M.map_scale (get_or xs j (pos 0)) (iterate M.map j w) ∙ ap (M.scale (get_or xs j (pos 0))) (sym (iterate-suc M j w)))
 
 pub value-add_at : (m xs : List ℤ) (v : ℕ) (c : ℤ) → v < length xs → value_of m (set xs v (get_or xs v (pos 0) +ℤ c)) ≡ value_sum (value_of m xs) (value_multiple c (value_root m v))
 value-add_at m xs v c h =
     value_of-act m (set xs v (get_or xs v (pos 0) +ℤ c))
-        ∙ act-add_at (times_x m) xs v c (value_one m) h
-        ∙ ap₂ value_sum (sym (value_of-act m xs)) (ap (value_multiple c) (sym (root_steps m v)))
+    ∙ act-add_at (times_x m) xs v c (value_one m) h
+    ∙ ap₂ value_sum (sym (value_of-act m xs)) (ap (value_multiple c) (sym (root_steps m v)))
 
 pub value-take_suc : (m xs : List ℤ) (j : ℕ) → j < length xs → value_of m (take (suc j) xs) ≡ value_sum (value_of m (take j xs)) (value_multiple (get_or xs j (pos 0)) (value_root m j))
 value-take_suc m xs j h =
     value_of-act m (take (suc j) xs)
-        ∙ act-take_suc (times_x m) xs j (value_one m) h
-        ∙ ap₂ value_sum (sym (value_of-act m (take j xs))) (ap (value_multiple (get_or xs j (pos 0))) (sym (root_steps m j)))
+    ∙ act-take_suc (times_x m) xs j (value_one m) h
+    ∙ ap₂ value_sum (sym (value_of-act m (take j xs))) (ap (value_multiple (get_or xs j (pos 0))) (sym (root_steps m j)))
 
 -- ---- a step of long division, number by number
 unfoldable pub mixed : ℤ → List ℤ → List ℤ → List ℤ
@@ -149,7 +149,7 @@ pub mixed-cancels : (low w : List ℤ) → length w ≡ suc (length low) → mix
 unfolding cancelled
 mixed-cancels low w e =
     mixed-all (leading w) low w e
-        ∙ ap (λ z. plus (lower w) (scaled (neg_ℤ (leading w)) z) ++ (leading w ∷ [])) (sym (lower-last low (pos 1)))
+    ∙ ap (λ z. plus (lower w) (scaled (neg_ℤ (leading w)) z) ++ (leading w ∷ [])) (sym (lower-last low (pos 1)))
 
 pub mixed-nothing : (low w : List ℤ) → mixed (pos 0) low w ≡ w
 unfolding mixed
@@ -173,8 +173,8 @@ module _ (low w : List ℤ) (size : length w ≡ suc (length low)) (ternary : si
   pub cancel_read : (lw : List ℤ) (j : ℕ) → lw ≡ mixed (leading w) (take j low) w → to_z w128 (of_z w128 (get_or lw j (pos 0))) ≡ get_or w j (pos 0)
   cancel_read lw j e =
       ap (λ z. to_z w128 (of_z w128 (get_or z j (pos 0)))) e
-          ∙ ap (λ z. to_z w128 (of_z w128 z)) (mixed-at (leading w) low w j)
-          ∙ read_128 (get_or w j (pos 0)) (omega (arith, size_at w j))
+      ∙ ap (λ z. to_z w128 (of_z w128 z)) (mixed-at (leading w) low w j)
+      ∙ read_128 (get_or w j (pos 0)) (omega (arith, size_at w j))
 
   pub cancel_sign : (j : ℕ) → to_z w8 (of_z w8 (get_or low j (pos 0))) ≡ get_or low j (pos 0)
   cancel_sign j = read_8 (get_or low j (pos 0)) (omega (arith, size_at low j))
@@ -185,16 +185,16 @@ module _ (low w : List ℤ) (size : length w ≡ suc (length low)) (ternary : si
       let s = get_or low j (pos 0) in
       let product = neg_ℤ (leading w) *ℤ s in
       let r_is : r ≡ a +ℤ product =
-          is ∙ ap₂ (λ x y. x +ℤ y) (cancel_read lw j e) (ap₂ (λ x y. neg_ℤ x *ℤ y) cancel_last (cancel_sign j)) in
+      is ∙ ap₂ (λ x y. x +ℤ y) (cancel_read lw j e) (ap₂ (λ x y. neg_ℤ x *ℤ y) cancel_last (cancel_sign j)) in
       let factor : nat_abs (leading w) * nat_abs s ≤ nat_abs (leading w) * 1 =
-          mul-le-mul_left (nat_abs (leading w)) (omega (arith, size_at low j)) in
+      mul-le-mul_left (nat_abs (leading w)) (omega (arith, size_at low j)) in
       let bound : nat_abs (a +ℤ product) < 2 ^ 127 =
-          omega (arith, size_at w j, leading_small, factor, magnitude-sum a product, magnitude-product (neg_ℤ (leading w)) s, ap (λ n. n * nat_abs s) (magnitude-negative (leading w))) in
+      omega (arith, size_at w j, leading_small, factor, magnitude-sum a product, magnitude-product (neg_ℤ (leading w)) s, ap (λ n. n * nat_abs s) (magnitude-negative (leading w))) in
       ap (λ z. set lw j (to_z w128 (of_z w128 z))) r_is
-          ∙ ap (set lw j) (read_128 (a +ℤ product) bound)
-          ∙ ap (λ z. set z j (a +ℤ product)) e
-          ∙ mixed-step (leading w) low w j h
-          ∙ ap (λ n. mixed (leading w) (take n low) w) (sym (add-one j))
+      ∙ ap (set lw j) (read_128 (a +ℤ product) bound)
+      ∙ ap (λ z. set z j (a +ℤ product)) e
+      ∙ mixed-step (leading w) low w j h
+      ∙ ap (λ n. mixed (leading w) (take n low) w) (sym (add-one j))
 
   pub cancel_nothing : to_z w128 (of_z w128 (get_or w (length low) (pos 0))) ≡ pos 0 → w ≡ cancelled (low ++ (pos 1 ∷ [])) w ++ (leading w ∷ [])
   cancel_nothing e =
@@ -228,8 +228,8 @@ module _ (s : ℤ) (b a : List ℤ) (ternary : nat_abs s ≤ 1) (a_small : size_
   pub combine_read : (la : List ℤ) (j : ℕ) → la ≡ mixed s (take j b) a → to_z w128 (of_z w128 (get_or la j (pos 0))) ≡ get_or a j (pos 0)
   combine_read la j e =
       ap (λ z. to_z w128 (of_z w128 (get_or z j (pos 0)))) e
-          ∙ ap (λ z. to_z w128 (of_z w128 z)) (mixed-at s b a j)
-          ∙ read_128 (get_or a j (pos 0)) (omega (arith, size_at a j))
+      ∙ ap (λ z. to_z w128 (of_z w128 z)) (mixed-at s b a j)
+      ∙ read_128 (get_or a j (pos 0)) (omega (arith, size_at a j))
 
   pub combine_other : (j : ℕ) → to_z w128 (of_z w128 (get_or b j (pos 0))) ≡ get_or b j (pos 0)
   combine_other j = read_128 (get_or b j (pos 0)) (omega (arith, size_at b j))
@@ -240,12 +240,12 @@ module _ (s : ℤ) (b a : List ℤ) (ternary : nat_abs s ≤ 1) (a_small : size_
       let y = get_or b j (pos 0) in
       let product = neg_ℤ s *ℤ y in
       let r_is : r ≡ x +ℤ product =
-          is ∙ ap₂ (λ u v. u +ℤ v) (combine_read la j e) (ap (λ z. neg_ℤ z *ℤ s) (combine_other j) ∙ sign_swaps s y) in
+      is ∙ ap₂ (λ u v. u +ℤ v) (combine_read la j e) (ap (λ z. neg_ℤ z *ℤ s) (combine_other j) ∙ sign_swaps s y) in
       let factor : nat_abs s * nat_abs y ≤ 1 * nat_abs y = mul-le-mul_right (nat_abs y) ternary in
       let bound : nat_abs (x +ℤ product) < 2 ^ 127 =
-          omega (arith, size_at a j, size_at b j, factor, magnitude-sum x product, magnitude-product (neg_ℤ s) y, ap (λ n. n * nat_abs y) (magnitude-negative s)) in
+      omega (arith, size_at a j, size_at b j, factor, magnitude-sum x product, magnitude-product (neg_ℤ s) y, ap (λ n. n * nat_abs y) (magnitude-negative s)) in
       ap (λ z. set la j (to_z w128 (of_z w128 z))) r_is
-          ∙ ap (set la j) (read_128 (x +ℤ product) bound)
-          ∙ ap (λ z. set z j (x +ℤ product)) e
-          ∙ mixed-step s b a j h
-          ∙ ap (λ n. mixed s (take n b) a) (sym (add-one j))
+      ∙ ap (set la j) (read_128 (x +ℤ product) bound)
+      ∙ ap (λ z. set z j (x +ℤ product)) e
+      ∙ mixed-step s b a j h
+      ∙ ap (λ n. mixed s (take n b) a) (sym (add-one j))

@@ -1,4 +1,5 @@
 -- Sizes of arrays and of the values that they stand for, and the special images.
+use Rattle.qd_ring.specs.ArrayLaws.{array_length, array_parts, coefficients_of, size-padded, size-value}
 use Rattle.std.proofs.Common.{◌≡◌, ℕ, zero, suc, ◌+◌, ◌-◌, ◌*◌, ◌^◌, ◌%◌, ◌≤◌, ◌<◌, max, Bool, true, false, List, [], ◌∷◌, ◌++◌, length, take, drop, refl, sym, ap, ◌∙◌, subst, arith, nat_le, nat_lt}
 use Rattle.std.proofs.Math.Nat.{mul-le-mul, mul-le-mul_left}
 use Rattle.std.specs.Prelude.{ℤ, pos, nat_abs}
@@ -16,12 +17,7 @@ use Rattle.cyclotomic.proofs.Inverses.{galois_modulo}
 use Rattle.cyclotomic.proofs.Sizes.{total_of, total-size, size-cons, size-zeros}
 use Rattle.cyclotomic.proofs.Bounds.{product_that_fits}
 use Rattle.qd_ring.specs.CycArrays.{array_of, is_array, is_small}
-use Rattle.qd_ring.proofs.ProductLaws.{array_parts, array_length, coefficients_of, is_array-of}
-
-pub size-padded : (p : List ℤ) (j : ℕ) → size_of (p ++ zeros j) ≡ size_of p
-unfolding size_of
-size-padded [] j = size-zeros j
-size-padded (a ∷ p) j = ap (max (nat_abs a)) (size-padded p j)
+use Rattle.qd_ring.proofs.ProductLaws.{is_array-of}
 
 pub small_means : (xs : List ℤ) → is_small xs ≡ true → size_of xs ≤ greatest_magnitude
 unfolding is_small
@@ -36,11 +32,6 @@ unfolding is_small value_fits
 small-array_of u = ap (λ s. nat_le s greatest_magnitude) (size-array_of u)
 
 module _ (k : ℕ) (entry : is_conductor k ≡ true) where
-  pub size-value : (xs : List ℤ) → is_array k xs ≡ true → value_size (cyclotomic_value k xs) ≡ size_of xs
-  size-value xs array =
-      ap size_of (coefficients_of k entry xs array)
-          ∙ sym (ap size_of (array_parts k entry xs array) ∙ size-padded (take (phi_of k) xs) (length (drop (phi_of k) xs)))
-
   pub total_bound : (xs : List ℤ) → is_array k xs ≡ true → total_of xs ≤ 42 * size_of xs
   total_bound xs array = subst (λ n. total_of xs ≤ n * size_of xs) (array_length k entry xs array) (total-size xs)
 
@@ -54,11 +45,7 @@ module _ (k : ℕ) (entry : is_conductor k ≡ true) where
 
   pub product_fits-sizes : (xs ys : List ℤ) → is_array k xs ≡ true → is_array k ys ≡ true → product_fits (cyclotomic_value k xs) (cyclotomic_value k ys) ≡ nat_lt (size_of xs * size_of ys) (2 ^ 108)
   unfolding product_fits
-  product_fits-sizes xs ys a b = ap₂ (λ x y. nat_lt (x * y) (2 ^ 108)) (size-value xs a) (size-value ys b)
-
-  pub value_fits-small : (xs : List ℤ) → is_array k xs ≡ true → value_fits (cyclotomic_value k xs) ≡ is_small xs
-  unfolding value_fits is_small
-  value_fits-small xs a = ap (λ s. nat_le s greatest_magnitude) (size-value xs a)
+  product_fits-sizes xs ys a b = ap₂ (λ x y. nat_lt (x * y) (2 ^ 108)) (size-value k entry xs a) (size-value k entry ys b)
 
   -- the images that the calls use
   pub image_alone : (t : ℕ) (u : CyclotomicValue k) → value_product (cyclotomic k) (root k 0) (galois_image k t u) ≡ galois_image k t u

@@ -1,5 +1,6 @@
 -- Sums, differences and constants as arrays.
-use Rattle.std.proofs.Common.{◌≡◌, ℕ, zero, suc, pred, ◌+◌, ◌-◌, ◌*◌, ◌^◌, ◌≤◌, ◌<◌, max, Bool, true, false, List, [], ◌∷◌, ◌++◌, length, take, drop, refl, sym, ap, ◌∙◌, subst, arith, ◌==◌, ◌&&◌, eq-eqb, length-append, length-drop, get_or}
+use Rattle.qd_ring.specs.ArrayLaws.{all_noughts, array_length, array_parts, coefficients_of, size-value, value_fits-small, value_of-padded, value_of-zeros, zeros_noughts}
+use Rattle.std.proofs.Common.{◌≡◌, ℕ, zero, suc, pred, ◌+◌, ◌-◌, ◌*◌, ◌^◌, ◌%◌, ◌≤◌, ◌<◌, max, Bool, true, false, List, [], ◌∷◌, ◌++◌, length, take, drop, refl, sym, ap, ◌∙◌, subst, arith, ◌==◌, ◌&&◌, eq-eqb, length-append, length-drop, get_or}
 use Rattle.std.proofs.Math.Seq.{take-length}
 use Rattle.std.proofs.lemmas.List.{drop-replicate}
 use Rattle.std.specs.Prelude.{ℤ, pos, negsuc, neg_ℤ, ◌+ℤ◌, ◌*ℤ◌, nat_abs}
@@ -8,17 +9,21 @@ use mathlib.Core.Path.{ap₂}
 use Rattle.cyclotomic.specs.Polynomial.{zeros, plus, scaled, coefficient}
 use Rattle.cyclotomic.specs.Cyclotomic.{cyclotomic}
 use Rattle.cyclotomic.specs.Conductors.{is_conductor, phi_of}
-use Rattle.cyclotomic.specs.Fit.{size_of, value_size, greatest_magnitude}
+use Rattle.cyclotomic.specs.Fit.{size_of, value_size, value_fits, greatest_magnitude}
+use borrow.Author.Tests.{le-leb}
 use Rattle.cyclotomic.specs.Ring.{Value, value_sum, value_multiple, value_negative, value_nought, value_of, value_one, value_product}
-use Rattle.cyclotomic.specs.CyclotomicRing.{CyclotomicValue, cyclotomic_value, root}
+use Rattle.cyclotomic.specs.CyclotomicRing.{CyclotomicValue, cyclotomic_ring, cyclotomic_value, root}
+use Rattle.algebra.specs.Sums.{power}
+use Rattle.cyclotomic.proofs.Orthogonality.{power-root}
+use Rattle.cyclotomic.proofs.Inverses.{root_modulo}
 use Rattle.cyclotomic.specs.Laws.Integers as Z
 use Rattle.cyclotomic.specs.Laws.Polynomials.{nil-plus, plus-nil, length-zeros, length-scaled, length-plus, scaled-one, scaled-zeros, plus-zeros}
 use Rattle.cyclotomic.specs.Laws.Values.{product_one}
 use Rattle.cyclotomic.proofs.Sizes.{size-scaled, size-zeros, size-cons}
 use Rattle.cyclotomic.proofs.Bounds.{root_size}
 use Rattle.qd_ring.specs.CycArrays.{array_of, is_array, is_nought, is_small}
-use Rattle.qd_ring.proofs.ReductionSigns.{conductor_bounds}
-use Rattle.qd_ring.proofs.ProductLaws.{array_parts, array_length, coefficients_of, length-value, value_of-padded, value_of-zeros, zeros_noughts, all_noughts, value-array_of, nought_sum}
+use Rattle.qd_ring.specs.ReductionSigns.{conductor_bounds}
+use Rattle.qd_ring.proofs.ProductLaws.{length-value, value-array_of, nought_sum}
 use Rattle.qd_ring.proofs.CycLaws.{small_means, size-array_of, is_small_yes}
 
 plus-padded : (p q : List ℤ) (j : ℕ) → length p ≡ length q → plus (p ++ zeros j) (q ++ zeros j) ≡ plus p q ++ zeros j
@@ -40,7 +45,7 @@ module _ (k : ℕ) (entry : is_conductor k ≡ true) where
   array-of_value xs array =
       let u = cyclotomic_value k xs in
       let rest : length (drop (phi_of k) xs) ≡ 42 - length u.coefficients =
-          omega (arith, length-drop (phi_of k) xs, array_length k entry xs array, length-value k entry u) in
+      omega (arith, length-drop (phi_of k) xs, array_length k entry xs array, length-value k entry u) in
       array_parts k entry xs array ∙ ap₂ (λ x j. x ++ zeros j) (sym (coefficients_of k entry xs array)) rest
 
   pub array_of-sum : (u v : CyclotomicValue k) → plus (array_of u) (array_of v) ≡ array_of (value_sum u v)
@@ -48,36 +53,36 @@ module _ (k : ℕ) (entry : is_conductor k ≡ true) where
   array_of-sum u v =
       let same : length u.coefficients ≡ length v.coefficients = u.count ∙ sym v.count in
       ap (λ j. plus (u.coefficients ++ zeros (42 - length u.coefficients)) (v.coefficients ++ zeros (42 - j))) (sym same)
-          ∙ plus-padded u.coefficients v.coefficients (42 - length u.coefficients) same
-          ∙ ap (λ j. plus u.coefficients v.coefficients ++ zeros (42 - j)) (sym (length-plus u.coefficients v.coefficients same))
+      ∙ plus-padded u.coefficients v.coefficients (42 - length u.coefficients) same
+      ∙ ap (λ j. plus u.coefficients v.coefficients ++ zeros (42 - j)) (sym (length-plus u.coefficients v.coefficients same))
 
   pub array_of-multiple : (c : ℤ) (u : CyclotomicValue k) → scaled c (array_of u) ≡ array_of (value_multiple c u)
   unfolding array_of value_multiple
   array_of-multiple c u =
       scaled-padded c u.coefficients (42 - length u.coefficients)
-          ∙ ap (λ j. scaled c u.coefficients ++ zeros (42 - j)) (sym (length-scaled c u.coefficients))
+      ∙ ap (λ j. scaled c u.coefficients ++ zeros (42 - j)) (sym (length-scaled c u.coefficients))
 
   module _ (xs ys : List ℤ) (a : is_array k xs ≡ true) (b : is_array k ys ≡ true) where
     pub sum_array : plus xs (scaled (pos 1) ys) ≡ array_of (value_sum (cyclotomic_value k xs) (cyclotomic_value k ys))
     sum_array =
         ap (plus xs) (scaled-one ys)
-            ∙ ap₂ plus (array-of_value xs a) (array-of_value ys b)
-            ∙ array_of-sum (cyclotomic_value k xs) (cyclotomic_value k ys)
+        ∙ ap₂ plus (array-of_value xs a) (array-of_value ys b)
+        ∙ array_of-sum (cyclotomic_value k xs) (cyclotomic_value k ys)
 
     pub difference_array : plus xs (scaled (negsuc 0) ys) ≡ array_of (value_sum (cyclotomic_value k xs) (value_negative (cyclotomic_value k ys)))
     difference_array =
         ap₂ (λ x y. plus x (scaled (negsuc 0) y)) (array-of_value xs a) (array-of_value ys b)
-            ∙ ap (plus (array_of (cyclotomic_value k xs))) (array_of-multiple (negsuc 0) (cyclotomic_value k ys))
-            ∙ array_of-sum (cyclotomic_value k xs) (value_negative (cyclotomic_value k ys))
+        ∙ ap (plus (array_of (cyclotomic_value k xs))) (array_of-multiple (negsuc 0) (cyclotomic_value k ys))
+        ∙ array_of-sum (cyclotomic_value k xs) (value_negative (cyclotomic_value k ys))
 
   -- ---- constants
   pub constant_array : (v : ℤ) → is_array k (v ∷ zeros 41) ≡ true
   unfolding is_array
   constant_array v = ap (λ b. b) (noughts (phi_of k) (conductor_bounds k entry).3)
     where
-    noughts : (n : ℕ) → 1 < n → list_all is_nought (drop n (v ∷ zeros 41)) ≡ true
-    noughts zero h = absurd (omega arith)
-    noughts (suc n) h = ap (list_all is_nought) (drop-replicate n 41 (pos 0)) ∙ zeros_noughts (41 - n)
+      noughts : (n : ℕ) → 1 < n → list_all is_nought (drop n (v ∷ zeros 41)) ≡ true
+      noughts zero h = absurd (omega arith)
+      noughts (suc n) h = ap (list_all is_nought) (drop-replicate n 41 (pos 0)) ∙ zeros_noughts (41 - n)
 
   pub constant_value : (v : ℤ) → cyclotomic_value k (v ∷ zeros 41) ≡ cyclotomic_value k (v ∷ [])
   constant_value v = value_of-padded (cyclotomic k) (v ∷ []) 41
@@ -99,8 +104,8 @@ module _ (k : ℕ) (entry : is_conductor k ≡ true) where
   negative_array xs a =
       let zeros_array : is_array k (zeros 42) ≡ true = constant_array (pos 0) in
       difference_array (zeros 42) xs zeros_array a
-          ∙ ap (λ z. array_of (value_sum z (value_negative (cyclotomic_value k xs)))) zero_value
-          ∙ ap array_of (nought_sum (cyclotomic k) (value_negative (cyclotomic_value k xs)))
+      ∙ ap (λ z. array_of (value_sum z (value_negative (cyclotomic_value k xs)))) zero_value
+      ∙ ap array_of (nought_sum (cyclotomic k) (value_negative (cyclotomic_value k xs)))
 
 -- ---- whole numbers and single coefficients
 coefficient_padded : (p : List ℤ) (j i : ℕ) → coefficient (p ++ zeros j) i ≡ coefficient p i
@@ -136,8 +141,8 @@ module _ (k : ℕ) (entry : is_conductor k ≡ true) (xs : List ℤ) (array : is
   coefficient_at i =
       let u = cyclotomic_value k xs in
       sym (coefficient_get xs i)
-          ∙ ap (λ p. coefficient p i) (array-of_value k entry xs array)
-          ∙ coefficient_padded u.coefficients (42 - length u.coefficients) i
+      ∙ ap (λ p. coefficient p i) (array-of_value k entry xs array)
+      ∙ coefficient_padded u.coefficients (42 - length u.coefficients) i
 
   pub coefficient_beyond : (i : ℕ) → 42 ≤ i → pos 0 ≡ coefficient (cyclotomic_value k xs).coefficients i
   coefficient_beyond i h =
@@ -147,14 +152,14 @@ module _ (k : ℕ) (entry : is_conductor k ≡ true) (xs : List ℤ) (array : is
   pub whole_value : list_all is_nought (take 41 (drop 1 xs)) ≡ true → cyclotomic_value k xs ≡ cyclotomic_value k (get_or xs 0 (pos 0) ∷ [])
   whole_value all =
       ap (cyclotomic_value k) (one_and_rest xs (array_length k entry xs array) all)
-          ∙ constant_value k entry (get_or xs 0 (pos 0))
+      ∙ constant_value k entry (get_or xs 0 (pos 0))
 
   pub not_whole : list_all is_nought (take 41 (drop 1 xs)) ≡ false → (v : ℤ) → cyclotomic_value k xs ≡ cyclotomic_value k (v ∷ []) → ⊥
   not_whole some v e =
       let is : xs ≡ v ∷ zeros 41 =
-          array-of_value k entry xs array
-              ∙ ap array_of (e ∙ sym (constant_value k entry v))
-              ∙ sym (array-of_value k entry (v ∷ zeros 41) (constant_array k entry v)) in
+      array-of_value k entry xs array
+      ∙ ap array_of (e ∙ sym (constant_value k entry v))
+      ∙ sym (array-of_value k entry (v ∷ zeros 41) (constant_array k entry v)) in
       let clash : true ≡ false = sym (ap (λ z. list_all is_nought (take 41 (drop 1 z))) is) ∙ some in
       cc
 
@@ -162,3 +167,20 @@ module _ (k : ℕ) (entry : is_conductor k ≡ true) (xs : List ℤ) (array : is
 pub array_test : (k : ℕ) (xs : List ℤ) → length xs ≡ 42 → list_all is_nought (drop (phi_of k) xs) ≡ is_array k xs
 unfolding is_array
 array_test k xs e = sym (ap (λ b. b && list_all is_nought (drop (phi_of k) xs)) (eq-eqb (length xs) 42 e))
+
+-- a negative fits where its value does
+pub negative_fits : (k : ℕ) → is_conductor k ≡ true → (xs : List ℤ) → is_array k xs ≡ true → is_small xs ≡ true → value_fits (value_negative (cyclotomic_value k xs)) ≡ true
+unfolding value_fits value_multiple
+negative_fits k entry xs array small =
+    let u = cyclotomic_value k xs in
+    le-leb (value_size (value_negative u)) greatest_magnitude
+    (omega (arith, size-scaled (negsuc 0) u.coefficients, size-value k entry xs array, small_means xs small))
+
+-- arrays that stand for one value are one
+pub arrays_same : (k : ℕ) → is_conductor k ≡ true → (xs ys : List ℤ) → is_array k xs ≡ true → is_array k ys ≡ true → cyclotomic_value k xs ≡ cyclotomic_value k ys → xs ≡ ys
+arrays_same k entry xs ys a b e =
+    array-of_value k entry xs a ∙ ap array_of e ∙ sym (array-of_value k entry ys b)
+
+pub scaled_by_power : (k : ℕ) → is_conductor k ≡ true → (e : ℕ) (u : CyclotomicValue k) → value_product (cyclotomic k) (root k (e % k)) u ≡ value_product (cyclotomic k) (power (cyclotomic_ring k) (root k 1) e) u
+scaled_by_power k entry e u =
+    ap (λ r. value_product (cyclotomic k) r u) (sym (root_modulo k entry e) ∙ sym (power-root (cyclotomic k) e))

@@ -12,7 +12,6 @@ pub mod ValueOutcomeLaws
 pub mod BufferLaws
 pub mod RowSteps
 pub mod ReduceLaws
-pub mod ReductionSigns
 pub mod SpreadLaws
 pub mod ProductLaws
 pub mod CycLaws

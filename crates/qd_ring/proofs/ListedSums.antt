@@ -9,6 +9,7 @@ use Rattle.std.proofs.lemmas.Bool.{or_right}
 use Rattle.std.proofs.lemmas.List.FromFn.{take-map-range_with_len}
 use Rattle.scan.specs.First.{all_below}
 use Rattle.scan.proofs.Places.{all_below-fails}
+use mathlib.Core.Path.{ap₂}
 use Rattle.algebra.specs.Structures.{CommRing}
 use Rattle.algebra.specs.Sums.{sum_list, sum_below}
 use Rattle.algebra.proofs.SumLaws.{sum_list_push, sum_list_range, sum_ext, sum_suc}
@@ -48,9 +49,9 @@ module _ {A : Type 0} (R : CommRing A) (rules : FitRules R) (n : ℕ) (steps_fit
       ∙ ap (λ k. sum_below R k value) (add-one i) ∙ sum_suc R i value
 
   -- a partial sum that doesn't fit
-  pub overflow_by_size : rules.fits (R.add (sum_below R i value) (value i)) ≡ false → sum_overflows R rules n steps_fit value ≡ true
+  pub overflow_by_size : (s a : A) → s ≡ sum_below R i value → a ≡ value i → rules.fits (R.add s a) ≡ false → sum_overflows R rules n steps_fit value ≡ true
   unfolding sum_overflows
-  overflow_by_size unfit = shown (rules.overflows (map value (range_with_len 0 n))) refl
+  overflow_by_size s a sum term unfit = shown (rules.overflows (map value (range_with_len 0 n))) refl
     where
       shown : (b : Bool) → rules.overflows (map value (range_with_len 0 n)) ≡ b → (not (all_below n steps_fit) || rules.overflows (map value (range_with_len 0 n))) ≡ true
       shown true o = or_right (not (all_below n steps_fit)) (rules.overflows (map value (range_with_len 0 n))) o
@@ -58,7 +59,11 @@ module _ {A : Type 0} (R : CommRing A) (rules : FitRules R) (n : ℕ) (steps_fit
           let parts : map value (range_with_len 0 n) ≡ map value (range_with_len 0 (i + 1)) ++ drop (i + 1) (map value (range_with_len 0 n)) =
           sym (take-append-drop (i + 1) (map value (range_with_len 0 n))) ∙ ap (λ xs. xs ++ drop (i + 1) (map value (range_with_len 0 n))) (take-map-range_with_len value 0 n (i + 1) (omega arith)) in
           let front = rules.front (map value (range_with_len 0 (i + 1))) (drop (i + 1) (map value (range_with_len 0 n))) (ap rules.overflows (sym parts) ∙ o) in
-          absurd (false≢true (sym unfit ∙ ap rules.fits (sym partial) ∙ rules.sum_fits (map value (range_with_len 0 (i + 1))) front))
+          absurd (false≢true (sym unfit ∙ ap rules.fits (ap₂ R.add sum term ∙ sym partial) ∙ rules.sum_fits (map value (range_with_len 0 (i + 1))) front))
+
+-- one more numbered term
+pub sum_below_more : {A : Type 0} (R : CommRing A) (value : ℕ → A) (i : ℕ) (s a : A) → s ≡ sum_below R i value → a ≡ value i → R.add s a ≡ sum_below R (i + 1) value
+sum_below_more R value i s a sum term = ap₂ R.add sum term ∙ sym (sum_suc R i value) ∙ ap (λ k. sum_below R k value) (sym (add-one i))
 
 -- what an answer that is there stands for
 pub term_stands : {E A : Type 0} (of : E → A) (steps_fit : Bool) (value : A) (answer : Option E) (a : E) → IsTerm of steps_fit value answer → answer ≡ Some a → of a ≡ value

@@ -1,4 +1,5 @@
 -- Products term by term, arrays of values, and what a zero buffer stands for.
+use Rattle.qd_ring.specs.ArrayLaws.{all_noughts, array_front, array_length, coefficients_of, value-front, value_of-padded, zeros_noughts}
 use Rattle.std.proofs.Common.{◌≡◌, ℕ, zero, suc, ◌+◌, ◌-◌, ◌*◌, ◌^◌, ◌≤◌, ◌<◌, Bool, true, false, List, [], ◌∷◌, ◌++◌, length, get_or, take, drop, refl, sym, ap, ◌∙◌, subst, arith, length-append, eqb-true, eq-eqb, ◌==◌, ◌&&◌}
 use Rattle.std.proofs.Math.Nat.{mul-le-mul_right}
 use Rattle.std.proofs.Math.Numerals.{add-one}
@@ -25,21 +26,9 @@ use Rattle.cyclotomic.proofs.Sizes.{total_of, size-cons, size-zeros}
 use Rattle.qd_ring.specs.CycArrays.{array_of, is_array, is_nought, is_small}
 use Rattle.qd_ring.proofs.BufferLaws.{value-take_suc}
 use Rattle.qd_ring.proofs.SpreadLaws.{product-multiple, total-take, total-take_suc}
-use Rattle.qd_ring.proofs.ReductionSigns.{conductor_bounds}
+use Rattle.qd_ring.specs.ReductionSigns.{conductor_bounds}
 
--- ---- zeros at the end
-act-padded : {V : Type 0} (M : LinearMap V) (p : List ℤ) (j : ℕ) (v : V) → act M (p ++ zeros j) v ≡ act M p v
-act-padded M [] j v = act-nothing M j v ∙ sym (act-nil M v)
-act-padded M (a ∷ p) j v =
-    act-cons M a (p ++ zeros j) v ∙ ap (λ z. M.add (M.scale a v) (M.map z)) (act-padded M p j v) ∙ sym (act-cons M a p v)
-
-pub value_of-padded : (m p : List ℤ) (j : ℕ) → value_of m (p ++ zeros j) ≡ value_of m p
-value_of-padded m p j =
-    value_of-act m (p ++ zeros j) ∙ act-padded (times_x m) p j (value_one m) ∙ sym (value_of-act m p)
-
-pub value_of-zeros : (m : List ℤ) (j : ℕ) → value_of m (zeros j) ≡ value_nought
-value_of-zeros m j = value_of-padded m [] j ∙ value_of-nil m
-
+-- ---- an empty buffer
 pub nought_sum : (m : List ℤ) (u : Value (degree m)) → value_sum value_nought u ≡ u
 nought_sum m u = sum_comm m value_nought u ∙ sum_nought m u
 
@@ -84,45 +73,7 @@ module _ (m xs : List ℤ) (w : Value (degree m)) where
           ∙ ap (value_sum old) (sym (product_more i h))
 
 -- ---- arrays
-pub all_noughts : (xs : List ℤ) → list_all is_nought xs ≡ true → xs ≡ zeros (length xs)
-all_noughts [] e = refl
-all_noughts (pos n ∷ xs) e =
-    ap₂ (λ x y. x ∷ y) (ap pos (eqb-true n 0 (and_left (n == 0) (list_all is_nought xs) e))) (all_noughts xs (and_right (n == 0) (list_all is_nought xs) e))
-all_noughts (negsuc n ∷ xs) e = cc
-
-pub zeros_noughts : (j : ℕ) → list_all is_nought (zeros j) ≡ true
-zeros_noughts zero = refl
-zeros_noughts (suc j) = zeros_noughts j
-
 module _ (k : ℕ) (entry : is_conductor k ≡ true) where
-  module _ (xs : List ℤ) (array : is_array k xs ≡ true) where
-    pub array_length : length xs ≡ 42
-    unfolding is_array
-    array_length = eqb-true (length xs) 42 (and_left (length xs == 42) (list_all is_nought (drop (phi_of k) xs)) array)
-
-    -- an array is its first phi(K) places, then zeros
-    pub array_parts : xs ≡ take (phi_of k) xs ++ zeros (length (drop (phi_of k) xs))
-    unfolding is_array
-    array_parts =
-        sym (take-append-drop (phi_of k) xs)
-            ∙ ap (λ z. take (phi_of k) xs ++ z) (all_noughts (drop (phi_of k) xs) (and_right (length xs == 42) (list_all is_nought (drop (phi_of k) xs)) array))
-
-    pub array_front : length (take (phi_of k) xs) ≡ phi_of k
-    array_front =
-        let bounds = conductor_bounds k entry in
-        length-take-le (phi_of k) xs (omega (arith, array_length, bounds.2))
-
-    -- the value of the array has its first places
-    pub value-front : cyclotomic_value k (take (phi_of k) xs) ≡ cyclotomic_value k xs
-    value-front =
-        sym (ap (value_of (cyclotomic k)) array_parts ∙ value_of-padded (cyclotomic k) (take (phi_of k) xs) (length (drop (phi_of k) xs)))
-
-    pub coefficients_of : (cyclotomic_value k xs).coefficients ≡ take (phi_of k) xs
-    unfolding value_of
-    coefficients_of =
-        ap (λ (v : CyclotomicValue k). v.coefficients) (sym value-front)
-            ∙ remainder-itself (cyclotomic k) (take (phi_of k) xs) (array_front ∙ sym (cyclotomic_degree k entry))
-
   pub length-value : (u : CyclotomicValue k) → length u.coefficients ≡ phi_of k
   length-value u = u.count ∙ cyclotomic_degree k entry
 

@@ -36,10 +36,11 @@ take_more n a xs = refl
 
 below_46 : (n : ℕ) → n * n < 2048 → n < 46
 below_46 n h = elim (dec_lt n 46) [
-    yes l ↦ l
+  | yes l ↦ l
   | no r ↦
       let least : 46 ≤ n = omega arith in
-      absurd (omega (arith, mul-le-mul least least)) ]
+      absurd (omega (arith, mul-le-mul least least))
+]
 
 module _ (k : ℕ) (entry : is_conductor k ≡ true) where
   -- the remainder of a polynomial is no greater than the sum of its magnitudes
@@ -48,7 +49,7 @@ module _ (k : ℕ) (entry : is_conductor k ≡ true) where
   remainder_size p =
       let m = cyclotomic k in
       let bound : value_size (value_of m p) ≤ total_of p * 1 =
-          subst (λ (v : Value (degree m)). value_size v ≤ total_of p * 1) (sym (value_of-act m p)) (size-act m p (value_one m) 1 (step_size k entry)) in
+      subst (λ (v : Value (degree m)). value_size v ≤ total_of p * 1) (sym (value_of-act m p)) (size-act m p (value_one m) 1 (step_size k entry)) in
       omega (arith, bound)
 
   pub small_phi : phi_of k < 46
@@ -59,9 +60,9 @@ module _ (k : ℕ) (entry : is_conductor k ≡ true) where
     pub window_is : take (suc (phi_of k)) (drop o b) ≡ get_or b0 o (pos 0) ∷ remainder (cyclotomic k) (drop (suc o) b0)
     window_is =
         let here : get_or b o (pos 0) ≡ get_or b0 o (pos 0) =
-            sym (get_or-take (suc o) b o (pos 0) (omega arith)) ∙ ap (λ z. get_or z o (pos 0)) below ∙ get_or-take (suc o) b0 o (pos 0) (omega arith) in
+        sym (get_or-take (suc o) b o (pos 0) (omega arith)) ∙ ap (λ z. get_or z o (pos 0)) below ∙ get_or-take (suc o) b0 o (pos 0) (omega arith) in
         ap (take (suc (phi_of k))) (drop-cons b o (pos 0) (omega arith))
-            ∙ ap₂ (λ x y. x ∷ y) here window
+        ∙ ap₂ (λ x y. x ∷ y) here window
 
     pub window_size : size_of (take (suc (phi_of k)) (drop o b)) ≤ total_of b0
     window_size =
@@ -76,7 +77,7 @@ module _ (k : ℕ) (entry : is_conductor k ≡ true) where
       unfolding cut
       length-cut =
           length-cancelled (cyclotomic k) (get_or b0 o (pos 0)) (remainder (cyclotomic k) (drop (suc o) b0)) (length-remainder (cyclotomic k) (drop (suc o) b0))
-              ∙ cyclotomic_degree k entry
+          ∙ cyclotomic_degree k entry
 
       changed_is : w ≡ cut ++ (c ∷ [])
       unfolding cut
@@ -89,25 +90,25 @@ module _ (k : ℕ) (entry : is_conductor k ≡ true) where
       pub step_below : take o (take o b ++ (w ++ rest)) ≡ take o b0
       step_below =
           ap (λ n. take n (take o b ++ (w ++ rest))) (sym front)
-              ∙ take-append_seam (take o b) (w ++ rest)
-              ∙ sym (take-take_suc o b) ∙ ap (take o) below ∙ take-take_suc o b0
+          ∙ take-append_seam (take o b) (w ++ rest)
+          ∙ sym (take-take_suc o b) ∙ ap (take o) below ∙ take-take_suc o b0
 
       pub step_window : take (phi_of k) (drop o (take o b ++ (w ++ rest))) ≡ remainder (cyclotomic k) (drop o b0)
       unfolding cut
       step_window =
           let long : o < length b0 = omega arith in
           ap (λ n. take (phi_of k) (drop n (take o b ++ (w ++ rest)))) (sym front)
-              ∙ ap (take (phi_of k)) (drop-append_seam (take o b) (w ++ rest))
-              ∙ ap (λ z. take (phi_of k) (z ++ rest)) changed_is
-              ∙ ap (take (phi_of k)) (append_assoc cut (c ∷ []) rest)
-              ∙ ap (λ n. take n (cut ++ ((c ∷ []) ++ rest))) (sym length-cut)
-              ∙ take-append_seam cut ((c ∷ []) ++ rest)
-              ∙ sym (remainder-cons (cyclotomic k) (get_or b0 o (pos 0)) (drop (suc o) b0))
-              ∙ ap (remainder (cyclotomic k)) (sym (drop-cons b0 o (pos 0) long))
+          ∙ ap (take (phi_of k)) (drop-append_seam (take o b) (w ++ rest))
+          ∙ ap (λ z. take (phi_of k) (z ++ rest)) changed_is
+          ∙ ap (take (phi_of k)) (append_assoc cut (c ∷ []) rest)
+          ∙ ap (λ n. take n (cut ++ ((c ∷ []) ++ rest))) (sym length-cut)
+          ∙ take-append_seam cut ((c ∷ []) ++ rest)
+          ∙ sym (remainder-cons (cyclotomic k) (get_or b0 o (pos 0)) (drop (suc o) b0))
+          ∙ ap (remainder (cyclotomic k)) (sym (drop-cons b0 o (pos 0) long))
 
   -- the window at the upper end has its own remainder
   pub window_start : (b : List ℤ) (at : ℕ) → at + phi_of k ≡ length b → take (phi_of k) (drop at b) ≡ remainder (cyclotomic k) (drop at b)
   window_start b at e =
       let long : length (drop at b) ≡ phi_of k = omega (arith, length-drop at b) in
       ap (λ n. take n (drop at b)) (sym long) ∙ take-length (drop at b)
-          ∙ sym (remainder-itself (cyclotomic k) (drop at b) (long ∙ sym (cyclotomic_degree k entry)))
+      ∙ sym (remainder-itself (cyclotomic k) (drop at b) (long ∙ sym (cyclotomic_degree k entry)))

@@ -26,7 +26,7 @@ use Rattle.qd_ring.proofs.BufferLaws.{act-take_suc, read_128}
 pub product-multiple : (m : List ℤ) (c : ℤ) (u v : Value (degree m)) → value_product m u (value_multiple c v) ≡ value_multiple c (value_product m u v)
 product-multiple m c u v =
     product-act m u (value_multiple c v) ∙ act-scale (times_x m) u.coefficients c v
-        ∙ ap (value_multiple c) (sym (product-act m u v))
+    ∙ ap (value_multiple c) (sym (product-act m u v))
 
 pub product-nought : (m : List ℤ) (u : Value (degree m)) → value_product m u value_nought ≡ value_nought
 product-nought m u = product-act m u value_nought ∙ act-nought (times_x m) u.coefficients
@@ -36,10 +36,10 @@ pub value-at_power_suc : (m xs : List ℤ) (t j : ℕ) → j < length xs → val
 value-at_power_suc m xs t j h =
     let M = times_x m in
     value_of-act m (at_power t (take (suc j) xs))
-        ∙ act-at_power M t (take (suc j) xs) (value_one m)
-        ∙ act-take_suc (map_power M t) xs j (value_one m) h
-        ∙ ap₂ value_sum (sym (act-at_power M t (take j xs) (value_one m)) ∙ sym (value_of-act m (at_power t (take j xs))))
-            (ap (value_multiple (get_or xs j (pos 0))) (iterate-power M t j (value_one m) ∙ sym (root_steps m (t * j))))
+    ∙ act-at_power M t (take (suc j) xs) (value_one m)
+    ∙ act-take_suc (map_power M t) xs j (value_one m) h
+    ∙ ap₂ value_sum (sym (act-at_power M t (take j xs) (value_one m)) ∙ sym (value_of-act m (at_power t (take j xs))))
+    (ap (value_multiple (get_or xs j (pos 0))) (iterate-power M t j (value_one m) ∙ sym (root_steps m (t * j))))
 
 pub at_power-nil : (t : ℕ) → at_power t [] ≡ []
 unfolding at_power
@@ -74,8 +74,8 @@ module _ (k : ℕ) (entry : is_conductor k ≡ true) (start t : ℕ) (xs : List 
   pub spread_none : spread_by 0 ≡ value_nought
   spread_none =
       ap (λ p. value_product (cyclotomic k) (root k start) (value_of (cyclotomic k) p)) (at_power-nil t)
-          ∙ ap (value_product (cyclotomic k) (root k start)) (value_of-nil (cyclotomic k))
-          ∙ product-nought (cyclotomic k) (root k start)
+      ∙ ap (value_product (cyclotomic k) (root k start)) (value_of-nil (cyclotomic k))
+      ∙ product-nought (cyclotomic k) (root k start)
 
   pub spread_more : (i place : ℕ) → i < length xs → place ≡ (start + t * i) % k → spread_by (i + 1) ≡ value_sum (spread_by i) (value_multiple (get_or xs i (pos 0)) (root k place))
   spread_more i place h e =
@@ -83,20 +83,20 @@ module _ (k : ℕ) (entry : is_conductor k ≡ true) (start t : ℕ) (xs : List 
       let r = root k start in
       let a = get_or xs i (pos 0) in
       ap (λ n. value_product m r (value_of m (at_power t (take n xs)))) (add-one i)
-          ∙ ap (value_product m r) (value-at_power_suc m xs t i h)
-          ∙ product_sum m r (value_of m (at_power t (take i xs))) (value_multiple a (root k (t * i)))
-          ∙ ap (value_sum (value_product m r (value_of m (at_power t (take i xs)))))
-              (product-multiple m a r (root k (t * i))
-                  ∙ ap (value_multiple a)
-                      (sym (root-sum m start (t * i)) ∙ root_modulo k entry (start + t * i) ∙ ap (root k) (sym e)))
+      ∙ ap (value_product m r) (value-at_power_suc m xs t i h)
+      ∙ product_sum m r (value_of m (at_power t (take i xs))) (value_multiple a (root k (t * i)))
+      ∙ ap (value_sum (value_product m r (value_of m (at_power t (take i xs)))))
+      (product-multiple m a r (root k (t * i))
+      ∙ ap (value_multiple a)
+      (sym (root-sum m start (t * i)) ∙ root_modulo k entry (start + t * i) ∙ ap (root k) (sym e)))
 
   -- one step of the loop
   pub spread_step : (old now next : CyclotomicValue k) (i place : ℕ) → i < length xs → place ≡ (start + t * i) % k → now ≡ value_sum old (spread_by i) → next ≡ value_sum now (value_multiple (get_or xs i (pos 0)) (root k place)) → next ≡ value_sum old (spread_by (i + 1))
   spread_step old now next i place h e before is =
       let added = value_multiple (get_or xs i (pos 0)) (root k place) in
       is ∙ ap (λ z. value_sum z added) before
-          ∙ sum_assoc (cyclotomic k) old (spread_by i) added
-          ∙ ap (value_sum old) (sym (spread_more i place h e))
+      ∙ sum_assoc (cyclotomic k) old (spread_by i) added
+      ∙ ap (value_sum old) (sym (spread_more i place h e))
 
   pub spread_all : spread_by (length xs) ≡ value_product (cyclotomic k) (root k start) (cyclotomic_value k (at_power t xs))
   spread_all = ap (λ p. value_product (cyclotomic k) (root k start) (cyclotomic_value k (at_power t p))) (take-length xs)
@@ -106,14 +106,14 @@ pub value-at_power_one : (m p : List ℤ) → value_of m (at_power 1 p) ≡ valu
 unfolding iterate
 value-at_power_one m p =
     value_of-act m (at_power 1 p) ∙ act-at_power (times_x m) 1 p (value_one m) ∙ same p
-        ∙ sym (value_of-act m p)
+    ∙ sym (value_of-act m p)
   where
-  same : (q : List ℤ) → act (map_power (times_x m) 1) q (value_one m) ≡ act (times_x m) q (value_one m)
-  same [] = act-nil (map_power (times_x m) 1) (value_one m) ∙ sym (act-nil (times_x m) (value_one m))
-  same (a ∷ q) =
-      act-cons (map_power (times_x m) 1) a q (value_one m)
-          ∙ ap (λ z. value_sum (value_multiple a (value_one m)) ((times_x m).map z)) (same q)
-          ∙ sym (act-cons (times_x m) a q (value_one m))
+    same : (q : List ℤ) → act (map_power (times_x m) 1) q (value_one m) ≡ act (times_x m) q (value_one m)
+    same [] = act-nil (map_power (times_x m) 1) (value_one m) ∙ sym (act-nil (times_x m) (value_one m))
+    same (a ∷ q) =
+        act-cons (map_power (times_x m) 1) a q (value_one m)
+        ∙ ap (λ z. value_sum (value_multiple a (value_one m)) ((times_x m).map z)) (same q)
+        ∙ sym (act-cons (times_x m) a q (value_one m))
 
 -- ---- a multiple of a polynomial, times a power of x
 module _ (k : ℕ) (entry : is_conductor k ≡ true) (start : ℕ) (c : ℤ) (xs : List ℤ) where
@@ -129,15 +129,15 @@ module _ (k : ℕ) (entry : is_conductor k ≡ true) (start : ℕ) (c : ℤ) (xs
       let M = times_x (cyclotomic k) in
       let a = get_or xs i (pos 0) in
       is ∙ ap₂ value_sum before (M.scale_product c a (root k place))
-          ∙ sum_assoc (cyclotomic k) old (multiple_by i) (value_multiple c (value_multiple a (root k place)))
-          ∙ ap (value_sum old)
-              (sym (M.scale_add c (spread_by k entry start 1 xs i) (value_multiple a (root k place)))
-                  ∙ ap (value_multiple c) (sym (spread_more k entry start 1 xs i place h e)))
+      ∙ sum_assoc (cyclotomic k) old (multiple_by i) (value_multiple c (value_multiple a (root k place)))
+      ∙ ap (value_sum old)
+      (sym (M.scale_add c (spread_by k entry start 1 xs i) (value_multiple a (root k place)))
+      ∙ ap (value_multiple c) (sym (spread_more k entry start 1 xs i place h e)))
 
   pub multiple_all : multiple_by (length xs) ≡ value_multiple c (value_product (cyclotomic k) (root k start) (cyclotomic_value k xs))
   multiple_all =
       ap (value_multiple c)
-          (spread_all k entry start 1 xs ∙ ap (value_product (cyclotomic k) (root k start)) (value-at_power_one (cyclotomic k) xs))
+      (spread_all k entry start 1 xs ∙ ap (value_product (cyclotomic k) (root k start)) (value-at_power_one (cyclotomic k) xs))
 
 -- ---- the product of a factor and a coefficient
 module _ (f : ℤ) (xs : List ℤ) (i : ℕ) (here : i < length xs) (x_fits : SFits w128 (get_or xs i (pos 0))) where

@@ -9,7 +9,6 @@ ghost use Rattle.cyclotomic.specs.Fit.{size_of};
 ghost use Rattle.cyclotomic.specs.Ring.{value_of, value_sum, value_multiple, value_product, value_root};
 ghost use Rattle.cyclotomic.specs.CyclotomicRing.{cyclotomic_value, galois_image, root};
 ghost use Rattle.cyclotomic.proofs.Sizes.{total_of};
-
 ghost use Rattle.qd_ring.specs.CycArrays.{array_of, is_array, is_nought};
 ghost use Rattle.std.specs.List.{list_all};
 

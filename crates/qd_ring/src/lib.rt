@@ -3,7 +3,9 @@
 
 mod cyc;
 mod cyc_buffer;
-mod memory;
+mod cyc_ops;
+mod cyc_ring;
+mod cyc_ring_laws;
 mod plain;
 mod reduction;
 mod ring;
@@ -16,7 +18,7 @@ mod value_reader;
 mod value_text;
 
 pub use cyc::Cyc;
-pub use memory::Memory;
+pub use cyc_ring::CycRing;
 pub use plain::{Plain, ValueFault};
 pub use ring::Ring;
 pub use root::Root;
@@ -26,3 +28,5 @@ pub use sum::{root_of, try_sum, try_sum_below, try_term};
 pub use unit_group::UnitGroup;
 pub use value_reader::read_plain;
 pub use value_text::append_plain;
+/// There was no memory for what was asked. Nothing that was lent has changed.
+pub use std::alloc::AllocError as Memory;

@@ -2,8 +2,8 @@ ghost use Rattle.std.specs.Prelude.{◌≡◌, ◌+◌, ◌-◌, ◌^◌, ◌<�
 ghost use Rattle.cyclotomic.specs.Conductors.{is_conductor};
 ghost use Rattle.qd_ring.specs.RowLists.{row_at, with_value};
 
+use crate::Memory;
 use crate::cyc::Cyc;
-use crate::memory::Memory;
 use std::alloc::Global;
 use std::marker::Model;
 

@@ -29,13 +29,13 @@ pub enum Part {
 #[derive(Clone, Copy, PartialEq, Eq, Hash, Debug)]
 pub struct Site {
     pub part: Part,
-    /// In a check of a table, and of an indicator, a tensor character and an inner product: the representative of the class,
-    /// the simple, the element g, the simple k. Else 0.
+    /// The representative of the class in the clauses of a table, the element g of a full or tensor character at (g, x), the
+    /// simple k of an inner product with k or of its indicator.
     pub at: u32,
-    /// A row or a simple.
+    /// The first row or simple.
     pub i: u32,
-    /// A row, a simple, or an element of the group in the clauses Central and Column.
+    /// The second row or simple; in the clauses Central and Column the element y of the group.
     pub j: u32,
-    /// An element of the group.
+    /// The element x of the group.
     pub x: u32,
 }

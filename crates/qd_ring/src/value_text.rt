@@ -1,7 +1,7 @@
 ghost use Rattle.std.specs.Prelude.{◌≡◌, ◌<◌, ◌++◌, nat_abs, int_lt, false, ℤ, pos, length, take, OnOk, OnErr};
 ghost use Rattle.qd_ring.specs.ValueText.{sign_text, power_text, term_text, terms_text, value_text, numeral};
 
-use crate::memory::Memory;
+use crate::Memory;
 use crate::plain::Plain;
 use itoa::Buffer;
 

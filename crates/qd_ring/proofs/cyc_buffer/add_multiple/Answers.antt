@@ -22,7 +22,7 @@ loop-a-init c =
       below = c.requires.start;
       place = place_start c.args.k c.args.start 1 c.requires.start;
       value = sym (ap (value_sum old) (multiple_none c.args.k c.requires.conductor c.args.start (to_z w128 (of_z w128 c.args.factor)) c.args.coefficients.now) ∙ sum_nought (cyclotomic c.args.k) old);
-      total = omega arith
+      total = omega arith;
     }
 
 pub overflow_mul-factor : goal.overflow_mul-factor
@@ -49,7 +49,7 @@ add_at-requires-clause-room c =
     subst (λ z. total_of c.loop-a.buffer + nat_abs z < 2 ^ 126)
     (sym (factor_written f xs i c.loop-a-test.true x_fits room))
     (omega
-        (arith, c.loop-a.invariant.total, whole, factor_total f xs i c.loop-a-test.true x_fits, factor_most f xs i c.loop-a-test.true x_fits))
+    (arith, c.loop-a.invariant.total, whole, factor_total f xs i c.loop-a-test.true x_fits, factor_most f xs i c.loop-a-test.true x_fits))
 
 pub loop-a-preserved : goal.loop-a-preserved
 loop-a-preserved c =
@@ -64,15 +64,15 @@ loop-a-preserved c =
     let room : nat_abs f * total_of xs < 2 ^ 126 = omega (arith, whole) in
     let written = factor_written f xs i c.loop-a-test.true x_fits room in
     let suc_is : nat_abs f * total_of (take (i + 1) xs) ≡ nat_abs f * total_of (take (suc i) xs) =
-        ap (λ n. nat_abs f * total_of (take n xs)) (add-one i) in
+    ap (λ n. nat_abs f * total_of (take n xs)) (add-one i) in
     let next : cyclotomic_value k c.add_at.new.buffer ≡ value_sum (cyclotomic_value k c.loop-a.buffer) (value_multiple (f *ℤ get_or xs i (pos 0)) (root k c.loop-a.place)) =
-        c.add_at.ensures.value (cyclotomic k)
-            ∙ ap (λ z. value_sum (cyclotomic_value k c.loop-a.buffer) (value_multiple z (root k c.loop-a.place))) written in
+    c.add_at.ensures.value (cyclotomic k)
+    ∙ ap (λ z. value_sum (cyclotomic_value k c.loop-a.buffer) (value_multiple z (root k c.loop-a.place))) written in
     record {
       below = mod-lt (c.loop-a.place + 1) (conductor_positive k c.requires.conductor);
       place = place_next k c.args.start 1 i c.loop-a.place c.loop-a.invariant.place;
       value = multiple_step k c.requires.conductor c.args.start f xs old (cyclotomic_value k c.loop-a.buffer) (cyclotomic_value k c.add_at.new.buffer) i c.loop-a.place c.loop-a-test.true c.loop-a.invariant.place c.loop-a.invariant.value next;
-      total = omega (arith, c.add_at.ensures.total, ap nat_abs written, factor_total f xs i c.loop-a-test.true x_fits, suc_is, c.loop-a.invariant.total)
+      total = omega (arith, c.add_at.ensures.total, ap nat_abs written, factor_total f xs i c.loop-a-test.true x_fits, suc_is, c.loop-a.invariant.total);
     }
 
 pub returns-clause-value : goal.returns-clause-value
@@ -83,6 +83,6 @@ returns-clause-value c =
     let plain : f ≡ c.args.factor = to_z-of_z w128 c.args.factor c.ranges.factor in
     let ended : c.loop-a.a-index ≡ length xs = omega (arith, c.loop-a-test.false, c.loop-a.auto.a-index-end) in
     c.loop-a.invariant.value
-        ∙ ap (λ n. value_sum (cyclotomic_value k c.args.buffer.now) (multiple_by k c.requires.conductor c.args.start f xs n)) ended
-        ∙ ap (value_sum (cyclotomic_value k c.args.buffer.now)) (multiple_all k c.requires.conductor c.args.start f xs)
-        ∙ ap (λ z. value_sum (cyclotomic_value k c.args.buffer.now) (value_multiple z (value_product (cyclotomic k) (root k c.args.start) (cyclotomic_value k xs)))) plain
+    ∙ ap (λ n. value_sum (cyclotomic_value k c.args.buffer.now) (multiple_by k c.requires.conductor c.args.start f xs n)) ended
+    ∙ ap (value_sum (cyclotomic_value k c.args.buffer.now)) (multiple_all k c.requires.conductor c.args.start f xs)
+    ∙ ap (λ z. value_sum (cyclotomic_value k c.args.buffer.now) (value_multiple z (value_product (cyclotomic k) (root k c.args.start) (cyclotomic_value k xs)))) plain

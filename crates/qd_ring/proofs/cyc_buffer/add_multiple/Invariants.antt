@@ -12,5 +12,5 @@ invariant-loop-a l = record {
   below : l.place < l.k;
   place : l.place ≡ (l.start + 1 * l.a-index) % l.k;
   value : cyclotomic_value l.k l.buffer ≡ value_sum (cyclotomic_value l.k l.initial.buffer) (value_multiple l.fn.factor (value_product (cyclotomic l.k) (root l.k l.start) (cyclotomic_value l.k (at_power 1 (take l.a-index l.coefficients)))));
-  total : total_of l.buffer ≤ total_of l.initial.buffer + nat_abs l.fn.factor * total_of (take l.a-index l.coefficients)
+  total : total_of l.buffer ≤ total_of l.initial.buffer + nat_abs l.fn.factor * total_of (take l.a-index l.coefficients);
 }

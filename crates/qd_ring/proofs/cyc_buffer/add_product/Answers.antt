@@ -20,7 +20,7 @@ loop-factor-init c =
     record {
       power = refl;
       value = sym (ap (value_sum old) (product_none m c.args.a.now (cyclotomic_value c.args.k c.args.b.now)) ∙ sum_nought m old);
-      total = omega arith
+      total = omega arith;
     }
 
 pub add_multiple-requires-clause-room : goal.add_multiple-requires-clause-room
@@ -31,7 +31,7 @@ add_multiple-requires-clause-room c =
     let fits : SFits w128 (get_or xs i (pos 0)) = search rules in
     subst (λ z. total_of c.loop-factor.buffer + nat_abs z * t < 2 ^ 126) (sym (to_z-of_z w128 (get_or xs i (pos 0)) fits))
     (omega
-        (arith, c.loop-factor.invariant.total, c.requires.room, product_total xs i t c.loop-factor-test.true, product_most xs (i + 1) t))
+    (arith, c.loop-factor.invariant.total, c.requires.room, product_total xs i t c.loop-factor-test.true, product_most xs (i + 1) t))
 
 pub loop-factor-preserved : goal.loop-factor-preserved
 loop-factor-preserved c =
@@ -48,17 +48,18 @@ loop-factor-preserved c =
     let read : to_z w128 (of_z w128 a) ≡ a = to_z-of_z w128 a fits in
     let more = product_total xs i t c.loop-factor-test.true in
     elim c.if-factor-ne0.branch [
-      then-factor-ne0 b ↦ record {
-          power = ap (λ n. n + 1) c.loop-factor.invariant.power;
-          value = ap (cyclotomic_value k) b.buffer-is
-              ∙ product_step m xs w old now (cyclotomic_value k b.add_multiple.new.buffer) i c.loop-factor-test.true c.loop-factor.invariant.value
-                  (b.add_multiple.ensures.value
-                      ∙ ap₂ (λ x y. value_sum now (value_multiple x (value_product m (root k y) w))) read c.loop-factor.invariant.power);
-          total = omega (arith, ap total_of b.buffer-is, b.add_multiple.ensures.total, ap (λ x. nat_abs x * t) read, more, c.loop-factor.invariant.total)
-        }
-    | else-factor-ne0 b ↦ record {
-          power = ap (λ n. n + 1) c.loop-factor.invariant.power;
-          value = ap (cyclotomic_value k) b.buffer-is ∙ c.loop-factor.invariant.value
-              ∙ ap (value_sum old) (sym (product_skip m xs w i c.loop-factor-test.true (sym read ∙ ap (to_z w128) b.if-factor-ne0.false)));
-          total = omega (arith, ap total_of b.buffer-is, more, c.loop-factor.invariant.total)
-        } ]
+      | then-factor-ne0 b ↦ record {
+        power = ap (λ n. n + 1) c.loop-factor.invariant.power;
+        value = ap (cyclotomic_value k) b.buffer-is
+            ∙ product_step m xs w old now (cyclotomic_value k b.add_multiple.new.buffer) i c.loop-factor-test.true c.loop-factor.invariant.value
+            (b.add_multiple.ensures.value
+            ∙ ap₂ (λ x y. value_sum now (value_multiple x (value_product m (root k y) w))) read c.loop-factor.invariant.power);
+        total = omega (arith, ap total_of b.buffer-is, b.add_multiple.ensures.total, ap (λ x. nat_abs x * t) read, more, c.loop-factor.invariant.total);
+      }
+      | else-factor-ne0 b ↦ record {
+        power = ap (λ n. n + 1) c.loop-factor.invariant.power;
+        value = ap (cyclotomic_value k) b.buffer-is ∙ c.loop-factor.invariant.value
+            ∙ ap (value_sum old) (sym (product_skip m xs w i c.loop-factor-test.true (sym read ∙ ap (to_z w128) b.if-factor-ne0.false)));
+        total = omega (arith, ap total_of b.buffer-is, more, c.loop-factor.invariant.total);
+      }
+    ]

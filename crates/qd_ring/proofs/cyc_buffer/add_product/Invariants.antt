@@ -10,5 +10,5 @@ abbrev pub invariant-loop-factor : goal.invariant-loop-factor
 invariant-loop-factor l = record {
   power : l.power ≡ l.factor-index;
   value : cyclotomic_value l.k l.buffer ≡ value_sum (cyclotomic_value l.k l.initial.buffer) (value_product (cyclotomic l.k) (cyclotomic_value l.k (take l.factor-index l.a)) (cyclotomic_value l.k l.b));
-  total : total_of l.buffer ≤ total_of l.initial.buffer + total_of (take l.factor-index l.a) * total_of l.b
+  total : total_of l.buffer ≤ total_of l.initial.buffer + total_of (take l.factor-index l.a) * total_of l.b;
 }

@@ -42,7 +42,7 @@ returns c =
     let plain : s ≡ c.args.sign = to_z-of_z w8 c.args.sign c.ranges.sign in
     let ended : c.loop-j.j ≡ length c.args.b.now = omega arith in
     c.loop-j.invariant
-        ∙ ap (λ n. mixed s (take n c.args.b.now) c.args.a.now) ended
-        ∙ ap (λ z. mixed s z c.args.a.now) (take-length c.args.b.now)
-        ∙ mixed-sum s c.args.b.now c.args.a.now c.requires.same
-        ∙ ap (λ z. plus c.args.a.now (scaled (neg_ℤ z) c.args.b.now)) plain
+    ∙ ap (λ n. mixed s (take n c.args.b.now) c.args.a.now) ended
+    ∙ ap (λ z. mixed s z c.args.a.now) (take-length c.args.b.now)
+    ∙ mixed-sum s c.args.b.now c.args.a.now c.requires.same
+    ∙ ap (λ z. plus c.args.a.now (scaled (neg_ℤ z) c.args.b.now)) plain

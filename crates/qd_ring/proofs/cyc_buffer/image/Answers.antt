@@ -1,4 +1,5 @@
 -- The image of the first phi(K) places.
+use Rattle.qd_ring.specs.ArrayLaws.{array_front, value-front}
 use Rattle.std.proofs.Common.{◌≡◌, ◌+◌, ◌-◌, ◌*◌, ◌^◌, ◌<◌, ◌≤◌, ◌++◌, length, take, ap, sym, subst, ◌∙◌, refl, arith}
 use Rattle.std.proofs.Math.Nat.{mul-le-mul}
 use mathlib.Core.Path.{ap₂}
@@ -10,9 +11,9 @@ use Rattle.cyclotomic.specs.CyclotomicRing.{cyclotomic_value, root}
 use Rattle.cyclotomic.proofs.Checks.{reduction_length}
 use Rattle.cyclotomic.proofs.Sizes.{total_of}
 use Rattle.qd_ring.specs.CycArrays.{array_of}
-use Rattle.qd_ring.proofs.ReductionSigns.{conductor_bounds}
+use Rattle.qd_ring.specs.ReductionSigns.{conductor_bounds}
 use Rattle.qd_ring.proofs.SpreadLaws.{total-take}
-use Rattle.qd_ring.proofs.ProductLaws.{array_front, value-front, image-front, empty_front, empty_length}
+use Rattle.qd_ring.proofs.ProductLaws.{image-front, empty_front, empty_length}
 use Rattle.qd_ring.proofs.cyc_buffer.image.Goals as goal
 
 pub slice_bounds-buffer-end : goal.slice_bounds-buffer-end
@@ -38,5 +39,5 @@ returns c =
     let k = c.args.k in
     let count = ap length c.reduction-phi.ensures ∙ reduction_length k c.requires.conductor in
     c.reduced_image.ensures
-        ∙ ap (λ n. array_of (value_product (cyclotomic k) (root k c.args.start) (cyclotomic_value k (at_power c.args.stride (take n c.args.a.now))))) count
-        ∙ ap (λ u. array_of (value_product (cyclotomic k) (root k c.args.start) u)) (image-front k c.requires.conductor c.args.stride c.args.a.now c.requires.array)
+    ∙ ap (λ n. array_of (value_product (cyclotomic k) (root k c.args.start) (cyclotomic_value k (at_power c.args.stride (take n c.args.a.now))))) count
+    ∙ ap (λ u. array_of (value_product (cyclotomic k) (root k c.args.start) u)) (image-front k c.requires.conductor c.args.stride c.args.a.now c.requires.array)

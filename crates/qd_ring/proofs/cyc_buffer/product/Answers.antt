@@ -1,4 +1,5 @@
 -- The product of the first phi(K) places.
+use Rattle.qd_ring.specs.ArrayLaws.{array_front, value-front}
 use Rattle.std.proofs.Common.{◌≡◌, ◌+◌, ◌-◌, ◌*◌, ◌^◌, ◌<◌, ◌≤◌, ◌++◌, length, take, ap, sym, subst, ◌∙◌, refl, arith}
 use Rattle.std.proofs.Math.Nat.{mul-le-mul}
 use mathlib.Core.Path.{ap₂}
@@ -10,9 +11,9 @@ use Rattle.cyclotomic.specs.CyclotomicRing.{cyclotomic_value, root}
 use Rattle.cyclotomic.proofs.Checks.{reduction_length}
 use Rattle.cyclotomic.proofs.Sizes.{total_of}
 use Rattle.qd_ring.specs.CycArrays.{array_of}
-use Rattle.qd_ring.proofs.ReductionSigns.{conductor_bounds}
+use Rattle.qd_ring.specs.ReductionSigns.{conductor_bounds}
 use Rattle.qd_ring.proofs.SpreadLaws.{total-take}
-use Rattle.qd_ring.proofs.ProductLaws.{array_front, value-front, image-front, empty_front, empty_length}
+use Rattle.qd_ring.proofs.ProductLaws.{image-front, empty_front, empty_length}
 use Rattle.qd_ring.proofs.cyc_buffer.product.Goals as goal
 
 pub slice_bounds-buffer-end : goal.slice_bounds-buffer-end
@@ -45,5 +46,5 @@ returns c =
     let k = c.args.k in
     let count = ap length c.reduction-phi.ensures ∙ reduction_length k c.requires.conductor in
     c.reduced_product.ensures
-        ∙ ap (λ n. array_of (value_product (cyclotomic k) (cyclotomic_value k (take n c.args.a.now)) (cyclotomic_value k (take n c.args.b.now)))) count
-        ∙ ap₂ (λ u v. array_of (value_product (cyclotomic k) u v)) (value-front k c.requires.conductor c.args.a.now c.requires.a_array) (value-front k c.requires.conductor c.args.b.now c.requires.b_array)
+    ∙ ap (λ n. array_of (value_product (cyclotomic k) (cyclotomic_value k (take n c.args.a.now)) (cyclotomic_value k (take n c.args.b.now)))) count
+    ∙ ap₂ (λ u v. array_of (value_product (cyclotomic k) u v)) (value-front k c.requires.conductor c.args.a.now c.requires.a_array) (value-front k c.requires.conductor c.args.b.now c.requires.b_array)

@@ -12,5 +12,5 @@ abbrev pub invariant-loop-at : goal.invariant-loop-at
 invariant-loop-at l = record {
   inside : l.at + phi_of l.k ≤ length l.buffer;
   below : take l.at l.buffer ≡ take l.at l.initial.buffer;
-  window : take (phi_of l.k) (drop l.at l.buffer) ≡ remainder (cyclotomic l.k) (drop l.at l.initial.buffer)
+  window : take (phi_of l.k) (drop l.at l.buffer) ≡ remainder (cyclotomic l.k) (drop l.at l.initial.buffer);
 }

@@ -1,4 +1,5 @@
 -- From an empty buffer the value is what is added, and its remainder is copied.
+use Rattle.qd_ring.specs.ArrayLaws.{value_of-zeros}
 use Rattle.std.proofs.Common.{◌≡◌, ◌+◌, ◌-◌, ◌*◌, ◌^◌, ◌<◌, ◌≤◌, ◌++◌, length, take, ap, sym, subst, ◌∙◌, refl, arith}
 use Rattle.cyclotomic.specs.Polynomial.{at_power, zeros}
 use Rattle.cyclotomic.specs.Cyclotomic.{cyclotomic}
@@ -9,8 +10,8 @@ use Rattle.cyclotomic.specs.Laws.Polynomials.{length-zeros}
 use Rattle.cyclotomic.proofs.Checks.{reduction_length}
 use Rattle.cyclotomic.proofs.Sizes.{total_of}
 use Rattle.qd_ring.specs.CycArrays.{array_of}
-use Rattle.qd_ring.proofs.ReductionSigns.{conductor_bounds}
-use Rattle.qd_ring.proofs.ProductLaws.{total-zeros, value_of-zeros, nought_sum, array_of_remainder}
+use Rattle.qd_ring.specs.ReductionSigns.{conductor_bounds}
+use Rattle.qd_ring.proofs.ProductLaws.{total-zeros, nought_sum, array_of_remainder}
 use Rattle.qd_ring.proofs.cyc_buffer.reduced_product.Goals as goal
 
 pub add_product-requires-clause-size : goal.add_product-requires-clause-size
@@ -43,10 +44,10 @@ returns c =
     let count = ap length c.reduction.ensures ∙ reduction_length k c.requires.conductor in
     let added = value_product (cyclotomic k) (cyclotomic_value k c.args.a.now) (cyclotomic_value k c.args.b.now) in
     let value : cyclotomic_value k c.add_product.new.buffer ≡ added =
-        c.add_product.ensures.value
-            ∙ ap (λ z. value_sum z added) (ap (cyclotomic_value k) c.requires.empty ∙ value_of-zeros (cyclotomic k) k)
-            ∙ nought_sum (cyclotomic k) added in
+    c.add_product.ensures.value
+    ∙ ap (λ z. value_sum z added) (ap (cyclotomic_value k) c.requires.empty ∙ value_of-zeros (cyclotomic k) k)
+    ∙ nought_sum (cyclotomic k) added in
     c.first_places.ensures
-        ∙ ap (λ n. take n c.reduce.new.buffer ++ zeros (42 - n)) count
-        ∙ array_of_remainder k c.requires.conductor c.add_product.new.buffer (take (phi_of k) c.reduce.new.buffer) c.reduce.ensures
-        ∙ ap array_of value
+    ∙ ap (λ n. take n c.reduce.new.buffer ++ zeros (42 - n)) count
+    ∙ array_of_remainder k c.requires.conductor c.add_product.new.buffer (take (phi_of k) c.reduce.new.buffer) c.reduce.ensures
+    ∙ ap array_of value

@@ -12,7 +12,7 @@ use Rattle.cyclotomic.specs.Laws.Values.{sum_nought}
 use Rattle.cyclotomic.proofs.Checks.{conductor_positive}
 use Rattle.cyclotomic.proofs.Sizes.{total_of}
 use Rattle.qd_ring.proofs.BufferLaws.{read_128}
-use Rattle.qd_ring.proofs.ReductionSigns.{conductor_bounds}
+use Rattle.qd_ring.specs.ReductionSigns.{conductor_bounds}
 use Rattle.qd_ring.proofs.SpreadLaws.{spread_by, spread_none, spread_step, spread_all, place_start, place_next, total-take, total-take_suc}
 use Rattle.qd_ring.proofs.cyc_buffer.spread.Goals as goal
 
@@ -23,7 +23,7 @@ loop-a-init c =
       below = c.requires.start;
       place = place_start c.args.k c.args.start c.args.stride c.requires.start;
       value = sym (ap (value_sum old) (spread_none c.args.k c.requires.conductor c.args.start c.args.stride c.args.coefficients.now) ∙ sum_nought (cyclotomic c.args.k) old);
-      total = omega arith
+      total = omega arith;
     }
 
 pub add_at-requires-clause-room : goal.add_at-requires-clause-room
@@ -51,11 +51,11 @@ loop-a-preserved c =
     let read = read_128 (get_or xs i (pos 0)) (omega (arith, more, most, c.requires.room)) in
     let suc_is : total_of (take (i + 1) xs) ≡ total_of (take (suc i) xs) = ap (λ n. total_of (take n xs)) (add-one i) in
     let next : cyclotomic_value k c.add_at.new.buffer ≡ value_sum (cyclotomic_value k c.loop-a.buffer) (value_multiple (get_or xs i (pos 0)) (root k c.loop-a.place)) =
-        c.add_at.ensures.value (cyclotomic k)
-            ∙ ap (λ z. value_sum (cyclotomic_value k c.loop-a.buffer) (value_multiple z (root k c.loop-a.place))) read in
+    c.add_at.ensures.value (cyclotomic k)
+    ∙ ap (λ z. value_sum (cyclotomic_value k c.loop-a.buffer) (value_multiple z (root k c.loop-a.place))) read in
     record {
       below = mod-lt (c.loop-a.place + c.args.stride) (conductor_positive k c.requires.conductor);
       place = place_next k c.args.start c.args.stride i c.loop-a.place c.loop-a.invariant.place;
       value = spread_step k c.requires.conductor c.args.start c.args.stride xs old (cyclotomic_value k c.loop-a.buffer) (cyclotomic_value k c.add_at.new.buffer) i c.loop-a.place c.loop-a-test.true c.loop-a.invariant.place c.loop-a.invariant.value next;
-      total = omega (arith, c.add_at.ensures.total, ap nat_abs read, more, suc_is, c.loop-a.invariant.total)
+      total = omega (arith, c.add_at.ensures.total, ap nat_abs read, more, suc_is, c.loop-a.invariant.total);
     }

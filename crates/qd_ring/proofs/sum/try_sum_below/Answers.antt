@@ -1,9 +1,7 @@
-use Rattle.std.proofs.Common.{◌∙◌, ap, sym, arith}
-use Rattle.std.proofs.Math.Numerals.{add-one}
-use mathlib.Core.Path.{ap₂}
+use Rattle.std.proofs.Common.{ap, ◌∙◌, sym, arith}
 use Rattle.algebra.specs.Sums.{sum_below}
-use Rattle.algebra.proofs.SumLaws.{sum_zero, sum_suc}
-use Rattle.qd_ring.proofs.ListedSums.{overflow_by_step, overflow_by_size, term_stands, term_missing}
+use Rattle.algebra.proofs.SumLaws.{sum_zero}
+use Rattle.qd_ring.proofs.ListedSums.{overflow_by_step, overflow_by_size, sum_below_more, term_stands, term_missing}
 use Rattle.qd_ring.proofs.sum.try_sum_below.Goals as goal
 
 pub loop-i-init : goal.loop-i-init
@@ -19,20 +17,18 @@ returns-in_default-clause-overflow g c = λ steps_fit value each.
 
 pub returns-in_default-try_add-clause-overflow : goal.returns-in_default-try_add-clause-overflow
 returns-in_default-try_add-clause-overflow g c = λ steps_fit value each.
-    let stands = term_stands (g.R.Ring.of c.args.ring.now) (steps_fit c.loop-i.i) (value c.loop-i.i) c.term.result c.in-Some.next (each c.loop-i.i c.term.result c.loop-i-test.true c.term.ensures) c.in-Some.is in
     overflow_by_size (g.R.Ring.ops c.args.ring.now) (g.R.Ring.rules c.args.ring.now) c.args.n steps_fit value c.loop-i.i c.loop-i-test.true
-    (ap (λ a. (g.R.Ring.rules c.args.ring.now).fits a) (sym (ap₂ (λ a b. (g.R.Ring.ops c.args.ring.now).add a b) (c.loop-i.invariant.sum steps_fit value each) stands))
-    ∙ sym c.in_default-try_add.ensures.fits)
+    (g.R.Ring.of c.args.ring.now c.loop-i.sum) (g.R.Ring.of c.args.ring.now c.in-Some.next) (c.loop-i.invariant.sum steps_fit value each)
+    (term_stands (g.R.Ring.of c.args.ring.now) (steps_fit c.loop-i.i) (value c.loop-i.i) c.term.result c.in-Some.next (each c.loop-i.i c.term.result c.loop-i-test.true c.term.ensures) c.in-Some.is)
+    (sym c.in_default-try_add.ensures.fits)
 
 pub loop-i-preserved : goal.loop-i-preserved
 loop-i-preserved g c = record {
   value = c.in-Some-try_add.ensures.value;
   sum = λ steps_fit value each.
-      let stands = term_stands (g.R.Ring.of c.args.ring.now) (steps_fit c.loop-i.i) (value c.loop-i.i) c.term.result c.in-Some.next (each c.loop-i.i c.term.result c.loop-i-test.true c.term.ensures) c.in-Some.is in
       c.in-Some-try_add.ensures.sum
-      ∙ ap₂ (λ a b. (g.R.Ring.ops c.args.ring.now).add a b) (c.loop-i.invariant.sum steps_fit value each) stands
-      ∙ sym (sum_suc (g.R.Ring.ops c.args.ring.now) c.loop-i.i value)
-      ∙ ap (λ k. sum_below (g.R.Ring.ops c.args.ring.now) k value) (sym (add-one c.loop-i.i));
+      ∙ sum_below_more (g.R.Ring.ops c.args.ring.now) value c.loop-i.i (g.R.Ring.of c.args.ring.now c.loop-i.sum) (g.R.Ring.of c.args.ring.now c.in-Some.next) (c.loop-i.invariant.sum steps_fit value each)
+      (term_stands (g.R.Ring.of c.args.ring.now) (steps_fit c.loop-i.i) (value c.loop-i.i) c.term.result c.in-Some.next (each c.loop-i.i c.term.result c.loop-i-test.true c.term.ensures) c.in-Some.is);
 }
 
 pub returns-clause-sum : goal.returns-clause-sum

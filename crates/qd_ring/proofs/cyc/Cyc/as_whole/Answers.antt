@@ -10,8 +10,8 @@ pub returns-then-all_zero-clause-whole : goal.returns-then-all_zero-clause-whole
 returns-then-all_zero-clause-whole g c =
     let a = c.args.self.now in
     whole_value g.row.K a.conductor a.coefficients a.array (sym c.all_zero.ensures ∙ c.if-all_zero.true)
-        ∙ ap (λ z. cyclotomic_value g.row.K (z ∷ []))
-            (sym (read_128 (get_or a.coefficients 0 (pos 0)) (omega (arith, size_at a.coefficients 0, small_means a.coefficients a.small))))
+    ∙ ap (λ z. cyclotomic_value g.row.K (z ∷ []))
+    (sym (read_128 (get_or a.coefficients 0 (pos 0)) (omega (arith, size_at a.coefficients 0, small_means a.coefficients a.small))))
 
 pub returns-else-all_zero-clause-none : goal.returns-else-all_zero-clause-none
 returns-else-all_zero-clause-none g c =

@@ -10,7 +10,7 @@ pub returns-then-p-lt42 : goal.returns-then-p-lt42
 returns-then-p-lt42 g c =
     let a = c.args.self.now in
     read_128 (get_or a.coefficients c.args.p (pos 0)) (omega (arith, size_at a.coefficients c.args.p, small_means a.coefficients a.small))
-        ∙ coefficient_at g.row.K a.conductor a.coefficients a.array c.args.p
+    ∙ coefficient_at g.row.K a.conductor a.coefficients a.array c.args.p
 
 pub returns-else-p-lt42 : goal.returns-else-p-lt42
 returns-else-p-lt42 g c =

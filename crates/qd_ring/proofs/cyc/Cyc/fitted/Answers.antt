@@ -10,13 +10,13 @@ pub invariant_of-result : goal.invariant_of-result
 invariant_of-result g c = record {
   conductor = c.requires.conductor;
   array = c.requires.array;
-  small = is_small_yes c.args.coefficients c.size.result c.size.ensures c.if-size-le-GREATEST.true
+  small = is_small_yes c.args.coefficients c.size.result c.size.ensures c.if-size-le-GREATEST.true;
 }
 
 pub returns-then-size-le-GREATEST-clause-fits : goal.returns-then-size-le-GREATEST-clause-fits
 returns-then-size-le-GREATEST-clause-fits g c u e =
     sym (is_small_yes c.args.coefficients c.size.result c.size.ensures c.if-size-le-GREATEST.true)
-        ∙ ap is_small e ∙ small-array_of u
+    ∙ ap is_small e ∙ small-array_of u
 
 pub returns-then-size-le-GREATEST-clause-value : goal.returns-then-size-le-GREATEST-clause-value
 returns-then-size-le-GREATEST-clause-value g c u e =
@@ -29,7 +29,7 @@ returns-else-size-le-GREATEST-clause-small g c =
 pub returns-else-size-le-GREATEST-clause-fits : goal.returns-else-size-le-GREATEST-clause-fits
 returns-else-size-le-GREATEST-clause-fits g c u e =
     sym (is_small_no c.args.coefficients c.size.result c.size.ensures c.if-size-le-GREATEST.false)
-        ∙ ap is_small e ∙ small-array_of u
+    ∙ ap is_small e ∙ small-array_of u
 
 pub returns-then-size-le-GREATEST-clause-small : goal.returns-then-size-le-GREATEST-clause-small
 returns-then-size-le-GREATEST-clause-small g c =

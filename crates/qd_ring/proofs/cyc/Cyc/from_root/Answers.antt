@@ -5,7 +5,7 @@ use Rattle.cyclotomic.specs.Ring.{value_product, value_one}
 use Rattle.cyclotomic.specs.CyclotomicRing.{cyclotomic_value, galois_image, root}
 use Rattle.cyclotomic.specs.Laws.Values.{product_one}
 use Rattle.qd_ring.specs.CycArrays.{array_of}
-use Rattle.qd_ring.proofs.ReductionSigns.{conductor_bounds}
+use Rattle.qd_ring.specs.ReductionSigns.{conductor_bounds}
 use Rattle.qd_ring.proofs.ProductLaws.{value-array_of}
 use Rattle.qd_ring.proofs.CycLaws.{small_total, array-is, times_alone}
 use Rattle.qd_ring.proofs.CycSums.{root_array_small}
@@ -26,13 +26,13 @@ invariant_of-result g c =
     let e = c.exponent.result in
     let u = cyclotomic_value k c.one-one.result.coefficients in
     let is = c.image.ensures ∙ ap array_of
-            (times_alone k c.args.r.conductor e u
-                ∙ ap (value_product (cyclotomic k) (root k e)) c.one-one.ensures
-                ∙ product_one (cyclotomic k) (root k e)) in
+    (times_alone k c.args.r.conductor e u
+    ∙ ap (value_product (cyclotomic k) (root k e)) c.one-one.ensures
+    ∙ product_one (cyclotomic k) (root k e)) in
     record {
       conductor = c.args.r.conductor;
       array = array-is k c.args.r.conductor (root k e) c.image.result is;
-      small = root_array_small k c.args.r.conductor e c.image.result is
+      small = root_array_small k c.args.r.conductor e c.image.result is;
     }
 
 pub returns : goal.returns
@@ -41,8 +41,8 @@ returns g c =
     let e = c.exponent.result in
     let u = cyclotomic_value k c.one-one.result.coefficients in
     ap (cyclotomic_value k) (c.image.ensures ∙ ap array_of
-            (times_alone k c.args.r.conductor e u
-                ∙ ap (value_product (cyclotomic k) (root k e)) c.one-one.ensures
-                ∙ product_one (cyclotomic k) (root k e)))
-        ∙ value-array_of k c.args.r.conductor (root k e)
-        ∙ ap (root k) c.exponent.ensures.exponent
+    (times_alone k c.args.r.conductor e u
+    ∙ ap (value_product (cyclotomic k) (root k e)) c.one-one.ensures
+    ∙ product_one (cyclotomic k) (root k e)))
+    ∙ value-array_of k c.args.r.conductor (root k e)
+    ∙ ap (root k) c.exponent.ensures.exponent

@@ -6,7 +6,7 @@ use Rattle.cyclotomic.specs.Ring.{value_product}
 use Rattle.cyclotomic.specs.CyclotomicRing.{cyclotomic_value, galois_image, conjugate, root}
 use Rattle.cyclotomic.proofs.Checks.{conductor_positive}
 use Rattle.qd_ring.specs.CycArrays.{array_of}
-use Rattle.qd_ring.proofs.ReductionSigns.{conductor_bounds}
+use Rattle.qd_ring.specs.ReductionSigns.{conductor_bounds}
 use Rattle.qd_ring.proofs.CycLaws.{small_total, array-is, image_alone, image_modulo, times_alone}
 use Rattle.qd_ring.proofs.cyc.Cyc.try_galois.Goals as goal
 

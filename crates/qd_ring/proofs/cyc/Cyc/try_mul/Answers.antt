@@ -30,7 +30,7 @@ invariant_of-result g c =
       conductor = a.conductor;
       array = array-is g.row.K a.conductor (value_product (cyclotomic g.row.K) u v) c.product.result c.product.ensures;
       small = fits-product g.row.K a.conductor u v c.product.result c.product.ensures
-          (product_yes g.row.K a.conductor a.coefficients b.coefficients a.array b.array c.size.result c.size-2.result c.size.ensures c.size-2.ensures c.in-Some.sizes c.in-Some.ensures.1 c.if-sizes-lt-PRODUCT_LIMIT.true)
+          (product_yes g.row.K a.conductor a.coefficients b.coefficients a.array b.array c.size.result c.size-2.result c.size.ensures c.size-2.ensures c.in-Some.sizes c.in-Some.ensures.1 c.if-sizes-lt-PRODUCT_LIMIT.true);
     }
 
 pub returns-in-Some-clause-value : goal.returns-in-Some-clause-value
@@ -40,18 +40,18 @@ returns-in-Some-clause-value g c =
     let u = cyclotomic_value g.row.K a.coefficients in
     let v = cyclotomic_value g.row.K b.coefficients in
     ap (cyclotomic_value g.row.K) c.product.ensures
-        ∙ value-array_of g.row.K a.conductor (value_product (cyclotomic g.row.K) u v)
+    ∙ value-array_of g.row.K a.conductor (value_product (cyclotomic g.row.K) u v)
 
 pub returns-in_default-clause-fits : goal.returns-in_default-clause-fits
 returns-in_default-clause-fits g c =
     let a = c.args.self.now in
     let b = c.args.b.now in
     sym (product_no g.row.K a.conductor a.coefficients b.coefficients a.array b.array c.size.result c.size-2.result c.size.ensures c.size-2.ensures
-        (omega (arith, c.in-Some.ensures.1, c.if-sizes-lt-PRODUCT_LIMIT.false)))
+    (omega (arith, c.in-Some.ensures.1, c.if-sizes-lt-PRODUCT_LIMIT.false)))
 
 pub returns-in_default-2-clause-fits : goal.returns-in_default-2-clause-fits
 returns-in_default-2-clause-fits g c =
     let a = c.args.self.now in
     let b = c.args.b.now in
     sym (product_no g.row.K a.conductor a.coefficients b.coefficients a.array b.array c.size.result c.size-2.result c.size.ensures c.size-2.ensures
-        (omega (arith, c.in_default.ensures)))
+    (omega (arith, c.in_default.ensures)))

@@ -16,10 +16,10 @@ invariant_of-result g c =
     record {
       conductor = c.requires.conductor;
       array = ap (λ z. is_array g.row.K (z ∷ zeros 41)) plain ∙ constant_array g.row.K c.requires.conductor c.args.v;
-      small = ap (λ z. is_small (z ∷ zeros 41)) plain ∙ constant_small g.row.K c.requires.conductor c.args.v c.requires.fits
+      small = ap (λ z. is_small (z ∷ zeros 41)) plain ∙ constant_small g.row.K c.requires.conductor c.args.v c.requires.fits;
     }
 
 pub returns : goal.returns
 returns g c =
     ap (λ z. cyclotomic_value g.row.K (z ∷ zeros 41)) (to_z-of_z w128 c.args.v c.ranges.v)
-        ∙ constant_value g.row.K c.requires.conductor c.args.v
+    ∙ constant_value g.row.K c.requires.conductor c.args.v

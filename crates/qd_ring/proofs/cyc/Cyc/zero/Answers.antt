@@ -10,7 +10,7 @@ pub invariant_of-result : goal.invariant_of-result
 invariant_of-result g c = record {
   conductor = c.requires;
   array = constant_array g.row.K c.requires (pos 0);
-  small = constant_small g.row.K c.requires (pos 0) (omega arith)
+  small = constant_small g.row.K c.requires (pos 0) (omega arith);
 }
 
 pub returns : goal.returns

@@ -1,0 +1,333 @@
+-- Conjugation is an action, conjugacy an equivalence, and each element has a representative, a transporter and a class.
+use Rattle.std.proofs.Common.{◌≡◌, ◌≢◌, ℕ, zero, suc, eq-or-lt_of_le, ◌+◌, ◌<◌, ◌≤◌, Bool, true, false, ◌↔◌, cond, ◌&&◌, not, [], ◌∷◌, length, get_or, nat_eq, Some, None, refl, sym, ap, ◌∙◌, arith, inl, inr, eq-eqb, eqb-true}
+use Rattle.std.specs.Prelude.{unwrap_or}
+use Rattle.std.specs.List.{All, Contains}
+use Rattle.std.proofs.lemmas.List.Elements.{All-get_or, All-cons, All-weaker, Contains-append_right}
+use Rattle.std.proofs.lemmas.List.{get_or_default}
+use Rattle.scan.specs.First.{first}
+use Rattle.scan.proofs.Places.{first-ext, and_true}
+use Rattle.orders.proofs.Powers.{inverse_unique}
+use Rattle.group_table.specs.Group.{Table, product, identity_of, inverse, IsGroup}
+use Rattle.group_table.specs.Numbers.{passing_below}
+use Rattle.group_table.proofs.Sentences.{IsTwoSidedInverse, two_sided, inverse_found, group_below, closed, identity_below}
+use Rattle.group_table.proofs.Numbers.{IsPassing, passing_below-all, passing_below-contains, passing_below-ascending, passing_below-exactly, length-passing_below}
+use Rattle.classes.specs.Conjugacy.{conjugate, least_transporter, is_conjugate, representative_of, transporter_of, representatives, other_representatives, class_of, members_of, centraliser_of, representative_at}
+use Rattle.classes.proofs.Searches.{same_test, is_some_of, some_of, IsLeastPassing, least_passing, least_passing_found}
+use Rattle.classes.proofs.Action.{inverse_of_product, conjugate_in_steps, conjugate_of_product_steps}
+
+-- a is least in its class
+pub record IsRepresentative (t : Table) (a : ℕ) : Type 0 where
+  pub below : a < t.order
+  pub represents : representative_of t a ≡ a
+
+-- g is in the class of a
+pub record IsMember (t : Table) (a g : ℕ) : Type 0 where
+  pub below : g < t.order
+  pub conjugates : is_conjugate t a g ≡ true
+
+-- k is the least element that carries the representative of the class of g to g
+pub record IsLeastTransporter (t : Table) (g k : ℕ) : Type 0 where
+  pub below : k < t.order
+  pub carries : conjugate t k (representative_of t g) ≡ g
+  pub least : (j : ℕ) → j < t.order → conjugate t j (representative_of t g) ≡ g → k ≤ j
+
+fails_and_passes : (b : Bool) → not b ≡ true → b ≡ true → ⊥
+fails_and_passes true fails passes = absurd cc
+fails_and_passes false fails passes = absurd cc
+
+different_numbers : (a e : ℕ) → not (nat_eq a e) ≡ true → a ≡ e → ⊥
+different_numbers a e fails same = fails_and_passes (nat_eq a e) fails (eq-eqb a e same)
+
+module _ (t : Table) (G : IsGroup t) where
+  -- the inverse of k
+  inverse_at : (k : ℕ) → k < t.order → IsTwoSidedInverse t k (inverse t k)
+  inverse_at k below = two_sided t k (inverse t k) G below (inverse_found t k G below)
+
+  pub conjugate_below : (k a : ℕ) → k < t.order → a < t.order → conjugate t k a < t.order
+  unfolding conjugate
+  conjugate_below k a p q = closed t (product t k a) (inverse t k) G (closed t k a G p q) (inverse_at k p).below
+
+  -- (k h) a (k h)^-1 = k (h a h^-1) k^-1
+  pub conjugate_by_product : (k h a : ℕ) → k < t.order → h < t.order → a < t.order
+      → conjugate t (product t k h) a ≡ conjugate t k (conjugate t h a)
+  unfolding conjugate
+  conjugate_by_product k h a p q r =
+      let ki = inverse_at k p in
+      let hi = inverse_at h q in
+      let khi = inverse_at (product t k h) (closed t k h G p q) in
+      ap (product t (product t (product t k h) a))
+      (inverse_of_product _ _ _ (group_below t G) k h (inverse t k) (inverse t h) (inverse t (product t k h)) p q ki.below hi.below khi.below ki.right hi.right khi.right)
+      ∙ conjugate_in_steps _ _ _ (group_below t G) k h a (inverse t h) (inverse t k) p q r hi.below ki.below
+
+  -- k (a b) k^-1 = (k a k^-1) (k b k^-1)
+  pub conjugate_of_product : (k a b : ℕ) → k < t.order → a < t.order → b < t.order
+      → conjugate t k (product t a b) ≡ product t (conjugate t k a) (conjugate t k b)
+  unfolding conjugate
+  conjugate_of_product k a b p q r =
+      conjugate_of_product_steps _ _ _ (group_below t G) k a b (inverse t k) p q r (inverse_at k p).below (inverse_at k p).right
+
+  unit_below : identity_of t < t.order
+  unit_below = identity_below t G
+
+  -- e a e^-1 = a
+  pub conjugate_by_identity : (a : ℕ) → a < t.order → conjugate t (identity_of t) a ≡ a
+  unfolding conjugate
+  conjugate_by_identity a p =
+      let B = group_below t G in
+      let i = inverse_at (identity_of t) unit_below in
+      let own : inverse t (identity_of t) ≡ identity_of t =
+      inverse_unique _ _ _ B (identity_of t) (inverse t (identity_of t)) (identity_of t) unit_below i.below unit_below i.right (B.unit_right (identity_of t) unit_below) in
+      ap (product t (product t (identity_of t) a)) own
+      ∙ B.unit_right (product t (identity_of t) a) (closed t (identity_of t) a G unit_below p)
+      ∙ B.unit_left a p
+
+  -- k e k^-1 = e
+  pub conjugate_of_identity : (k : ℕ) → k < t.order → conjugate t k (identity_of t) ≡ identity_of t
+  unfolding conjugate
+  conjugate_of_identity k p =
+      let B = group_below t G in
+      ap (λ x. product t x (inverse t k)) (B.unit_right k p) ∙ (inverse_at k p).right
+
+  -- k^-1 carries k a k^-1 back to a
+  pub conjugate_back : (k a : ℕ) → k < t.order → a < t.order → conjugate t (inverse t k) (conjugate t k a) ≡ a
+  conjugate_back k a p q =
+      let i = inverse_at k p in
+      sym (conjugate_by_product (inverse t k) k a i.below p q) ∙ ap (λ x. conjugate t x a) i.left ∙ conjugate_by_identity a q
+
+  -- the least transporter carries, and is least
+  pub transporter_least : (a g k : ℕ) → least_transporter t a g ≡ Some k → IsLeastPassing t.order (λ k. nat_eq (conjugate t k a) g) k
+  transporter_least a g k found = least_passing t.order (λ k. nat_eq (conjugate t k a) g) k found
+
+  -- some k carries a to g, where a and g are conjugate
+  pub carrier : (a g : ℕ) → is_conjugate t a g ≡ true → (k : ℕ) × (k < t.order) × (conjugate t k a ≡ g)
+  carrier a g conjugates =
+      let (k, found) = some_of (least_transporter t a g) conjugates in
+      let least = transporter_least a g k found in
+      (k, least.below, eqb-true _ _ least.passes)
+
+  -- where some k carries a to g, they are conjugate
+  pub conjugate_by : (a g k : ℕ) → k < t.order → conjugate t k a ≡ g → is_conjugate t a g ≡ true
+  conjugate_by a g k below carries =
+      let passes : nat_eq (conjugate t k a) g ≡ true = eq-eqb _ _ carries in
+      is_some_of (least_transporter t a g) _ (least_passing_found t.order (λ k. nat_eq (conjugate t k a) g) k below passes)
+
+  pub conjugate_refl : (a : ℕ) → a < t.order → is_conjugate t a a ≡ true
+  conjugate_refl a p = conjugate_by a a (identity_of t) unit_below (conjugate_by_identity a p)
+
+  pub conjugate_sym : (a g : ℕ) → a < t.order → is_conjugate t a g ≡ true → is_conjugate t g a ≡ true
+  conjugate_sym a g p conjugates =
+      let (k, below, carries) = carrier a g conjugates in
+      conjugate_by g a (inverse t k) (inverse_at k below).below (ap (conjugate t (inverse t k)) (sym carries) ∙ conjugate_back k a below p)
+
+  pub conjugate_trans : (a g h : ℕ) → a < t.order → is_conjugate t a g ≡ true → is_conjugate t g h ≡ true → is_conjugate t a h ≡ true
+  conjugate_trans a g h p first second =
+      let (k, k_below, k_carries) = carrier a g first in
+      let (l, l_below, l_carries) = carrier g h second in
+      conjugate_by a h (product t l k) (closed t l k G l_below k_below)
+      (conjugate_by_product l k a l_below k_below p ∙ ap (conjugate t l) k_carries ∙ l_carries)
+
+  -- conjugate elements are conjugate to the same elements
+  conjugate_same : (a g h : ℕ) → a < t.order → g < t.order → h < t.order → is_conjugate t a g ≡ true → is_conjugate t h a ≡ is_conjugate t h g
+  conjugate_same a g h p q r conjugates =
+      same_test (is_conjugate t h a) (is_conjugate t h g)
+      (λ ha. conjugate_trans h a g r ha conjugates)
+      (λ hg. conjugate_trans h g a r hg (conjugate_sym a g p conjugates))
+
+  -- the representative is the least element that is conjugate to g
+  pub representative_least : (g : ℕ) → g < t.order → IsLeastPassing t.order (λ a. is_conjugate t a g) (representative_of t g)
+  unfolding representative_of
+  representative_least g p =
+      least_passing t.order (λ a. is_conjugate t a g) _ (least_passing_found t.order (λ a. is_conjugate t a g) g p (conjugate_refl g p))
+
+  -- conjugate elements have the same representative
+  pub representative_same : (a g : ℕ) → a < t.order → g < t.order → is_conjugate t a g ≡ true → representative_of t a ≡ representative_of t g
+  unfolding representative_of
+  representative_same a g p q conjugates =
+      ap (λ o. unwrap_or o 0)
+      (first-ext t.order (λ h. cond (is_conjugate t h a) (Some h) None) (λ h. cond (is_conjugate t h g) (Some h) None)
+      (λ h r. ap (λ b. cond b (Some h) None) (conjugate_same a g h p q r conjugates)))
+
+  pub representative_below : (g : ℕ) → g < t.order → representative_of t g < t.order
+  representative_below g p = (representative_least g p).below
+
+  pub representative_twice : (g : ℕ) → g < t.order → representative_of t (representative_of t g) ≡ representative_of t g
+  representative_twice g p =
+      let least = representative_least g p in
+      representative_same (representative_of t g) g least.below p least.passes
+
+  pub representative_of_conjugate : (k g : ℕ) → k < t.order → g < t.order → representative_of t (conjugate t k g) ≡ representative_of t g
+  representative_of_conjugate k g p q =
+      sym (representative_same g (conjugate t k g) q (conjugate_below k g p q) (conjugate_by g (conjugate t k g) k p refl))
+
+  -- the identity is conjugate to itself alone
+  pub representative_of_identity : representative_of t (identity_of t) ≡ identity_of t
+  representative_of_identity =
+      let least = representative_least (identity_of t) unit_below in
+      let (k, below, carries) = carrier (representative_of t (identity_of t)) (identity_of t) least.passes in
+      sym (conjugate_back k (representative_of t (identity_of t)) below least.below)
+      ∙ ap (conjugate t (inverse t k)) carries
+      ∙ conjugate_of_identity (inverse t k) (inverse_at k below).below
+
+  -- g is a member of the class of a representative a exactly where a represents g
+  pub member_test : (a g : ℕ) → a < t.order → g < t.order → representative_of t a ≡ a → nat_eq (representative_of t g) a ≡ is_conjugate t a g
+  member_test a g p q represents =
+      same_test (nat_eq (representative_of t g) a) (is_conjugate t a g)
+      (λ same. let e : representative_of t g ≡ a = eqb-true _ _ same in rw (← e) (representative_least g q).passes)
+      (λ conjugates. eq-eqb _ _ (sym (representative_same a g p q conjugates) ∙ represents))
+
+  -- the least transporter from the representative is found
+  pub transporter_found : (g : ℕ) → g < t.order → least_transporter t (representative_of t g) g ≡ Some (transporter_of t g)
+  unfolding transporter_of
+  transporter_found g p =
+      let least = representative_least g p in
+      let (k, below, carries) = carrier (representative_of t g) g least.passes in
+      least_passing_found t.order (λ k. nat_eq (conjugate t k (representative_of t g)) g) k below (eq-eqb _ _ carries)
+
+  pub transporter_is : (g : ℕ) → g < t.order → IsLeastTransporter t g (transporter_of t g)
+  transporter_is g p =
+      let least = transporter_least (representative_of t g) g (transporter_of t g) (transporter_found g p) in
+      record {
+        below = least.below;
+        carries = eqb-true _ _ least.passes;
+        least = λ j below carries. least.least j below (eq-eqb _ _ carries);
+      }
+
+  other_represents : (a : ℕ) → IsPassing t.order (λ a. nat_eq (representative_of t a) a && not (nat_eq a (identity_of t))) a → IsRepresentative t a
+  other_represents a passing = record { below = passing.below; represents = eqb-true _ _ (and_true _ _ passing.passes).0 }
+
+  pub others_represent : All (IsRepresentative t) (other_representatives t)
+  unfolding other_representatives
+  others_represent =
+      All-weaker _ (IsRepresentative t)
+      (λ a passing. other_represents a passing)
+      (passing_below t.order (λ a. nat_eq (representative_of t a) a && not (nat_eq a (identity_of t))))
+      (passing_below-all t.order (λ a. nat_eq (representative_of t a) a && not (nat_eq a (identity_of t))))
+
+  pub all_represent : All (IsRepresentative t) (representatives t)
+  all_represent =
+      All-cons (IsRepresentative t) (identity_of t) (other_representatives t)
+      (record { below = unit_below; represents = representative_of_identity }) others_represent
+
+  pub representative_at_is : (c : ℕ) → c < length (representatives t) → IsRepresentative t (representative_at t c)
+  representative_at_is c p = All-get_or (IsRepresentative t) (representatives t) c 0 p all_represent
+
+  -- there are few classes
+  pub few_classes : length (representatives t) ≤ t.order + 1
+  unfolding other_representatives
+  few_classes =
+      omega (arith, length-passing_below t.order (λ a. nat_eq (representative_of t a) a && not (nat_eq a (identity_of t))))
+
+  -- a representative is in the list
+  listed : (a : ℕ) → IsRepresentative t a → (b : Bool) → nat_eq a (identity_of t) ≡ b → Contains (representatives t) a
+  unfolding other_representatives
+  listed a represents true e = rw (eqb-true _ _ e) (0, omega arith, refl)
+  listed a represents false e =
+      let passes : (nat_eq (representative_of t a) a && not (nat_eq a (identity_of t))) ≡ true =
+      rw (eq-eqb _ _ represents.represents, e) refl in
+      Contains-append_right (identity_of t ∷ []) (other_representatives t) a
+      (passing_below-contains t.order a (λ a. nat_eq (representative_of t a) a && not (nat_eq a (identity_of t))) represents.below passes)
+
+  pub representative_listed : (a : ℕ) → IsRepresentative t a → Contains (representatives t) a
+  representative_listed a represents = listed a represents (nat_eq a (identity_of t)) refl
+
+  -- the class is the first place of the representative
+  pub class_found : (g : ℕ) → g < t.order → IsLeastPassing (length (representatives t)) (λ c. nat_eq (representative_at t c) (representative_of t g)) (class_of t g)
+  unfolding class_of
+  class_found g p =
+      let represents : IsRepresentative t (representative_of t g) = record { below = representative_below g p; represents = representative_twice g p } in
+      let (c, below, at) = representative_listed (representative_of t g) represents in
+      let passes : nat_eq (representative_at t c) (representative_of t g) ≡ true =
+      eq-eqb _ _ (get_or_default (representatives t) c 0 (representative_of t g) below ∙ at) in
+      least_passing (length (representatives t)) (λ c. nat_eq (representative_at t c) (representative_of t g)) _
+      (least_passing_found (length (representatives t)) (λ c. nat_eq (representative_at t c) (representative_of t g)) c below passes)
+
+  pub class_below : (g : ℕ) → g < t.order → class_of t g < length (representatives t)
+  class_below g p = (class_found g p).below
+
+  pub class_represents : (g : ℕ) → g < t.order → representative_at t (class_of t g) ≡ representative_of t g
+  class_represents g p = eqb-true _ _ (class_found g p).passes
+
+  -- conjugate elements are in the same class
+  pub class_of_conjugate : (k g : ℕ) → k < t.order → g < t.order → class_of t (conjugate t k g) ≡ class_of t g
+  unfolding class_of
+  class_of_conjugate k g p q = rw (representative_of_conjugate k g p q) refl
+
+  pub members_are : (a : ℕ) → All (IsMember t a) (members_of t a)
+  unfolding members_of
+  members_are a =
+      All-weaker (IsPassing t.order (is_conjugate t a)) (IsMember t a) (λ g passing. member_of a g passing) (passing_below t.order (is_conjugate t a))
+      (passing_below-all t.order (is_conjugate t a))
+    where
+      member_of : (a g : ℕ) → IsPassing t.order (is_conjugate t a) g → IsMember t a g
+      member_of a g passing = record { below = passing.below; conjugates = passing.passes }
+
+  pub member_below : (a i : ℕ) → i < length (members_of t a) → get_or (members_of t a) i 0 < t.order
+  member_below a i p = (All-get_or (IsMember t a) (members_of t a) i 0 p (members_are a)).below
+
+  -- there are few members
+  pub few_members : (a : ℕ) → length (members_of t a) ≤ t.order
+  unfolding members_of
+  few_members a = length-passing_below t.order (is_conjugate t a)
+
+  -- no two classes have the same representative
+  different_at : (c d : ℕ) → c < d → d < length (representatives t) → representative_at t c ≢ representative_at t d
+  unfolding other_representatives
+  different_at zero (suc d) less last same =
+      let test : ℕ → Bool = λ a. nat_eq (representative_of t a) a && not (nat_eq a (identity_of t)) in
+      let there : IsPassing t.order test (get_or (other_representatives t) d 0) =
+      All-get_or (IsPassing t.order test) (passing_below t.order test) d 0 (omega arith) (passing_below-all t.order test) in
+      different_numbers (get_or (other_representatives t) d 0) (identity_of t) (and_true _ _ there.passes).1 (sym same)
+  different_at (suc c) (suc d) less last same =
+      let test : ℕ → Bool = λ a. nat_eq (representative_of t a) a && not (nat_eq a (identity_of t)) in
+      let ascends : get_or (other_representatives t) c 0 < get_or (other_representatives t) d 0 =
+      passing_below-ascending t.order test c d (omega arith) (omega arith) in
+      omega (arith, same)
+  different_at c zero less last same = omega arith
+
+  -- the class of the representative of a class is that class
+  pub class_of_representative : (c : ℕ) → c < length (representatives t) → class_of t (representative_at t c) ≡ c
+  class_of_representative c p =
+      let here = representative_at_is c p in
+      let found = class_found (representative_at t c) here.below in
+      let same : representative_at t (class_of t (representative_at t c)) ≡ representative_at t c =
+      eqb-true _ _ found.passes ∙ here.represents in
+      let most : class_of t (representative_at t c) ≤ c = found.least c p (eq-eqb _ _ (sym here.represents)) in
+      elim (eq-or-lt_of_le most) [
+        | inl equal ↦ equal
+        | inr less ↦ absurd (different_at (class_of t (representative_at t c)) c less p same)
+      ]
+
+  same_class : (g h : ℕ) → representative_of t g ≡ representative_of t h → class_of t g ≡ class_of t h
+  unfolding class_of
+  same_class g h same = rw same refl
+
+  -- so is the class of a member
+  pub class_of_member : (c g : ℕ) → c < length (representatives t) → g < t.order → is_conjugate t (representative_at t c) g ≡ true → class_of t g ≡ c
+  class_of_member c g p q conjugates =
+      same_class g (representative_at t c) (sym (representative_same (representative_at t c) g (representative_at_is c p).below q conjugates))
+      ∙ class_of_representative c p
+
+  pub member_class : (c i : ℕ) → c < length (representatives t) → i < length (members_of t (representative_at t c))
+      → class_of t (get_or (members_of t (representative_at t c)) i 0) ≡ c
+  member_class c i p q =
+      let member = All-get_or (IsMember t (representative_at t c)) (members_of t (representative_at t c)) i 0 q (members_are (representative_at t c)) in
+      class_of_member c _ p member.below member.conjugates
+
+  -- the members of the class of a are the elements k a k^-1
+  pub members_exactly : (a g : ℕ) → a < t.order → Contains (members_of t a) g ↔ ((k : ℕ) × (k < t.order) × (conjugate t k a ≡ g))
+  unfolding members_of
+  members_exactly a g p = (
+    λ listed. carrier a g ((passing_below-exactly t.order g (is_conjugate t a)).0 listed).1,
+    λ carried.
+        let (k, below, carries) = carried in
+        (passing_below-exactly t.order g (is_conjugate t a)).1
+        (rw (← carries) (conjugate_below k a below p), conjugate_by a g k below carries),
+  )
+
+  -- x is in the centraliser of a exactly where x a = a x
+  pub centraliser_exactly : (a x : ℕ) → Contains (centraliser_of t a) x ↔ ((x < t.order) × (product t x a ≡ product t a x))
+  unfolding centraliser_of
+  centraliser_exactly a x = (
+    λ listed. let here = (passing_below-exactly t.order x (λ x. nat_eq (product t x a) (product t a x))).0 listed in (here.0, eqb-true _ _ here.1),
+    λ commutes. (passing_below-exactly t.order x (λ x. nat_eq (product t x a) (product t a x))).1 (commutes.0, eq-eqb _ _ commutes.1),
+  )

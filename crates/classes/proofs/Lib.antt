@@ -1,0 +1,5 @@
+pub mod Searches
+pub mod Action
+pub mod Conjugacy
+pub mod Lookups
+pub mod Rows

@@ -1,0 +1,30 @@
+-- What is looked up in the classes that are kept.
+use Rattle.std.proofs.Common.{◌≡◌, ℕ, ◌<◌, ◌≤◌, List, length, get_or, map, ap, ◌∙◌, arith}
+use Rattle.std.proofs.lemmas.List.{get_or-map, length-map}
+use Rattle.std.proofs.lemmas.List.Elements.{All-get_or}
+use Rattle.group_table.specs.Group.{Table, IsGroup, IsSmall}
+use Rattle.classes.specs.Conjugacy.{representatives, other_representatives, representative_at}
+use Rattle.classes.specs.Kept.{class_at, ListsReaches}
+use Rattle.classes.specs.declared.class_table.Class.{Class}
+use Rattle.classes.specs.declared.sweep.Reach.{Reach}
+use Rattle.classes.proofs.Conjugacy.{few_classes, IsRepresentative, others_represent, IsLeastTransporter, transporter_is}
+
+-- the class with the number c
+pub class_kept : (t : Table) (classes : List Class) (c : ℕ) (x : Class) → classes ≡ map (class_at t) (representatives t) → c < length (representatives t)
+    → x ≡ get_or classes c x → x ≡ class_at t (representative_at t c)
+class_kept t classes c x are below is =
+    is ∙ ap (λ xs. get_or xs c x) are ∙ get_or-map (class_at t) (representatives t) c 0 x below
+
+-- there are few of them
+pub few_kept : (t : Table) (classes : List Class) → IsGroup t → IsSmall t.order → classes ≡ map (class_at t) (representatives t) → length classes ≤ 61
+few_kept t classes group small are = rw (are, length-map) (omega (arith, few_classes t group))
+
+-- how g is reached
+pub transporter_kept : (t : Table) (reaches : List Reach) (g : ℕ) (x : Reach) → IsGroup t → ListsReaches t reaches → g < t.order
+    → x ≡ get_or reaches g x → IsLeastTransporter t g x.transporter
+transporter_kept t reaches g x group lists below is =
+    rw (ap (λ (reach : Reach). reach.transporter) (is ∙ lists.each g x below)) (transporter_is t group g below)
+
+-- a representative other than the identity
+pub other_at : (t : Table) (others : List ℕ) (i : ℕ) → IsGroup t → others ≡ other_representatives t → i < length others → IsRepresentative t (get_or others i 0)
+other_at t others i group are below = All-get_or (IsRepresentative t) others i 0 below (rw are (others_represent t group))

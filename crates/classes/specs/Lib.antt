@@ -1,0 +1,4 @@
+pub mod Conjugacy
+pub mod Sweep
+pub mod Kept
+pub mod Laws

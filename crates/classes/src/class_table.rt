@@ -1,0 +1,124 @@
+ghost use Rattle.std.specs.Prelude.{◌≡◌, ℕ, ◌<◌, ◌≤◌, length, slice_index, IfOk};
+ghost use Rattle.group_table.specs.Group.{IsGroup};
+ghost use Rattle.classes.specs.Conjugacy.{conjugate, representative_of, transporter_of, representatives, representative_at, class_of, members_of, centraliser_of};
+
+use crate::parts::{class_list, class_numbers};
+use crate::sweep::{Reach, sweep};
+use group_table::{Group, Memory, Nats};
+use std::alloc::Global;
+use std::marker::Model;
+
+/// One class: its least member, its members and the centraliser of the least member, both ascending.
+#[derive(Debug, Drop)]
+pub struct Class {
+    pub representative: u32,
+    pub members: Nats,
+    pub centraliser: Nats,
+}
+
+/// The conjugacy classes of a group: the class of the identity first, then by least member. A class is represented by its least
+/// member.
+#[derive(Debug, Drop)]
+pub struct Classes {
+    group: Group,
+    classes: Vec<Class>,
+    numbers: Nats,
+    reaches: Vec<Reach>,
+}
+
+impl Model for Classes {
+    ghost use Rattle.group_table.specs.Group.{Table};
+
+    ghost Value = { Table };
+
+    ghost use Rattle.classes.specs.Kept.{IsClassTable};
+
+    ghost view = { λ classes. classes.group };
+
+    ghost invariant = { λ classes. IsClassTable classes.group classes.classes.items classes.numbers classes.reaches.items };
+}
+
+impl Classes {
+    /// The classes of `group`, found in one sweep over the pairs of elements.
+    pub fn of(alloc: Global, group: &Group) -> Result<Classes, Memory>
+        ensures of_group { IfOk result (λ classes. classes ≡ group.now) }
+    {
+        let reaches = sweep(alloc, group)?;
+        let classes = class_list(alloc, group, &reaches)?;
+        let numbers = class_numbers(alloc, group, &classes, &reaches)?;
+        let group = group.copy(alloc)?;
+        Ok(Classes {
+            group,
+            classes,
+            numbers,
+            reaches,
+        })
+    }
+
+    /// How many classes there are.
+    pub fn count(&self) -> u32
+        ensures count { result ≡ length (representatives self.now) }
+        ensures group { IsGroup self.now }
+    {
+        self.classes.len() as u32
+    }
+
+    /// The least member of the class with the number `c`.
+    pub fn representative(&self, c: u32) -> u32
+        requires c_below { c < length (representatives self.now) }
+        ensures representative { result ≡ representative_at self.now c }
+        ensures below { result < self.now.order }
+        ensures least { representative_of self.now result ≡ result }
+        ensures class { class_of self.now result ≡ c }
+    {
+        self.classes[c as usize].representative
+    }
+
+    /// How many members the class with the number `c` has.
+    pub fn size(&self, c: u32) -> u32
+        requires c_below { c < length (representatives self.now) }
+        ensures size { result ≡ length (members_of self.now (representative_at self.now c)) }
+    {
+        self.classes[c as usize].members.len()
+    }
+
+    /// The member at place `i`, in ascending order, of the class with the number `c`.
+    pub fn member(&self, c: u32, i: u32) -> u32
+        requires c_below { c < length (representatives self.now) }
+        requires i_below { i < length (members_of self.now (representative_at self.now c)) }
+        ensures member { result ≡ slice_index (members_of self.now (representative_at self.now c)) i }
+        ensures below { result < self.now.order }
+        ensures class { class_of self.now result ≡ c }
+    {
+        self.classes[c as usize].members.at(i)
+    }
+
+    /// The number of the class of `g`.
+    pub fn class_of(&self, g: u32) -> u32
+        requires g_below { g < self.now.order }
+        ensures class { result ≡ class_of self.now g }
+        ensures below { result < length (representatives self.now) }
+        ensures representative { representative_at self.now result ≡ representative_of self.now g }
+    {
+        self.numbers.at(g)
+    }
+
+    /// The centraliser of the representative of the class with the number `c`: its elements, ascending.
+    pub fn centraliser(&self, c: u32) -> &Nats
+        requires c_below { c < length (representatives self.now) }
+        ensures centraliser { result.now ≡ centraliser_of self.now (representative_at self.now c) }
+    {
+        &self.classes[c as usize].centraliser
+    }
+
+    /// The least `k` with `k a k^-1 = g`, where `a` is the representative of the class of `g`.
+    pub fn transporter(&self, g: u32) -> u32
+        requires g_below { g < self.now.order }
+        ensures transporter { result ≡ transporter_of self.now g }
+        ensures below { result < self.now.order }
+        ensures carries { conjugate self.now result (representative_of self.now g) ≡ g }
+        ensures least { (k : ℕ) → k < self.now.order → conjugate self.now k (representative_of self.now g) ≡ g → result ≤ k }
+    {
+        self.reaches[g as usize].transporter
+    }
+}

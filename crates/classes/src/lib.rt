@@ -1,0 +1,33 @@
+//! The conjugacy classes of a finite group, with centralisers and transporters.
+#![tactic(auto)]
+
+ghost use Rattle.classes.specs.Laws.{ConjugateByIdentity, ConjugateByProduct, ConjugateOfProduct, MembersExactly, CentraliserExactly};
+ghost use Rattle.classes.specs.Laws.{RepresentativeConjugate, RepresentativeLeast, RepresentativeOfConjugate, TransporterCarries, ClassRepresents, ClassOfRepresentative};
+
+mod class_table;
+mod parts;
+mod sweep;
+#[cfg(test)]
+mod tests;
+
+pub use class_table::Classes;
+
+/// Conjugation acts on the group by automorphisms, classes are its orbits, and centralisers the elements that commute.
+pub fn conjugation_laws()
+    ensures by_identity { ConjugateByIdentity }
+    ensures by_product { ConjugateByProduct }
+    ensures of_product { ConjugateOfProduct }
+    ensures members { MembersExactly }
+    ensures centraliser { CentraliserExactly }
+{}
+
+/// Each element is conjugate to the representative of its class, which is the least such element and the same for the whole class;
+/// the transporter carries it to the element; and classes and representatives name one another.
+pub fn class_laws()
+    ensures conjugate { RepresentativeConjugate }
+    ensures least { RepresentativeLeast }
+    ensures of_conjugate { RepresentativeOfConjugate }
+    ensures carries { TransporterCarries }
+    ensures represents { ClassRepresents }
+    ensures of_representative { ClassOfRepresentative }
+{}
