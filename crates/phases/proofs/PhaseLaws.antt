@@ -5,7 +5,7 @@ use Rattle.algebra.specs.Groups.{Group, conj}
 use Rattle.algebra.specs.Congruences.{Same}
 use Rattle.algebra.specs.Convolution.{IsTwoCocycle}
 use Rattle.algebra.proofs.CongruenceLaws.{same_refl, same_of, same_sym, same_trans, same_mod, same_add, same_add_multiple, same_lin, same_equal}
-use Rattle.algebra.proofs.GroupLaws.{group_rules, conj_is, conj_rules, conj_op, conj_symmetric, commuting_of_conj, conj_inv, conj_of_inv}
+use Rattle.algebra.proofs.GroupLaws.{group_rules, conj_is, conj_rules, conj_op, conj_symmetric, commuting_of_conj, conj_inv}
 use Rattle.phases.specs.ThreeCocycle.{ThreeCocycle}
 use Rattle.phases.specs.Phases.{theta, gamma, transport_phase, kappa}
 
@@ -48,9 +48,9 @@ module _ {G : Type 0} (P : Group G) (n : ℕ) (w : G → G → G → ℕ) (W : T
   unfolding kappa
   kappa_below a c x = mod-lt _ positive
 
-  pub kappa_is : (a c x : G) → Same n (kappa P n w a c x + theta P n w a (conj P x (P.inv c)) c) (theta P n w a c x)
+  pub kappa_is : (a c x : G) → Same n (kappa P n w a c x + theta P n w a (P.op (P.op c x) (P.inv c)) c) (theta P n w a c x)
   unfolding kappa
-  kappa_is a c x = taken_off n _ _ (theta_below a (conj P x (P.inv c)) c)
+  kappa_is a c x = taken_off n _ _ (theta_below a (P.op (P.op c x) (P.inv c)) c)
 
   -- no phase where an argument or the index is the identity
 
@@ -197,31 +197,30 @@ module _ {G : Type 0} (P : Group G) (n : ℕ) (w : G → G → G → ℕ) (W : T
       (simp (conj_rules, P, commutes_h, commutes_k) (omega arith))
 
   -- the conjugation phase is the transport phase back from the conjugate
-  pub kappa_is_transport : (a c x : G) → Same n (kappa P n w a c x + transport_phase P n w a (conj P x (P.inv c)) c) 0
+  pub kappa_is_transport : (a c x : G) → Same n (kappa P n w a c x + transport_phase P n w a (P.op (P.op c x) (P.inv c)) c) 0
   kappa_is_transport a c x =
-      let back : conj P (conj P x (P.inv c)) c ≡ x = conj_of_inv P x c in
-      same_lin n _ _ _ _ (same_add (kappa_is a c x) (transport_phase_is a (conj P x (P.inv c)) c)) (simp back (omega arith))
+      let back : conj P (P.op (P.op c x) (P.inv c)) c ≡ x = simp (conj_is, group_rules, P) in
+      same_lin n _ _ _ _ (same_add (kappa_is a c x) (transport_phase_is a (P.op (P.op c x) (P.inv c)) c)) (simp back (omega arith))
 
   -- what commutes with a is closed under conjugation
   commutes_back : (a c : G) → conj P a c ≡ a → conj P a (P.inv c) ≡ a
   commutes_back a c h = ap (λ z. conj P z (P.inv c)) (sym h) ∙ conj_inv P a c
 
-  commutes_conjugate : (a c x : G) → conj P a c ≡ a → conj P a x ≡ a → conj P a (conj P x (P.inv c)) ≡ a
+  commutes_conjugate : (a c x : G) → conj P a c ≡ a → conj P a x ≡ a → conj P a (P.op (P.op c x) (P.inv c)) ≡ a
   commutes_conjugate a c x h k =
       let back : conj P a (P.inv c) ≡ a = commutes_back a c h in
-      let word : conj P x (P.inv c) ≡ P.op c (P.op x (P.inv c)) = simp (conj_is, group_rules, P) in
-      ap (λ z. conj P a z) word ∙ simp (conj_op, h, k, back)
+      simp (conj_op, h, k, back)
 
   -- by a product: first by its right factor
   pub kappa_composes : (a d c x : G) → conj P a d ≡ a → conj P a c ≡ a → conj P a x ≡ a →
-      Same n (kappa P n w a (P.op d c) x) (kappa P n w a d (conj P x (P.inv c)) + kappa P n w a c x)
+      Same n (kappa P n w a (P.op d c) x) (kappa P n w a d (P.op (P.op c x) (P.inv c)) + kappa P n w a c x)
   kappa_composes a d c x commutes_d commutes_c commutes_x =
-      let y : G = conj P x (P.inv c) in
-      let z : G = conj P y (P.inv d) in
+      let y : G = P.op (P.op c x) (P.inv c) in
+      let z : G = P.op (P.op d y) (P.inv d) in
       let commutes_z : conj P a z ≡ a = commutes_conjugate a d y commutes_d (commutes_conjugate a c x commutes_c commutes_x) in
-      let twice : conj P x (P.inv (P.op d c)) ≡ z = simp (conj_is, group_rules, P) in
-      let over_c : P.op y c ≡ P.op c x = simp (conj_is, group_rules, P) in
-      let over_d : P.op z d ≡ P.op d y = simp (conj_is, group_rules, P) in
+      let twice : P.op (P.op (P.op d c) x) (P.inv (P.op d c)) ≡ z = simp (group_rules, P) in
+      let over_c : P.op y c ≡ P.op c x = simp (group_rules, P) in
+      let over_d : P.op z d ≡ P.op d y = simp (group_rules, P) in
       same_lin n _ _ _ _
       (same_add (same_add (kappa_is a (P.op d c) x) (same_sym (same_add (kappa_is a d y) (kappa_is a c x))))
       (same_add (theta_associative a d c x) (same_add (same_sym (theta_associative a d y c)) (theta_associative a z d c))))

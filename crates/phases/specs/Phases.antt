@@ -16,4 +16,4 @@ transport_phase P n w g x k = (theta P n w g x k + (n - theta P n w g k (conj P 
 
 -- conjugation phase of x by c in the algebra of a: th_a(c,x) / th_a(c x c^-1, c) (textbook)
 unfoldable pub kappa : {G : Type 0} → Group G → ℕ → (G → G → G → ℕ) → G → G → G → ℕ
-kappa P n w a c x = (theta P n w a c x + (n - theta P n w a (conj P x (P.inv c)) c)) % n
+kappa P n w a c x = (theta P n w a c x + (n - theta P n w a (P.op (P.op c x) (P.inv c)) c)) % n
