@@ -1,3 +1,5 @@
 pub mod Instances
 pub mod Identities
 pub mod Lawful
+pub mod Pairs
+pub mod Places
