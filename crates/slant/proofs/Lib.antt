@@ -3,3 +3,4 @@ pub mod Identities
 pub mod Lawful
 pub mod Pairs
 pub mod Places
+pub mod TwistLaws
