@@ -4,8 +4,10 @@
 ghost use Rattle.slant.specs.Laws.{PhasesBelow, ThetaNormalised, GammaNormalised, ThetaAssociative, ThetaGammaCompatible, GammaIsTheta, ThetaAtItself, ThetaProductIndex};
 ghost use Rattle.slant.specs.Laws.{TransportPhasesInverse, TransportPhaseOfItself, TransportPhaseComposes, TransportPhaseBack, TransportIsAlgebraMap, GammaTransport, KappaComposes, KappaIsTransport};
 
+mod centraliser;
 mod slant_product;
 
+pub use centraliser::twist_at;
 pub use slant_product::{gamma, theta};
 
 /// Every phase is an exponent below the number of roots, and is 0 where an argument or the index is the identity.
