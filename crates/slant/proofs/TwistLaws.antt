@@ -1,11 +1,11 @@
 -- The centraliser of an element with the slant product is a twist.
-use Rattle.std.proofs.Common.{◌≡◌, ℕ, ◌+◌, ◌*◌, ◌/◌, ◌%◌, ◌<◌, ◌≤◌, length, get_or, refl, sym, ap, ◌∙◌, arith}
+use Rattle.std.proofs.Common.{◌≡◌, ℕ, ◌+◌, ◌*◌, ◌/◌, ◌%◌, ◌<◌, ◌≤◌, List, length, get_or, refl, sym, ap, ◌∙◌, arith}
 use Rattle.std.proofs.Common.{nat_eq}
 use mathlib.Core.Path.{ap₂}
 use Rattle.algebra.specs.Congruences.{Same}
 use Rattle.algebra.proofs.CongruenceLaws.{same_of, same_trans}
 use Rattle.orders.specs.Group.{IsGroupBelow}
-use Rattle.group_table.specs.Group.{Table, product, inverse, identity_of, IsGroup}
+use Rattle.group_table.specs.Group.{Table, product, inverse, identity_of, IsGroup, IsSmall}
 use Rattle.group_table.proofs.Sentences.{group_below, inverse_found, two_sided}
 use Rattle.group_table.proofs.Numbers.{length-passing_below}
 use Rattle.cochain.specs.Cochain.{Cochain, IsCocycle}
@@ -108,3 +108,18 @@ module _ (w : Cochain) (W : IsCocycle w) (a : ℕ) (a_below : a < w.group.order)
   pub twist_lawful : IsTwist (twist_of w a)
   unfolding twist_of
   twist_lawful = twist_over_lawful
+
+  -- from the list of the elements
+
+  pub elements_below : (t : Table) (elements : List ℕ) → t ≡ w.group → elements ≡ centraliser_of w.group a → (q : ℕ) → q < length elements → get_or elements q 0 < t.order
+  elements_below t elements same e = rw (same, e) (λ q below. (at q below).below)
+
+  pub elements_few : (elements : List ℕ) → elements ≡ centraliser_of w.group a → IsSmall (length elements)
+  elements_few elements e = rw e twist_over_lawful.small
+
+  pub elements_lawful : (t : Table) (elements : List ℕ) → t ≡ w.group → elements ≡ centraliser_of w.group a → IsGroup (table_of t elements)
+  elements_lawful t elements same e = rw (same, e) places_lawful
+
+  pub made_lawful : (elements : List ℕ) (t : Table) (roots : ℕ) (phases : List ℕ) → elements ≡ centraliser_of w.group a → t ≡ table_of w.group elements → roots ≡ w.roots
+      → phases ≡ by_pairs (length elements) (phase_at w a elements) → IsTwist (record { at = a; elements = elements; group = t; modulus = roots; phases = phases })
+  made_lawful elements t roots phases e t_is roots_is phases_is = rw (phases_is, roots_is, t_is, e) twist_over_lawful

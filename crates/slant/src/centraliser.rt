@@ -102,8 +102,9 @@ pub fn twist_at(alloc: Global, w: &Cocycle, a: u32) -> Result<Twist, Memory>
     requires a_below { a < w.now.group.order }
     ensures twist { IfOk result (λ twist. twist ≡ twist_of w.now a) }
 {
-    let elements = centraliser(alloc, w.group(), a)?;
-    let group = places_group(alloc, w.group(), &elements)?;
+    let group = w.group();
+    let elements = centraliser(alloc, group, a)?;
+    let places = places_group(alloc, group, &elements)?;
     let phases = phases(alloc, w, a, &elements)?;
-    Ok(Twist::new(a, elements, group, w.roots(), phases))
+    Ok(Twist::new(a, elements, places, w.roots(), phases))
 }
