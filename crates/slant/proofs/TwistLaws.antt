@@ -10,8 +10,10 @@ use Rattle.group_table.proofs.Sentences.{group_below, inverse_found, two_sided}
 use Rattle.group_table.proofs.Numbers.{length-passing_below}
 use Rattle.cochain.specs.Cochain.{Cochain, IsCocycle}
 use Rattle.classes.specs.Conjugacy.{centraliser_of}
+use Rattle.classes.proofs.Conjugacy.{centraliser_exactly}
 use Rattle.twisted.specs.Twist.{TwistedSubgroup, phase, size, HasCocycle, IsTwist}
 use Rattle.slant.specs.Phases.{carried, theta}
+use Rattle.slant.specs.TwistLaws.{CentraliserIsTwist, ElementsCommute, ProductsAgree, PhasesAgree}
 use Rattle.slant.specs.Twists.{by_pairs, table_of, phase_at, twist_over, twist_of}
 use Rattle.slant.proofs.Identities.{phases_below, theta_normalised, theta_associative}
 use Rattle.slant.proofs.Lawful.{identity_is_unit, is_group}
@@ -123,3 +125,20 @@ module _ (w : Cochain) (W : IsCocycle w) (a : ℕ) (a_below : a < w.group.order)
   pub made_lawful : (elements : List ℕ) (t : Table) (roots : ℕ) (phases : List ℕ) → elements ≡ centraliser_of w.group a → t ≡ table_of w.group elements → roots ≡ w.roots
       → phases ≡ by_pairs (length elements) (phase_at w a elements) → IsTwist (record { at = a; elements = elements; group = t; modulus = roots; phases = phases })
   made_lawful elements t roots phases e t_is roots_is phases_is = rw (phases_is, roots_is, t_is, e) twist_over_lawful
+
+-- what the twisted centraliser is
+
+pub centraliser_is_twist : CentraliserIsTwist
+centraliser_is_twist w W a below = twist_lawful w W a below
+
+pub elements_commute : ElementsCommute
+unfolding twist_of
+elements_commute w W a x = centraliser_exactly w.group W.cochain.group a x
+
+pub products_agree : ProductsAgree
+unfolding twist_of
+products_agree w W a p r below p_below r_below = element_of_product w.group W.cochain.group a below p r p_below r_below
+
+pub phases_agree : PhasesAgree
+unfolding twist_of
+phases_agree w W a p r below p_below r_below = phase_is w W a below p r p_below r_below

@@ -3,6 +3,7 @@
 
 ghost use Rattle.slant.specs.Laws.{PhasesBelow, ThetaNormalised, GammaNormalised, ThetaAssociative, ThetaGammaCompatible, GammaIsTheta, ThetaAtItself, ThetaProductIndex};
 ghost use Rattle.slant.specs.Laws.{TransportPhasesInverse, TransportPhaseOfItself, TransportPhaseComposes, TransportPhaseBack, TransportIsAlgebraMap, GammaTransport, KappaComposes, KappaIsTransport};
+ghost use Rattle.slant.specs.TwistLaws.{CentraliserIsTwist, ElementsCommute, ProductsAgree, PhasesAgree};
 
 mod centraliser;
 mod slant_product;
@@ -40,4 +41,12 @@ pub fn transport_laws()
 pub fn kappa_laws()
     ensures composes { KappaComposes }
     ensures transport { KappaIsTransport }
+{}
+
+/// The centraliser of an element, with the slant product at it, is a group of elements with a normalised 2-cocycle.
+pub fn centraliser_laws()
+    ensures twist { CentraliserIsTwist }
+    ensures elements { ElementsCommute }
+    ensures products { ProductsAgree }
+    ensures phases { PhasesAgree }
 {}
