@@ -1,24 +1,25 @@
 -- The centre of a twisted group algebra over a commutative ring with a root of unity that tells exponents apart: the class sums
 -- of the regular classes are a basis of it (textbook).
-use Rattle.std.proofs.Common.{◌≡◌, ◌≢◌, ℕ, zero, suc, ◌+◌, ◌-◌, ◌*◌, ◌%◌, ◌<◌, Bool, true, false, Option, Some, None, refl, sym, ◌∙◌, ap, arith, add-one, ◌⊎◌, inl, inr}
+use Rattle.std.proofs.Common.{◌≡◌, ◌≢◌, ℕ, ◌+◌, ◌-◌, ◌*◌, ◌%◌, ◌<◌, Bool, sym, ◌∙◌, ap, arith, ◌⊎◌, inl, inr}
 use Rattle.std.proofs.Math.Nat.{zero-mod}
 use Rattle.std.proofs.Math.Dec.{eqb}
-use Rattle.std.proofs.lemmas.Bool.{eq-eqb, eqb-true}
+use Rattle.std.proofs.lemmas.Bool.{eq-eqb, ne_eqb, cases_eq}
 use Rattle.algebra.specs.Structures.{CommRing}
-use Rattle.algebra.specs.Sums.{sum_below, pick, multiple, power}
-use Rattle.algebra.specs.Totals.{Finite, equals, total}
+use Rattle.algebra.specs.Sums.{sum_below, pick}
+use Rattle.algebra.specs.Totals.{Finite, equals}
 use Rattle.algebra.specs.Groups.{Group}
-use Rattle.algebra.specs.Roots.{Roots, RootOfUnity}
+use Rattle.algebra.specs.Roots.{Roots}
 use Rattle.algebra.specs.Congruences.{Same}
 use Rattle.algebra.specs.Convolution.{IsTwoCocycle, twisted_convolution}
-use Rattle.algebra.proofs.RingLaws.{nought_mul, mul_nought, one_mul, product_rules}
-use Rattle.algebra.proofs.SumLaws.{sum_ext, sum_nought, sum_constant, sum_mul, sum_pick, pick_of, pick_off, pick_cong, pick_nought, pick_mul, mul_pick, pick_same, sum_add, mul_sum, sum_suc, sum_zero, power_zero, power_suc, power_add, power_mul}
-use Rattle.algebra.proofs.TotalLaws.{total_ext, total_pick, total_sum, equals_true, equals_of, equals_self, equals_false}
+use Rattle.algebra.proofs.RingLaws.{mul_nought, one_mul, product_rules}
+use Rattle.algebra.proofs.SumLaws.{sum_ext, sum_nought, sum_pick, pick_of, pick_off, pick_cong, pick_mul, mul_pick, pick_same, mul_sum}
+use Rattle.algebra.proofs.TotalLaws.{total_ext, total_pick, equals_true, equals_of}
 use Rattle.algebra.proofs.GroupLaws.{inv_op_op, op_inv_op, op_op_inv, op_inv_cancel}
 use Rattle.algebra.proofs.ConvolutionLaws.{convolution_at}
 use Rattle.algebra.proofs.CongruenceLaws.{same_sym, same_trans, same_add, same_multiple, same_of, same_lin}
-use Rattle.twisted.proofs.Carrying.{carry, carry_op, carry_one, carry_move, carry_back, carry_there, carry_left, carry_is, carry_of_commuting}
-use Rattle.twisted.proofs.ConjugationPhases.{IsConjugationPhase, IsRegular, kappa_composes, kappa_depends, kappa_of_one, regular_of_conjugate}
+use Rattle.twisted.proofs.SeparateRoots.{Separates}
+use Rattle.twisted.proofs.Carrying.{carry, carry_op, carry_one, carry_back, carry_left, carry_is, carry_of_commuting}
+use Rattle.twisted.proofs.ConjugationPhases.{IsConjugationPhase, IsRegular, kappa_composes, kappa_of_one, regular_of_conjugate}
 
 -- u_y: one at y, nought elsewhere
 abbrev pub unit_at : {A G : Type 0} → CommRing A → Finite G → G → G → A
@@ -31,10 +32,6 @@ pub record IsCentral {A G : Type 0} (R : CommRing A) (F : Finite G) (P : Group G
 -- z(c x c^-1) = e(ka(c,x)) z(x)
 pub record IsCovariant {A G : Type 0} (R : CommRing A) (P : Group G) {n : ℕ} (B : Roots R n) (k : G → G → ℕ) (z : G → A) : Type 0 where
   pub carries : (c x : G) → z (carry P c x) ≡ R.mul (B.root (k c x)) (z x)
-
--- only nought stays fixed under a root that isn't one
-pub record Separates {A : Type 0} (R : CommRing A) {n : ℕ} (B : Roots R n) : Type 0 where
-  pub fixed : (v : ℕ) (x : A) → v % n ≢ 0 → R.mul (B.root v) x ≡ x → x ≡ R.nought
 
 -- s is the class sum of x: ka(c,x) at c x c^-1, nought elsewhere
 pub record IsClassSum {A G : Type 0} (R : CommRing A) (P : Group G) {n : ℕ} (B : Roots R n) (k : G → G → ℕ) (x : G) (s : G → A) : Type 0 where
@@ -138,3 +135,80 @@ module _ {A G : Type 0} (R : CommRing A) (F : Finite G) (P : Group G) {n : ℕ} 
     where
       nought_same : {a : ℕ} → a % n ≡ 0 → Same n a 0
       nought_same e = record { same = e ∙ sym (zero-mod n) }
+
+  -- the class sum of a regular element is covariant
+  pub class_sum_carries : Transporters P → (x : G) (s : G → A) → IsRegular P n t x → IsClassSum R P B k x s → IsCovariant R P B k s
+  class_sum_carries D x s r h = record { carries = λ d y. by d y (D.find x y) }
+    where
+      by : (d y : G) → ((c : G) × (carry P c x ≡ y)) ⊎ ((c : G) → carry P c x ≡ y → ⊥) → s (carry P d y) ≡ R.mul (B.root (k d y)) (s y)
+      by d y (inl (c, e)) =
+          ap (λ w. s (carry P d w)) (sym e) ∙ ap s (sym (carry_op P d c x)) ∙ h.at_conjugates (P.op d c)
+          ∙ B.root_same (k (P.op d c) x) (k d (carry P c x) + k c x) (kappa_composes P n t k T K d c x) ∙ B.root_add (k d (carry P c x)) (k c x)
+          ∙ ap (λ w. R.mul (B.root (k d w)) (B.root (k c x))) e
+          ∙ ap (R.mul (B.root (k d y))) (sym (h.at_conjugates c) ∙ ap s e)
+      by d y (inr none) =
+          h.elsewhere (carry P d y) (λ c e. none (P.op (P.inv d) c) (carry_op P (P.inv d) c x ∙ ap (carry P (P.inv d)) e ∙ carry_back P d y))
+          ∙ sym (mul_nought R (B.root (k d y))) ∙ ap (R.mul (B.root (k d y))) (sym (h.elsewhere y none))
+
+  -- a class sum is one at its element
+  class_sum_at : (x : G) (s : G → A) → IsClassSum R P B k x s → s x ≡ R.one
+  class_sum_at x s h =
+      ap s (sym (carry_one P x)) ∙ h.at_conjugates P.one ∙ B.root_same (k P.one x) 0 (kappa_of_one P n t k T K x) ∙ B.root_zero
+
+  -- sums of covariant elements with constant factors
+  pub combination_carries : (count : ℕ) (c : ℕ → A) (s : ℕ → G → A) → ((i : ℕ) → i < count → IsCovariant R P B k (s i))
+      → IsCovariant R P B k (λ y. sum_below R count (λ i. R.mul (c i) (s i y)))
+  combination_carries count c s each = record {
+    carries = λ d x.
+        sum_ext R count (λ i. R.mul (c i) (s i (carry P d x))) (λ i. R.mul (B.root (k d x)) (R.mul (c i) (s i x)))
+        (λ i below. ap (R.mul (c i)) ((each i below).carries d x) ∙ swap (c i) (B.root (k d x)) (s i x))
+        ∙ sym (mul_sum R count (B.root (k d x)) (λ i. R.mul (c i) (s i x)));
+  }
+    where
+      swap : (a b w : A) → R.mul a (R.mul b w) ≡ R.mul b (R.mul a w)
+      swap a b w = simp (product_rules, R)
+
+  module _ (count : ℕ) (rep : ℕ → G) (Rep : Representatives P n t count rep) (s : ℕ → G → A) (sums : (i : ℕ) → i < count → IsClassSum R P B k (rep i) (s i)) where
+    -- at a conjugate of the representative j only its class sum is there
+    one_sum : (f : ℕ → A) (j : ℕ) → j < count → (c : G) → sum_below R count (λ i. R.mul (f i) (s i (carry P c (rep j)))) ≡ R.mul (f j) (B.root (k c (rep j)))
+    one_sum f j j_below c =
+        sum_ext R count (λ i. R.mul (f i) (s i (carry P c (rep j)))) (λ i. pick R (eqb i j) (R.mul (f j) (B.root (k c (rep j)))))
+        (λ i below. term i below (cases_eq i j))
+        ∙ sum_pick R count j (λ i. R.mul (f j) (B.root (k c (rep j)))) j_below
+      where
+        term : (i : ℕ) → i < count → (i ≡ j) ⊎ (i ≢ j) → R.mul (f i) (s i (carry P c (rep j))) ≡ pick R (eqb i j) (R.mul (f j) (B.root (k c (rep j))))
+        term i below (inl e) =
+            ap (λ h. R.mul (f h) (s h (carry P c (rep j)))) e ∙ ap (R.mul (f j)) ((sums j j_below).at_conjugates c)
+            ∙ sym (pick_of R (eqb i j) _ (eq-eqb i j e))
+        term i below (inr d) =
+            ap (R.mul (f i))
+            ((sums i below).elsewhere (carry P c (rep j))
+            (λ b e. d (Rep.apart i j below j_below (P.op (P.inv c) b) (carry_op P (P.inv c) b (rep i) ∙ ap (carry P (P.inv c)) e ∙ carry_back P c (rep j)))))
+            ∙ mul_nought R (f i) ∙ sym (pick_off R (eqb i j) _ (ne_eqb i j d))
+
+    -- a covariant element is the combination of the class sums with its values at the representatives
+    pub covariant_expands : Separates R B → Regularity P n t → (z : G → A) → IsCovariant R P B k z → (y : G) → z y ≡ sum_below R count (λ i. R.mul (z (rep i)) (s i y))
+    covariant_expands S D z h y = by (D.decide y)
+      where
+        by : IsRegular P n t y ⊎ ((c : G) × (P.op y c ≡ P.op c y) × (Same n (t y c) (t c y) → ⊥)) → z y ≡ sum_below R count (λ i. R.mul (z (rep i)) (s i y))
+        by (inl regular) =
+            let found = Rep.covers y regular in
+            let j : ℕ = found.0 in
+            let c : G = found.2.0 in
+            let e : carry P c (rep j) ≡ y = found.2.1 in
+            sym (ap z e) ∙ h.carries c (rep j) ∙ R.mul_comm (B.root (k c (rep j))) (z (rep j))
+            ∙ sym (one_sum (λ i. z (rep i)) j found.1 c) ∙ ap (λ w. sum_below R count (λ i. R.mul (z (rep i)) (s i w))) e
+        by (inr (c, e, different)) =
+            covariant_vanishes S z h y c e different
+            ∙ sym (sum_nought R count)
+            ∙ sym (sum_ext R count (λ i. R.mul (z (rep i)) (s i y)) (λ i. R.nought)
+            (λ i below. ap (R.mul (z (rep i)))
+            ((sums i below).elsewhere y
+            (λ b g. let regular : IsRegular P n t y = rw g at (regular_of_conjugate P n t k T K b (rep i) (Rep.regular i below)) in different (regular.symmetric c e)))
+            ∙ mul_nought R (z (rep i))))
+
+    -- in one way only
+    pub coefficients_unique : (z : G → A) (f : ℕ → A) → ((y : G) → z y ≡ sum_below R count (λ i. R.mul (f i) (s i y))) → (j : ℕ) → j < count → f j ≡ z (rep j)
+    coefficients_unique z f e j below =
+        sym (e (rep j) ∙ sym (ap (λ w. sum_below R count (λ i. R.mul (f i) (s i w))) (carry_one P (rep j))) ∙ one_sum f j below P.one
+        ∙ ap (R.mul (f j)) (B.root_same (k P.one (rep j)) 0 (kappa_of_one P n t k T K (rep j)) ∙ B.root_zero) ∙ R.mul_one (f j))

@@ -1,11 +1,11 @@
 -- The conjugation phase ka(c,x) = th(c,x) - th(c x c^-1, c) of a 2-cocycle th, modulo n (textbook).
-use Rattle.std.proofs.Common.{◌≡◌, ℕ, ◌+◌, ◌<◌, refl, sym, ◌∙◌, ap, arith}
+use Rattle.std.proofs.Common.{◌≡◌, ℕ, ◌+◌, sym, ◌∙◌, ap, arith}
 use Rattle.algebra.specs.Groups.{Group}
 use Rattle.algebra.specs.Congruences.{Same}
 use Rattle.algebra.specs.Convolution.{IsTwoCocycle}
-use Rattle.algebra.proofs.CongruenceLaws.{same_refl, same_of, same_sym, same_trans, same_add, same_lin, same_cancel}
+use Rattle.algebra.proofs.CongruenceLaws.{same_sym, same_add, same_lin}
 use Rattle.algebra.proofs.GroupLaws.{op_inv_op}
-use Rattle.twisted.proofs.Carrying.{carry, carry_op, carry_one, carry_move, carry_back, carry_there, carry_of_commuting, commuting_of_carry}
+use Rattle.twisted.proofs.Carrying.{carry, carry_op, carry_one, carry_move, carry_back, carry_of_commuting, commuting_of_carry}
 
 -- k is the conjugation phase of t: what th(c x c^-1, c) falls short of th(c,x)
 pub record IsConjugationPhase {G : Type 0} (P : Group G) (n : ℕ) (t k : G → G → ℕ) : Type 0 where

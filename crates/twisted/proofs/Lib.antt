@@ -1,4 +1,5 @@
 pub mod Places
 pub mod Carrying
 pub mod ConjugationPhases
+pub mod SeparateRoots
 pub mod CentreLaws
