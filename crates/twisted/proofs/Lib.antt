@@ -3,3 +3,4 @@ pub mod Carrying
 pub mod ConjugationPhases
 pub mod SeparateRoots
 pub mod CentreLaws
+pub mod Representatives
