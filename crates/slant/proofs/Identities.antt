@@ -1,5 +1,5 @@
 -- The identities of the phases of a cocycle, from those over the type of its elements.
-use Rattle.std.proofs.Common.{◌≡◌, ℕ, ◌<◌, sym}
+use Rattle.std.proofs.Common.{sym}
 use Rattle.algebra.specs.Groups.{conj}
 use Rattle.classes.specs.Conjugacy.{conjugate}
 use Rattle.phases.specs.Phases.{theta as slant_phase, gamma as coproduct_phase, transport_phase as carrying_phase, kappa as conjugation_phase}
@@ -26,25 +26,28 @@ gamma_is_theta w W b g h p q r commutes_g commutes_h =
 
 pub phases_below : PhasesBelow
 unfolding slant_phase coproduct_phase carrying_phase conjugation_phase theta gamma transport_phase kappa conj conjugate
-phases_below w W g x y p q r =
-    (abstract.theta_below (group w W) w.roots (exponent w) (three_cocycle w W) (element g p) (element x q) (element y r),
-    abstract.gamma_below (group w W) w.roots (exponent w) (three_cocycle w W) (element g p) (element x q) (element y r),
-    abstract.transport_phase_below (group w W) w.roots (exponent w) (three_cocycle w W) (element g p) (element x q) (element y r),
-    abstract.kappa_below (group w W) w.roots (exponent w) (three_cocycle w W) (element g p) (element x q) (element y r))
+phases_below w W g x y p q r = (
+  abstract.theta_below (group w W) w.roots (exponent w) (three_cocycle w W) (element g p) (element x q) (element y r),
+  abstract.gamma_below (group w W) w.roots (exponent w) (three_cocycle w W) (element g p) (element x q) (element y r),
+  abstract.transport_phase_below (group w W) w.roots (exponent w) (three_cocycle w W) (element g p) (element x q) (element y r),
+  abstract.kappa_below (group w W) w.roots (exponent w) (three_cocycle w W) (element g p) (element x q) (element y r),
+)
 
 pub theta_normalised : ThetaNormalised
 unfolding slant_phase coproduct_phase carrying_phase conjugation_phase theta gamma transport_phase kappa conj conjugate
-theta_normalised w W x y p q =
-    (abstract.theta_of_one (group w W) w.roots (exponent w) (three_cocycle w W) (element x p) (element y q),
-    abstract.theta_first_one (group w W) w.roots (exponent w) (three_cocycle w W) (element x p) (element y q),
-    abstract.theta_second_one (group w W) w.roots (exponent w) (three_cocycle w W) (element x p) (element y q))
+theta_normalised w W x y p q = (
+  abstract.theta_of_one (group w W) w.roots (exponent w) (three_cocycle w W) (element x p) (element y q),
+  abstract.theta_first_one (group w W) w.roots (exponent w) (three_cocycle w W) (element x p) (element y q),
+  abstract.theta_second_one (group w W) w.roots (exponent w) (three_cocycle w W) (element x p) (element y q),
+)
 
 pub gamma_normalised : GammaNormalised
 unfolding slant_phase coproduct_phase carrying_phase conjugation_phase theta gamma transport_phase kappa conj conjugate
-gamma_normalised w W g h p q =
-    (abstract.gamma_of_one (group w W) w.roots (exponent w) (three_cocycle w W) (element g p) (element h q),
-    abstract.gamma_first_one (group w W) w.roots (exponent w) (three_cocycle w W) (element g p) (element h q),
-    abstract.gamma_second_one (group w W) w.roots (exponent w) (three_cocycle w W) (element g p) (element h q))
+gamma_normalised w W g h p q = (
+  abstract.gamma_of_one (group w W) w.roots (exponent w) (three_cocycle w W) (element g p) (element h q),
+  abstract.gamma_first_one (group w W) w.roots (exponent w) (three_cocycle w W) (element g p) (element h q),
+  abstract.gamma_second_one (group w W) w.roots (exponent w) (three_cocycle w W) (element g p) (element h q),
+)
 
 pub transport_phases_inverse : TransportPhasesInverse
 unfolding slant_phase coproduct_phase carrying_phase conjugation_phase theta gamma transport_phase kappa conj conjugate
@@ -53,9 +56,10 @@ transport_phases_inverse w W g x k p q r commutes =
 
 pub theta_at_itself : ThetaAtItself
 unfolding slant_phase coproduct_phase carrying_phase conjugation_phase theta gamma transport_phase kappa conj conjugate
-theta_at_itself w W g x p q commutes =
-    (abstract.theta_at_itself (group w W) w.roots (exponent w) (three_cocycle w W) (element g p) (element x q) (commuting w W (element x q) (element g p) (sym commutes)),
-    abstract.theta_by_itself (group w W) w.roots (exponent w) (three_cocycle w W) (element g p) (element x q) (commuting w W (element x q) (element g p) (sym commutes)))
+theta_at_itself w W g x p q commutes = (
+  abstract.theta_at_itself (group w W) w.roots (exponent w) (three_cocycle w W) (element g p) (element x q) (commuting w W (element x q) (element g p) (sym commutes)),
+  abstract.theta_by_itself (group w W) w.roots (exponent w) (three_cocycle w W) (element g p) (element x q) (commuting w W (element x q) (element g p) (sym commutes)),
+)
 
 pub theta_product_index : ThetaProductIndex
 unfolding slant_phase coproduct_phase carrying_phase conjugation_phase theta gamma transport_phase kappa conj conjugate

@@ -2,7 +2,6 @@
 use Rattle.std.proofs.Common.{◌≡◌, ℕ, ◌<◌, refl}
 use Rattle.algebra.specs.Groups.{Group, conj}
 use Rattle.algebra.specs.Below.{Below, IsGroupBelow, below_equal}
-use Rattle.algebra.specs.Congruences.{Same}
 use Rattle.algebra.proofs.BelowLaws.{group_below}
 use Rattle.algebra.proofs.GroupLaws.{conj_of_commuting}
 use Rattle.group_table.specs.Group.{Table, product, inverse, identity_of, IsGroup}
@@ -10,8 +9,8 @@ use Rattle.group_table.proofs.Sentences.{closed, identity_below, inverse_found, 
 use Rattle.cochain.specs.Cochain.{Cochain, value, IsCocycle}
 use Rattle.cochain.proofs.Sentences.{value_below, first_one, second_one, third_one, closed_at}
 use Rattle.phases.specs.ThreeCocycle.{ThreeCocycle}
-use Rattle.slant.specs.Phases.{carried, theta, gamma, transport_phase, kappa}
-use Rattle.phases.specs.Phases.{theta as slant_phase, gamma as coproduct_phase, transport_phase as carrying_phase, kappa as conjugation_phase}
+use Rattle.slant.specs.Phases.{carried, theta}
+use Rattle.phases.specs.Phases.{theta as slant_phase}
 
 module _ (t : Table) (T : IsGroup t) where
   inverse_at : (g : ℕ) → g < t.order → IsTwoSidedInverse t g (inverse t g)

@@ -1,8 +1,7 @@
 -- A table whose products are a group on the numbers below its order breaks no law.
-use Rattle.std.proofs.Common.{◌≡◌, ℕ, ◌*◌, ◌<◌, Bool, true, false, ◌&&◌, nat_eq, nat_lt, cond, Option, Some, None, length, refl, sym, ap, ◌∙◌}
+use Rattle.std.proofs.Common.{◌≡◌, ℕ, ◌*◌, Bool, true, false, ◌&&◌, nat_eq, nat_lt, cond, Some, None, length, refl, sym, ◌∙◌}
 use Rattle.std.specs.Prelude.{is_some}
 use Rattle.std.proofs.lemmas.Bool.{eq-eqb, lt-ltb}
-use Rattle.scan.specs.First.{first, option_or, all_below}
 use Rattle.scan.proofs.Places.{first_none, all_below-all}
 use Rattle.orders.specs.Group.{IsGroupBelow}
 use Rattle.group_table.specs.Group.{Table, product, entry_fault, is_identity, two_sided_identity, identity_of, identity_fault, inverse_of, inverse_fault, associates, associativity_fault, group_fault, IsGroup}

@@ -1,5 +1,5 @@
 -- Numbers that are listed for each pair of places.
-use Rattle.std.proofs.Common.{◌≡◌, ℕ, zero, suc, ◌↔◌, ◌+◌, ◌*◌, ◌/◌, ◌%◌, ◌<◌, ◌≤◌, List, [], ◌∷◌, ◌++◌, length, map, get_or, refl, sym, ap, ◌∙◌, arith}
+use Rattle.std.proofs.Common.{◌≡◌, ℕ, zero, suc, ◌↔◌, ◌+◌, ◌*◌, ◌/◌, ◌%◌, ◌<◌, List, [], ◌∷◌, ◌++◌, length, map, get_or, refl, sym, ap, ◌∙◌, arith}
 use mathlib.Core.Path.{ap₂}
 use Rattle.std.specs.List.{range_with_len}
 use Rattle.std.proofs.Math.Nat.{mod-lt, div-lt_iff_lt-mul, mod-eq_of_lt, add-mul-mod_self_right}
@@ -38,3 +38,8 @@ pair_at m number p r p_below r_below =
     let swap : p * m + r ≡ r + p * m = omega arith in
     let column : (p * m + r) % m ≡ r = ap (λ z. z % m) swap ∙ add-mul-mod_self_right r p m ∙ mod-eq_of_lt r_below in
     listed_at m number (p * m + r) (place_below m p r p_below r_below) ∙ ap₂ number row column
+
+-- the numbers of the pairs before the one at i, and that one
+pub pairs_more : (m i v : ℕ) (number : ℕ → ℕ → ℕ) (front all : List ℕ) → all ≡ front ++ v ∷ [] → front ≡ map (λ i. number (i / m) (i % m)) (range_with_len 0 i) → v ≡ number (i / m) (i % m)
+    → all ≡ map (λ i. number (i / m) (i % m)) (range_with_len 0 (i + 1))
+pairs_more m i v number front all pushed before here = rw (pushed, before, here) (sym (map-range_with_len_more (λ i. number (i / m) (i % m)) 0 i i (omega arith)))

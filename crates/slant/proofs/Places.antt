@@ -1,19 +1,19 @@
 -- The centraliser of an element as a group on places. An element is a number of the whole group, a place the number of an element in
 -- the ascending list of the centraliser.
-use Rattle.std.proofs.Common.{◌≡◌, ℕ, ◌+◌, ◌*◌, ◌<◌, ◌≤◌, Bool, true, nat_eq, cond, Option, Some, None, List, length, get_or, refl, sym, ap, ◌∙◌, arith, eqb-true, eq-eqb}
+use Rattle.std.proofs.Common.{◌≡◌, ℕ, ◌<◌, nat_eq, List, length, get_or, refl, sym, ap, ◌∙◌, arith, eqb-true, eq-eqb}
 use Rattle.std.specs.Prelude.{unwrap_or}
-use Rattle.std.specs.List.{Contains}
 use Rattle.std.proofs.lemmas.List.Elements.{Contains-get_or}
 use Rattle.std.proofs.lemmas.Grind.{get_or_default_zero}
-use Rattle.scan.specs.First.{first}
 use Rattle.orders.specs.Group.{IsGroupBelow}
 use Rattle.group_table.specs.Group.{Table, product, inverse, identity_of, IsGroup}
 use Rattle.group_table.proofs.Sentences.{group_below, closed, identity_below, inverse_found, two_sided, IsTwoSidedInverse}
 use Rattle.group_table.proofs.Numbers.{passing_below-ascending}
-use Rattle.classes.specs.Conjugacy.{centraliser_of}
+use Rattle.orders.proofs.Powers.{inverse_unique}
+use Rattle.classes.specs.Conjugacy.{conjugate, centraliser_of}
 use Rattle.classes.proofs.Conjugacy.{centraliser_exactly}
-use Rattle.classes.proofs.Searches.{IsLeastPassing, place_if, least_passing, least_passing_found}
-use Rattle.slant.specs.Twists.{by_pairs, place_in, product_place, table_of}
+use Rattle.classes.proofs.Searches.{IsLeastPassing, least_passing, least_passing_found}
+use Rattle.slant.specs.Twists.{place_in, product_place, table_of}
+use Rattle.slant.proofs.Lawful.{identity_is_unit, is_group}
 use Rattle.slant.proofs.Pairs.{length-by_pairs, pair_at}
 
 -- x is an element that commutes with a
@@ -137,10 +137,13 @@ module _ (t : Table) (T : IsGroup t) (a : ℕ) (a_below : a < t.order) where
         (element_of_product p u below unit_place_below ∙ ap (product t (element p)) element_at_unit ∙ B.unit_right (element p) (element_centralises p below).below);
     right_inverse = λ p below.
         let r = place (inverse t (element p)) in
-        let r_below = place_below (inverse t (element p)) (inverse_place p below) in
-        (r, r_below, element_injective (product table p r) (place (identity_of t)) (product_below p r below r_below) unit_place_below
-        (element_of_product p r below r_below ∙ ap (product t (element p)) (element_at_place (inverse t (element p)) (inverse_place p below))
-        ∙ (inverse_at (element p) (element_centralises p below).below).right ∙ sym element_at_unit));
+        let r_below = place_below (inverse t (element p)) (inverse_place p below) in (
+          r,
+          r_below,
+          element_injective (product table p r) (place (identity_of t)) (product_below p r below r_below) unit_place_below
+              (element_of_product p r below r_below ∙ ap (product t (element p)) (element_at_place (inverse t (element p)) (inverse_place p below))
+              ∙ (inverse_at (element p) (element_centralises p below).below).right ∙ sym element_at_unit),
+        );
     associative = λ p q r p_below q_below r_below.
         let pq = product_below p q p_below q_below in
         let qr = product_below q r q_below r_below in
@@ -149,3 +152,31 @@ module _ (t : Table) (T : IsGroup t) (a : ℕ) (a_below : a < t.order) where
         ∙ B.associative (element p) (element q) (element r) (element_centralises p p_below).below (element_centralises q q_below).below (element_centralises r r_below).below
         ∙ sym (element_of_product p (product table q r) p_below qr ∙ ap (product t (element p)) (element_of_product q r q_below r_below)));
   }
+
+  -- the identity and inverses at places are those at elements
+  pub places_lawful : IsGroup table
+  places_lawful = is_group table (place (identity_of t)) places_group (length-by_pairs (length elements) (product_place t elements))
+
+  pub element_of_identity : element (identity_of table) ≡ identity_of t
+  element_of_identity = ap element (identity_is_unit table (place (identity_of t)) places_group) ∙ element_at_unit
+
+  pub inverse_below : (p : ℕ) → p < length elements → inverse table p < length elements
+  inverse_below p below = (two_sided table p (inverse table p) places_lawful below (inverse_found table p places_lawful below)).below
+
+  pub element_of_inverse : (p : ℕ) → p < length elements → element (inverse table p) ≡ inverse t (element p)
+  element_of_inverse p below =
+      let inv = two_sided table p (inverse table p) places_lawful below (inverse_found table p places_lawful below) in
+      let x_below = (element_centralises p below).below in
+      inverse_unique _ _ _ B (element p) (element (inverse table p)) (inverse t (element p)) x_below (element_centralises (inverse table p) inv.below).below (inverse_at (element p) x_below).below
+      (sym (element_of_product p (inverse table p) below inv.below) ∙ ap element inv.right ∙ element_of_identity) (inverse_at (element p) x_below).right
+
+  pub conjugate_below : (c p : ℕ) → c < length elements → p < length elements → conjugate table c p < length elements
+  unfolding conjugate
+  conjugate_below c p c_below p_below = product_below (product table c p) (inverse table c) (product_below c p c_below p_below) (inverse_below c c_below)
+
+  pub element_of_conjugate : (c p : ℕ) → c < length elements → p < length elements → element (conjugate table c p) ≡ conjugate t (element c) (element p)
+  unfolding conjugate
+  element_of_conjugate c p c_below p_below =
+      element_of_product (product table c p) (inverse table c) (product_below c p c_below p_below) (inverse_below c c_below)
+      ∙ ap (λ x. product t x (element (inverse table c))) (element_of_product c p c_below p_below)
+      ∙ ap (product t (product t (element c) (element p))) (element_of_inverse c c_below)

@@ -1,5 +1,5 @@
 -- The centraliser of an element with the slant product is a twist.
-use Rattle.std.proofs.Common.{◌≡◌, ℕ, ◌+◌, ◌*◌, ◌/◌, ◌%◌, ◌<◌, ◌≤◌, List, length, get_or, refl, sym, ap, ◌∙◌, arith}
+use Rattle.std.proofs.Common.{◌≡◌, ℕ, ◌+◌, ◌-◌, ◌*◌, ◌/◌, ◌%◌, ◌<◌, ◌≤◌, List, length, get_or, refl, sym, ap, ◌∙◌, arith}
 use Rattle.std.proofs.Common.{nat_eq}
 use mathlib.Core.Path.{ap₂}
 use Rattle.algebra.specs.Congruences.{Same}
@@ -9,16 +9,17 @@ use Rattle.group_table.specs.Group.{Table, product, inverse, identity_of, IsGrou
 use Rattle.group_table.proofs.Sentences.{group_below, inverse_found, two_sided}
 use Rattle.group_table.proofs.Numbers.{length-passing_below}
 use Rattle.cochain.specs.Cochain.{Cochain, IsCocycle}
-use Rattle.classes.specs.Conjugacy.{centraliser_of}
+use Rattle.classes.specs.Conjugacy.{conjugate, centraliser_of}
 use Rattle.classes.proofs.Conjugacy.{centraliser_exactly}
 use Rattle.twisted.specs.Twist.{TwistedSubgroup, phase, size, HasCocycle, IsTwist}
-use Rattle.slant.specs.Phases.{carried, theta}
-use Rattle.slant.specs.TwistLaws.{CentraliserIsTwist, ElementsCommute, ProductsAgree, PhasesAgree}
+use Rattle.twisted.specs.Regular.{kappa as kappa_at_places}
+use Rattle.slant.specs.Phases.{carried, theta, kappa}
+use Rattle.slant.specs.TwistLaws.{CentraliserIsTwist, ElementsCommute, ProductsAgree, IdentitiesAgree, InversesAgree, PhasesAgree, KappasAgree}
 use Rattle.slant.specs.Twists.{by_pairs, table_of, phase_at, twist_over, twist_of}
 use Rattle.slant.proofs.Identities.{phases_below, theta_normalised, theta_associative}
-use Rattle.slant.proofs.Lawful.{identity_is_unit, is_group}
+use Rattle.slant.proofs.Lawful.{identity_is_unit}
 use Rattle.slant.proofs.Pairs.{length-by_pairs, row_below, column_below, listed_at, pair_at}
-use Rattle.slant.proofs.Places.{Centralises, elements, element, table, place, ascending, element_centralises, own, identity_centralises, place_below, element_at_place, element_of_product, product_below, places_group}
+use Rattle.slant.proofs.Places.{Centralises, elements, element, table, place, ascending, element_centralises, own, identity_centralises, place_below, element_at_place, element_of_product, product_below, places_group, places_lawful, element_of_identity, element_of_inverse, conjugate_below, element_of_conjugate}
 
 -- what commutes with a carries it to itself
 pub carried_back : (t : Table) → IsGroup t → (a x : ℕ) → a < t.order → Centralises t a x → carried t a x ≡ a
@@ -44,9 +45,6 @@ module _ (w : Cochain) (W : IsCocycle w) (a : ℕ) (a_below : a < w.group.order)
 
   pub phase_is : (p r : ℕ) → p < size here → r < size here → phase here p r ≡ theta w a (at_place p) (at_place r)
   phase_is p r p_below r_below = pair_at (length (centraliser_of w.group a)) (phase_at w a (centraliser_of w.group a)) p r p_below r_below
-
-  pub places_lawful : IsGroup (table_of w.group (centraliser_of w.group a))
-  places_lawful = is_group (table w.group T a a_below) _ (places_group w.group T a a_below) (length-by_pairs _ _)
 
   identity_place : identity_of (table_of w.group (centraliser_of w.group a)) ≡ place w.group T a a_below (identity_of w.group)
   identity_place = identity_is_unit (table w.group T a a_below) _ (places_group w.group T a a_below)
@@ -93,7 +91,7 @@ module _ (w : Cochain) (W : IsCocycle w) (a : ℕ) (a_below : a < w.group.order)
 
   pub twist_over_lawful : IsTwist here
   twist_over_lawful = record {
-    group = places_lawful;
+    group = places_lawful w.group T a a_below;
     small = record {
       from_one = let some : place w.group T a a_below a < length (centraliser_of w.group a) = place_below w.group T a a_below a (own w.group T a a_below) in omega arith;
       to_sixty = omega (arith, few_elements, W.cochain.small.to_sixty);
@@ -106,6 +104,13 @@ module _ (w : Cochain) (W : IsCocycle w) (a : ℕ) (a_below : a < w.group.order)
     below = λ i below. phase_below i (rw (length-by_pairs (size here) (phase_at w a (centraliser_of w.group a))) at below);
     cocycle = cocycle;
   }
+
+  pub kappa_is : (c p : ℕ) → c < size here → p < size here → kappa_at_places here c p ≡ kappa w a (at_place c) (at_place p)
+  unfolding kappa_at_places kappa
+  kappa_is c p c_below p_below =
+      ap₂ (λ u v. (u + (w.roots - v)) % w.roots) (phase_is c p c_below p_below)
+      (phase_is (conjugate here.group c p) c (conjugate_below w.group T a a_below c p c_below p_below) c_below
+      ∙ ap (λ x. theta w a x (at_place c)) (element_of_conjugate w.group T a a_below c p c_below p_below))
 
   pub twist_lawful : IsTwist (twist_of w a)
   unfolding twist_of
@@ -120,7 +125,7 @@ module _ (w : Cochain) (W : IsCocycle w) (a : ℕ) (a_below : a < w.group.order)
   elements_few elements e = rw e twist_over_lawful.small
 
   pub elements_lawful : (t : Table) (elements : List ℕ) → t ≡ w.group → elements ≡ centraliser_of w.group a → IsGroup (table_of t elements)
-  elements_lawful t elements same e = rw (same, e) places_lawful
+  elements_lawful t elements same e = rw (same, e) (places_lawful w.group T a a_below)
 
   pub made_lawful : (elements : List ℕ) (t : Table) (roots : ℕ) (phases : List ℕ) → elements ≡ centraliser_of w.group a → t ≡ table_of w.group elements → roots ≡ w.roots
       → phases ≡ by_pairs (length elements) (phase_at w a elements) → IsTwist (record { at = a; elements = elements; group = t; modulus = roots; phases = phases })
@@ -142,3 +147,15 @@ products_agree w W a p r below p_below r_below = element_of_product w.group W.co
 pub phases_agree : PhasesAgree
 unfolding twist_of
 phases_agree w W a p r below p_below r_below = phase_is w W a below p r p_below r_below
+
+pub identities_agree : IdentitiesAgree
+unfolding twist_of
+identities_agree w W a below = element_of_identity w.group W.cochain.group a below
+
+pub inverses_agree : InversesAgree
+unfolding twist_of
+inverses_agree w W a p below p_below = element_of_inverse w.group W.cochain.group a below p p_below
+
+pub kappas_agree : KappasAgree
+unfolding twist_of
+kappas_agree w W a c p below c_below p_below = kappa_is w W a below c p c_below p_below

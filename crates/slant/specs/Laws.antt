@@ -2,7 +2,7 @@
 -- (Dijkgraaf, Pasquier, Roche 1990). Every variable is an element of the group.
 use Rattle.std.specs.Prelude.{◌≡◌, ℕ, ◌+◌, ◌<◌}
 use Rattle.algebra.specs.Congruences.{Same}
-use Rattle.group_table.specs.Group.{Table, product, inverse, identity_of}
+use Rattle.group_table.specs.Group.{product, inverse, identity_of}
 use Rattle.cochain.specs.Cochain.{Cochain, value, IsCocycle}
 use Rattle.classes.specs.Conjugacy.{conjugate}
 use Rattle.slant.specs.Phases.{carried, theta, gamma, transport_phase, kappa}

@@ -47,11 +47,7 @@ fn place_in(elements: &Nats, x: u32) -> Option<u32>
 {
     first_below(
         elements.len(),
-        |p| if elements.at(p) == x {
-            Some(p)
-        } else {
-            None
-        },
+        |p| if elements.at(p) == x { Some(p) } else { None },
     )
 }
 

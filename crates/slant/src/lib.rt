@@ -3,7 +3,7 @@
 
 ghost use Rattle.slant.specs.Laws.{PhasesBelow, ThetaNormalised, GammaNormalised, ThetaAssociative, ThetaGammaCompatible, GammaIsTheta, ThetaAtItself, ThetaProductIndex};
 ghost use Rattle.slant.specs.Laws.{TransportPhasesInverse, TransportPhaseOfItself, TransportPhaseComposes, TransportPhaseBack, TransportIsAlgebraMap, GammaTransport, KappaComposes, KappaIsTransport};
-ghost use Rattle.slant.specs.TwistLaws.{CentraliserIsTwist, ElementsCommute, ProductsAgree, PhasesAgree};
+ghost use Rattle.slant.specs.TwistLaws.{CentraliserIsTwist, ElementsCommute, ProductsAgree, IdentitiesAgree, InversesAgree, PhasesAgree, KappasAgree};
 
 mod centraliser;
 mod slant_product;
@@ -48,5 +48,8 @@ pub fn centraliser_laws()
     ensures twist { CentraliserIsTwist }
     ensures elements { ElementsCommute }
     ensures products { ProductsAgree }
+    ensures identity { IdentitiesAgree }
+    ensures inverses { InversesAgree }
     ensures phases { PhasesAgree }
+    ensures kappa { KappasAgree }
 {}

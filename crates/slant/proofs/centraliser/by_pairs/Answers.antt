@@ -1,8 +1,6 @@
-use Rattle.std.proofs.Common.{◌≡◌, ℕ, ◌+◌, ◌*◌, ◌/◌, ◌%◌, [], ◌∷◌, ◌++◌, length, map, sym, ap, ◌∙◌, arith, length-append}
+use Rattle.std.proofs.Common.{◌≡◌, ◌*◌, ◌/◌, ◌%◌, map, sym, ap, ◌∙◌, arith, length-append}
 use Rattle.std.specs.List.{range_with_len}
-use Rattle.std.proofs.lemmas.List.FromFn.{map-range_with_len_more}
-use Rattle.slant.specs.Twists.{by_pairs}
-use Rattle.slant.proofs.Pairs.{row_below, column_below, by_pairs_is}
+use Rattle.slant.proofs.Pairs.{row_below, column_below, by_pairs_is, pairs_more}
 use Rattle.slant.proofs.centraliser.by_pairs.Goals as goal
 
 pub loop-i-preserved : goal.loop-i-preserved
@@ -11,11 +9,8 @@ loop-i-preserved g c = record {
   kept = λ at each.
       let i = c.loop-i.i in
       let m = c.args.m in
-      let v : c.number.result ≡ at (i / m) (i % m) = each (i / m) (i % m) c.number.result (row_below m i c.loop-i-test.true) (column_below m i c.loop-i-test.true) c.number.ensures in
-      c.in_ok-push.ensures.added
-      ∙ ap (λ front. front ++ c.number.result ∷ []) (c.loop-i.invariant.kept at each)
-      ∙ ap (λ last. map (λ j. at (j / m) (j % m)) (range_with_len 0 i) ++ last ∷ []) v
-      ∙ sym (map-range_with_len_more (λ j. at (j / m) (j % m)) 0 i i (omega arith));
+      pairs_more m i c.number.result at c.loop-i.numbers c.push.new.self c.in_ok-push.ensures.added (c.loop-i.invariant.kept at each)
+      (each (i / m) (i % m) c.number.result (row_below m i c.loop-i-test.true) (column_below m i c.loop-i-test.true) c.number.ensures);
 }
 
 pub returns : goal.returns

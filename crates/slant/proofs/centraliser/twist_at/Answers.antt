@@ -1,4 +1,4 @@
-use Rattle.std.proofs.Common.{◌≡◌, ℕ, refl, ap, ◌∙◌}
+use Rattle.std.proofs.Common.{refl, ap, ◌∙◌}
 use Rattle.classes.specs.Conjugacy.{centraliser_of}
 use Rattle.slant.specs.Twists.{table_of}
 use Rattle.slant.proofs.TwistLaws.{elements_below, elements_few, elements_lawful, made_lawful}
