@@ -1,2 +1,3 @@
 pub mod Cube
 pub mod Difference
+pub mod Sentences

@@ -1,0 +1,2 @@
+pub mod ThreeCocycle
+pub mod Phases

@@ -1,0 +1,4 @@
+pub mod Phases
+pub mod Laws
+pub mod Twists
+pub mod TwistLaws

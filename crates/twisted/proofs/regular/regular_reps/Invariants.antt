@@ -1,0 +1,8 @@
+use Rattle.std.proofs.Common.{◌≡◌, ◌+◌, ◌≤◌, ◌∷◌, length}
+use Rattle.group_table.specs.Group.{identity_of}
+use Rattle.twisted.proofs.Representatives.{other_regular}
+use Rattle.twisted.proofs.regular.regular_reps.Given as goal
+
+-- the identity and the others below p
+abbrev pub invariant-loop-p : goal.invariant-loop-p
+invariant-loop-p l = record { listed : l.places ≡ identity_of l.twist.group ∷ other_regular l.twist l.p; few : length l.places ≤ l.p + 1 }

@@ -1,0 +1,2 @@
+pub mod Twist
+pub mod Regular

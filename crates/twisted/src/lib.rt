@@ -1,0 +1,8 @@
+//! Subgroups of a finite group with a normalised 2-cocycle, their twisted group algebras, and the centres of these.
+#![tactic(auto)]
+
+mod regular;
+mod twist;
+
+pub use regular::{centre_rank, is_regular, kappa, regular_reps};
+pub use twist::Twist;
