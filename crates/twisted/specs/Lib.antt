@@ -1,2 +1,4 @@
 pub mod Twist
 pub mod Regular
+pub mod Algebra
+pub mod Refusal
