@@ -4,3 +4,4 @@ pub mod ConjugationPhases
 pub mod SeparateRoots
 pub mod CentreLaws
 pub mod Representatives
+pub mod Coefficients

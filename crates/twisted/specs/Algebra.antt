@@ -1,12 +1,12 @@
 -- The twisted group algebra of a twist over a commutative ring with a root of unity z whose order m is a multiple of the modulus N
 -- (textbook). Every index is a place; an element of the algebra is its coefficients by place.
-use Rattle.std.specs.Prelude.{◌≡◌, ℕ, ◌+◌, ◌*◌, ◌/◌, ◌<◌, Bool, ◌==◌, List, map, slice_index_or, IfSome}
+use Rattle.std.specs.Prelude.{◌≡◌, ℕ, ◌*◌, ◌/◌, ◌<◌, Bool, ◌==◌, List, map, slice_index_or}
 use Rattle.std.specs.Option.{option_map_or}
 use Rattle.algebra.specs.Structures.{CommRing}
 use Rattle.algebra.specs.Sums.{sum_below, pick, power}
 use Rattle.algebra.specs.Roots.{RootOfUnity}
 use Rattle.group_table.specs.Group.{product, inverse}
-use Rattle.classes.specs.Conjugacy.{conjugate, least_transporter}
+use Rattle.classes.specs.Conjugacy.{least_transporter}
 use Rattle.qd_ring.specs.Fit.{FitRules, term_fits, sum_overflows}
 use Rattle.twisted.specs.Twist.{TwistedSubgroup, size, phase}
 use Rattle.twisted.specs.Regular.{kappa}

@@ -74,13 +74,7 @@ fn product_term<R: Ring>(
 }
 
 /// The product of `a` and `b` at the place `x`; `None` only where its sum overflows.
-fn product_at<R: Ring>(
-    ring: &R,
-    twist: &Twist,
-    a: &Elem<R>,
-    b: &Elem<R>,
-    x: u32,
-) -> Option<R::Elem>
+fn product_at<R: Ring>(ring: &R, twist: &Twist, a: &Elem<R>, b: &Elem<R>, x: u32) -> Option<R::Elem>
     requires x_below { x < size twist.now }
     requires a_size { length a.now ≡ size twist.now }
     requires b_size { length b.now ≡ size twist.now }
@@ -90,7 +84,11 @@ fn product_at<R: Ring>(
     ensures overflow { let p = coefficient (R.of ring.now) (R.ops ring.now).nought a.now in let r = coefficient (R.of ring.now) (R.ops ring.now).nought b.now in IfNone result (product_overflows (R.ops ring.now) (R.unit ring.now) twist.now (R.rules ring.now) p r x ≡ true) }
     ensures sum { let p = coefficient (R.of ring.now) (R.ops ring.now).nought a.now in let r = coefficient (R.of ring.now) (R.ops ring.now).nought b.now in IfSome result (λ sum. R.of ring.now sum ≡ twisted_product (R.ops ring.now) (R.unit ring.now) twist.now p r x) }
 {
-    try_sum_below(ring, twist.size(), |y| product_term(ring, twist, a, b, x, y))
+    try_sum_below(
+        ring,
+        twist.size(),
+        |y| product_term(ring, twist, a, b, x, y),
+    )
 }
 
 /// The product of `a` and `b` in the twisted group algebra: its coefficient at the place `x` is the sum over all places `y` of the

@@ -1,4 +1,4 @@
-use Rattle.std.proofs.Common.{◌≡◌, All, length, vec_len}
+use Rattle.std.proofs.Common.{◌≡◌, All, vec_len}
 use Rattle.twisted.proofs.elem.Elem.zero.Given as goal
 
 -- as many zeros as there are places so far
