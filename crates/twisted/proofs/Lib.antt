@@ -5,3 +5,5 @@ pub mod SeparateRoots
 pub mod CentreLaws
 pub mod Representatives
 pub mod Coefficients
+pub mod Translation
+pub mod RegularClasses
