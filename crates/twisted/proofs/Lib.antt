@@ -7,3 +7,4 @@ pub mod Representatives
 pub mod Coefficients
 pub mod Translation
 pub mod RegularClasses
+pub mod AlgebraLaws

@@ -1,6 +1,6 @@
 -- The twisted group algebra of a twist over a commutative ring with a root of unity z whose order m is a multiple of the modulus N
 -- (textbook). Every index is a place; an element of the algebra is its coefficients by place.
-use Rattle.std.specs.Prelude.{◌≡◌, ℕ, ◌*◌, ◌/◌, ◌<◌, Bool, ◌==◌, List, map, slice_index_or}
+use Rattle.std.specs.Prelude.{◌≡◌, ℕ, ◌*◌, ◌/◌, ◌<◌, Bool, ◌==◌, List, map, slice_index, slice_index_or}
 use Rattle.std.specs.Option.{option_map_or}
 use Rattle.algebra.specs.Structures.{CommRing}
 use Rattle.algebra.specs.Sums.{sum_below, pick, power}
@@ -9,7 +9,7 @@ use Rattle.group_table.specs.Group.{product, inverse}
 use Rattle.classes.specs.Conjugacy.{least_transporter}
 use Rattle.qd_ring.specs.Fit.{FitRules, term_fits, sum_overflows}
 use Rattle.twisted.specs.Twist.{TwistedSubgroup, size, phase}
-use Rattle.twisted.specs.Regular.{kappa}
+use Rattle.twisted.specs.Regular.{kappa, regular_representatives, rank}
 
 -- y^-1 x
 abbrev pub left_quotient : TwistedSubgroup → ℕ → ℕ → ℕ
@@ -52,3 +52,7 @@ module _ {A : Type 0} (R : CommRing A) {m : ℕ} (U : RootOfUnity R m) (s : Twis
   -- the class sum of p: e(ka(c,p)) at each conjugate c p c^-1, where c is the least that carries p there, and 0 elsewhere
   abbrev pub class_sum : ℕ → ℕ → A
   class_sum p y = option_map_or (λ c. root (kappa s c p)) (least_transporter s.group p y) R.nought
+
+  -- the combination of the class sums of the representatives of the regular classes with these coefficients, at x
+  abbrev pub combination : (ℕ → A) → ℕ → A
+  combination f x = sum_below R (rank s) (λ i. R.mul (f i) (class_sum (slice_index (regular_representatives s) i) x))

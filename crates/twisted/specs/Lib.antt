@@ -2,3 +2,4 @@ pub mod Twist
 pub mod Regular
 pub mod Algebra
 pub mod Refusal
+pub mod Laws
