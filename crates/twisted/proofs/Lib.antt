@@ -4,3 +4,7 @@ pub mod ConjugationPhases
 pub mod SeparateRoots
 pub mod CentreLaws
 pub mod Representatives
+pub mod Coefficients
+pub mod Translation
+pub mod RegularClasses
+pub mod AlgebraLaws

@@ -1,2 +1,5 @@
 pub mod Twist
 pub mod Regular
+pub mod Algebra
+pub mod Refusal
+pub mod Laws

@@ -1,0 +1,185 @@
+-- The laws of the algebra of a twist, from those over abstract groups.
+use Rattle.std.proofs.Common.{◌≡◌, ℕ, ◌+◌, ◌*◌, ◌/◌, ◌%◌, ◌<◌, true, false, Option, Some, None, get_or, refl, sym, ◌∙◌, ap, arith, ◌↔◌, eqb-true}
+use Rattle.std.specs.Prelude.{is_some}
+use Rattle.std.proofs.Math.Nat.{div-add-mod}
+use Rattle.std.specs.Option.{option_map_or}
+use mathlib.Core.Path.{fun_ext}
+use Rattle.algebra.specs.Structures.{CommRing}
+use Rattle.algebra.specs.Totals.{equals}
+use Rattle.algebra.specs.Below.{Below, below_equal}
+use Rattle.algebra.specs.Roots.{Roots, RootOfUnity}
+use Rattle.algebra.specs.Convolution.{twisted_convolution}
+use Rattle.algebra.proofs.BelowLaws.{total_below}
+use Rattle.algebra.proofs.ConvolutionLaws.{convolution_at, convolution_assoc}
+use Rattle.classes.specs.Conjugacy.{conjugate, least_transporter}
+use Rattle.classes.proofs.Conjugacy.{transporter_least, conjugate_by}
+use Rattle.twisted.specs.Twist.{TwistedSubgroup, size, IsTwist}
+use Rattle.twisted.specs.Regular.{kappa, is_regular, regular_representatives, rank}
+use Rattle.twisted.specs.Algebra.{root, product_term, twisted_product, unit_vector, IsCentral, class_sum, combination}
+use Rattle.twisted.proofs.SeparateRoots.{scaled_roots, scaled_roots_separate}
+use Rattle.twisted.proofs.Carrying.{carry}
+use Rattle.twisted.proofs.ConjugationPhases.{IsRegular, kappa_depends}
+use Rattle.twisted.proofs.CentreLaws.{unit_at, IsCovariant, IsClassSum, central_carries, covariant_commutes, class_sum_carries, combination_carries, covariant_expands, coefficients_unique}
+use Rattle.twisted.proofs.CentreLaws as centre
+use Rattle.twisted.proofs.Translation.{places, place_group, phase_at, kappa_at, phases_cocycle, kappa_phase, carry_value, regular_of_test, some_place, some_root, regularity, transporters}
+use Rattle.twisted.proofs.RegularClasses.{representative_place, regular_classes}
+
+pub quotient_whole : (m n : ℕ) → m % n ≡ 0 → m ≡ m / n * n
+quotient_whole m n e = let parts : n * (m / n) + m % n ≡ m = div-add-mod m n in omega arith
+
+module _ {A : Type 0} (R : CommRing A) {m : ℕ} (U : RootOfUnity R m) (s : TwistedSubgroup) (twist : IsTwist s) (divides : m % s.modulus ≡ 0) where
+  -- the roots with exponents modulo the modulus
+  abbrev pub twist_roots : Roots R s.modulus
+  twist_roots = scaled_roots R U s.modulus (m / s.modulus) (some_root s twist) (quotient_whole m s.modulus divides)
+
+  -- an element by place, on the places as a type
+  abbrev pub on_places : (ℕ → A) → Below (size s) → A
+  on_places z x = z x.value
+
+  pub product_on_places : (p r : ℕ → A) (x : Below (size s))
+      → twisted_convolution R (places s twist) (place_group s twist) twist_roots (phase_at s twist) (on_places p) (on_places r) x ≡ twisted_product R U s p r x.value
+  product_on_places p r x =
+      convolution_at R (places s twist) (place_group s twist) twist_roots (phase_at s twist) (on_places p) (on_places r) x
+      ∙ total_below R (size s) (some_place s twist) (product_term R U s p r x.value)
+
+  unit_on_places : (y : Below (size s)) → unit_at R (places s twist) y ≡ on_places (unit_vector R U s y.value)
+  unfolding equals
+  unit_on_places y = refl
+
+  -- what commutes with every u_y
+  central_on_places : (z : ℕ → A) → IsCentral R U s z → centre.IsCentral R (places s twist) (place_group s twist) twist_roots (phase_at s twist) (on_places z)
+  central_on_places z h = record {
+    commutes = λ c v.
+        ap (λ u. twisted_convolution R (places s twist) (place_group s twist) twist_roots (phase_at s twist) (on_places z) u v) (unit_on_places c)
+        ∙ product_on_places z (unit_vector R U s c.value) v
+        ∙ h.commutes c.value v.value c.below v.below
+        ∙ sym (product_on_places (unit_vector R U s c.value) z v)
+        ∙ ap (λ u. twisted_convolution R (places s twist) (place_group s twist) twist_roots (phase_at s twist) u (on_places z) v) (sym (unit_on_places c));
+  }
+
+  central_from_places : (z : ℕ → A) → centre.IsCentral R (places s twist) (place_group s twist) twist_roots (phase_at s twist) (on_places z) → IsCentral R U s z
+  central_from_places z h = record {
+    commutes = λ y x y_below x_below.
+        let c : Below (size s) = record { value = y; below = y_below } in
+        let v : Below (size s) = record { value = x; below = x_below } in
+        sym (product_on_places z (unit_vector R U s y) v)
+        ∙ ap (λ u. twisted_convolution R (places s twist) (place_group s twist) twist_roots (phase_at s twist) (on_places z) u v) (sym (unit_on_places c))
+        ∙ h.commutes c v
+        ∙ ap (λ u. twisted_convolution R (places s twist) (place_group s twist) twist_roots (phase_at s twist) u (on_places z) v) (unit_on_places c)
+        ∙ product_on_places (unit_vector R U s y) z v;
+  }
+
+  -- z(c x c^-1) = e(ka(c,x)) z(x)
+  pub central_covariant : (z : ℕ → A) → IsCentral R U s z → IsCovariant R (place_group s twist) twist_roots (kappa_at s twist) (on_places z)
+  central_covariant z h =
+      central_carries R (places s twist) (place_group s twist) (some_root s twist) twist_roots (phase_at s twist) (kappa_at s twist) (phases_cocycle s twist) (kappa_phase s twist)
+      (on_places z) (central_on_places z h)
+
+  pub covariant_central : (z : ℕ → A) → IsCovariant R (place_group s twist) twist_roots (kappa_at s twist) (on_places z) → IsCentral R U s z
+  covariant_central z h =
+      central_from_places z
+      (covariant_commutes R (places s twist) (place_group s twist) (some_root s twist) twist_roots (phase_at s twist) (kappa_at s twist) (phases_cocycle s twist) (kappa_phase s twist)
+      (on_places z) h)
+
+  -- the class sum of a regular place
+  class_sum_found : (p y : ℕ) (o : Option ℕ) → least_transporter s.group p y ≡ o → class_sum R U s p y ≡ option_map_or (λ c. root R U s (kappa s c p)) o R.nought
+  class_sum_found p y o e = ap (λ o. option_map_or (λ c. root R U s (kappa s c p)) o R.nought) e
+
+  pub class_sum_is : (p : Below (size s)) → IsRegular (place_group s twist) s.modulus (phase_at s twist) p
+      → IsClassSum R (place_group s twist) twist_roots (kappa_at s twist) p (on_places (class_sum R U s p.value))
+  class_sum_is p regular = record {
+    at_conjugates = λ c. there c (least_transporter s.group p.value (carry (place_group s twist) c p).value) refl;
+    elsewhere = λ y none. absent y none (least_transporter s.group p.value y.value) refl;
+  }
+    where
+      there : (c : Below (size s)) (o : Option ℕ) → least_transporter s.group p.value (carry (place_group s twist) c p).value ≡ o
+          → class_sum R U s p.value (carry (place_group s twist) c p).value ≡ root R U s (kappa s c.value p.value)
+      there c (Some d) e =
+          let least = transporter_least s.group twist.group p.value (carry (place_group s twist) c p).value d e in
+          let k : Below (size s) = record { value = d; below = least.below } in
+          class_sum_found p.value (carry (place_group s twist) c p).value (Some d) e
+          ∙ twist_roots.root_same (kappa s d p.value) (kappa s c.value p.value)
+          (kappa_depends (place_group s twist) s.modulus (phase_at s twist) (kappa_at s twist) (phases_cocycle s twist) (kappa_phase s twist) k c p regular
+          (below_equal _ _ (carry_value s twist k p ∙ eqb-true _ _ least.passes)))
+      there c None e =
+          let found : is_some (least_transporter s.group p.value (carry (place_group s twist) c p).value) ≡ true =
+          conjugate_by s.group twist.group p.value (carry (place_group s twist) c p).value c.value c.below (sym (carry_value s twist c p)) in
+          let none : is_some (least_transporter s.group p.value (carry (place_group s twist) c p).value) ≡ false = ap is_some e in
+          absurd cc
+
+      absent : (y : Below (size s)) → ((c : Below (size s)) → carry (place_group s twist) c p ≡ y → ⊥) → (o : Option ℕ) → least_transporter s.group p.value y.value ≡ o
+          → class_sum R U s p.value y.value ≡ R.nought
+      absent y none (Some d) e =
+          let least = transporter_least s.group twist.group p.value y.value d e in
+          let k : Below (size s) = record { value = d; below = least.below } in
+          absurd (none k (below_equal _ _ (carry_value s twist k p ∙ eqb-true _ _ least.passes)))
+      absent y none None e = class_sum_found p.value y.value None e
+
+  -- it commutes with every u_y
+  pub class_sum_central : (p : ℕ) → p < size s → is_regular s p ≡ true → IsCentral R U s (class_sum R U s p)
+  class_sum_central p below regular =
+      let x : Below (size s) = record { value = p; below = below } in
+      let own = regular_of_test s twist x regular in
+      covariant_central (class_sum R U s p)
+      (class_sum_carries R (places s twist) (place_group s twist) (some_root s twist) twist_roots (phase_at s twist) (kappa_at s twist) (phases_cocycle s twist) (kappa_phase s twist)
+      (transporters s twist) x (on_places (class_sum R U s p)) own (class_sum_is x own))
+
+  -- it is e(ka(c,p)) at each conjugate
+  pub class_sum_at_conjugates : (c p : ℕ) → c < size s → p < size s → is_regular s p ≡ true
+      → class_sum R U s p (conjugate s.group c p) ≡ root R U s (kappa s c p)
+  class_sum_at_conjugates c p c_below p_below regular =
+      let x : Below (size s) = record { value = p; below = p_below } in
+      let k : Below (size s) = record { value = c; below = c_below } in
+      ap (class_sum R U s p) (sym (carry_value s twist k x)) ∙ (class_sum_is x (regular_of_test s twist x regular)).at_conjugates k
+
+  -- the class sums of the representatives
+  abbrev pub sums_on_places : ℕ → Below (size s) → A
+  sums_on_places i = on_places (class_sum R U s (get_or (regular_representatives s) i 0))
+
+  sums_are : (i : ℕ) → i < rank s → IsClassSum R (place_group s twist) twist_roots (kappa_at s twist) (representative_place s twist i) (sums_on_places i)
+  sums_are i below = class_sum_is (representative_place s twist i) ((regular_classes s twist).regular i below)
+
+  pub combination_central : (f : ℕ → A) → IsCentral R U s (combination R U s f)
+  combination_central f =
+      covariant_central (combination R U s f)
+      (combination_carries R (places s twist) (place_group s twist) (some_root s twist) twist_roots (phase_at s twist) (kappa_at s twist) (phases_cocycle s twist) (kappa_phase s twist)
+      (rank s) f sums_on_places
+      (λ i below. class_sum_carries R (places s twist) (place_group s twist) (some_root s twist) twist_roots (phase_at s twist) (kappa_at s twist) (phases_cocycle s twist) (kappa_phase s twist)
+      (transporters s twist) (representative_place s twist i) (sums_on_places i) ((regular_classes s twist).regular i below) (sums_are i below)))
+
+  pub central_combination : (z : ℕ → A) → IsCentral R U s z → (x : ℕ) → x < size s
+      → z x ≡ combination R U s (λ i. z (get_or (regular_representatives s) i 0)) x
+  central_combination z h x below =
+      let y : Below (size s) = record { value = x; below = below } in
+      covariant_expands R (places s twist) (place_group s twist) (some_root s twist) twist_roots (phase_at s twist) (kappa_at s twist) (phases_cocycle s twist) (kappa_phase s twist)
+      (rank s) (representative_place s twist) (regular_classes s twist) sums_on_places sums_are
+      (scaled_roots_separate R U s.modulus (m / s.modulus) (some_root s twist) (quotient_whole m s.modulus divides)) (regularity s twist)
+      (on_places z) (central_covariant z h) y
+
+  pub combination_unique : (z f : ℕ → A) → ((x : ℕ) → x < size s → z x ≡ combination R U s f x) → (i : ℕ) → i < rank s
+      → f i ≡ z (get_or (regular_representatives s) i 0)
+  combination_unique z f e i below =
+      coefficients_unique R (places s twist) (place_group s twist) (some_root s twist) twist_roots (phase_at s twist) (kappa_at s twist) (phases_cocycle s twist) (kappa_phase s twist)
+      (rank s) (representative_place s twist) (regular_classes s twist) sums_on_places sums_are
+      (on_places z) f (λ y. e y.value y.below) i below
+
+  pub central_exactly : (z : ℕ → A)
+      → IsCentral R U s z ↔ ((c x : ℕ) → c < size s → x < size s → z (conjugate s.group c x) ≡ R.mul (root R U s (kappa s c x)) (z x))
+  central_exactly z = (
+    λ h c x c_below x_below.
+        let k : Below (size s) = record { value = c; below = c_below } in
+        let y : Below (size s) = record { value = x; below = x_below } in
+        ap z (sym (carry_value s twist k y)) ∙ (central_covariant z h).carries k y,
+    λ h. covariant_central z (record { carries = λ c x. ap z (carry_value s twist c x) ∙ h c.value x.value c.below x.below }),
+  )
+
+  pub product_associates : (p q r : ℕ → A) (x : ℕ) → x < size s
+      → twisted_product R U s (twisted_product R U s p q) r x ≡ twisted_product R U s p (twisted_product R U s q r) x
+  product_associates p q r x below =
+      let y : Below (size s) = record { value = x; below = below } in
+      let times : (Below (size s) → A) → (Below (size s) → A) → Below (size s) → A = λ u v. twisted_convolution R (places s twist) (place_group s twist) twist_roots (phase_at s twist) u v in
+      sym (product_on_places (twisted_product R U s p q) r y)
+      ∙ ap (λ u. times u (on_places r) y) (fun_ext (λ w. sym (product_on_places p q w)))
+      ∙ convolution_assoc R (places s twist) (place_group s twist) twist_roots (phase_at s twist) (phases_cocycle s twist) (on_places p) (on_places q) (on_places r) y
+      ∙ ap (λ u. times (on_places p) u y) (fun_ext (λ w. product_on_places q r w))
+      ∙ product_on_places p (twisted_product R U s q r) y

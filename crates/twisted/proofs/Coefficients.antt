@@ -1,0 +1,27 @@
+-- Coefficients of a list of them, after one is put in.
+use Rattle.std.proofs.Common.{◌≡◌, ◌≢◌, ℕ, ◌+◌, ◌<◌, List, [], ◌∷◌, length, get_or, map, ◌∙◌, ap, arith, below_more, All}
+use Rattle.std.proofs.Math.ListN.{set}
+use Rattle.std.proofs.lemmas.List.{map-set, get_or-set_same, get_or-set_other, length-map, get_or-map}
+use Rattle.twisted.specs.Algebra.{coefficient}
+
+module _ {E A : Type 0} (of : E → A) (nought : A) (xs : List E) where
+  pub coefficient-set_same : (i : ℕ) (v : E) → i < length xs → coefficient of nought (set xs i v) i ≡ of v
+  coefficient-set_same i v below =
+      ap (λ ys. get_or ys i nought) (map-set of xs i v) ∙ get_or-set_same (map of xs) i (of v) nought (rw length-map below)
+
+  pub coefficient-set_other : (i j : ℕ) (v : E) → j ≢ i → coefficient of nought (set xs i v) j ≡ coefficient of nought xs j
+  coefficient-set_other i j v other =
+      ap (λ ys. get_or ys j nought) (map-set of xs i v) ∙ get_or-set_other (map of xs) i j (of v) nought other
+
+  -- what holds of the coefficients before i, and of the one that is put there
+  pub coefficients_more : (f : ℕ → A) (i : ℕ) (v : E) → i < length xs → ((j : ℕ) → j < i → coefficient of nought xs j ≡ f j) → of v ≡ f i
+      → (j : ℕ) → j < i + 1 → coefficient of nought (set xs i v) j ≡ f j
+  coefficients_more f i v below before here =
+      below_more (λ j. coefficient of nought (set xs i v) j ≡ f j) i
+      (λ j less. coefficient-set_other i j v (λ same. omega arith) ∙ before j less)
+      (coefficient-set_same i v below ∙ here)
+
+-- where each entry stands for nought, so does each coefficient
+pub coefficient_nought : {E A : Type 0} (of : E → A) (nought : A) (xs : List E) → All (λ v. of v ≡ nought) xs → (j : ℕ) → j < length xs → coefficient of nought xs j ≡ nought
+coefficient_nought of nought [] all j below = absurd (omega arith)
+coefficient_nought of nought (x ∷ xs) all j below = get_or-map of (x ∷ xs) j x nought below ∙ all j x below

@@ -1,0 +1,181 @@
+-- A twist as an abstract group with a 2-cocycle: the elements of the group are the places.
+use Rattle.std.proofs.Common.{◌≡◌, ℕ, zero, suc, ◌+◌, ◌-◌, ◌*◌, ◌%◌, ◌<◌, Bool, true, false, ◌&&◌, cond, nat_eq, Option, Some, None, refl, sym, ◌∙◌, ap, arith, ◌⊎◌, inl, inr, eq-eqb, eqb-true}
+use Rattle.scan.specs.First.{all_below}
+use Rattle.scan.proofs.Places.{all_below-at, all_below-suc, all_below-zero}
+use Rattle.algebra.specs.Groups.{Group}
+use Rattle.algebra.specs.Below.{Below, IsGroupBelow, below_equal}
+use Rattle.algebra.specs.Totals.{Finite}
+use Rattle.algebra.specs.Congruences.{Same}
+use Rattle.algebra.specs.Convolution.{IsTwoCocycle}
+use Rattle.algebra.proofs.BelowLaws.{finite_below, group_below}
+use Rattle.algebra.proofs.CongruenceLaws.{same_of, same_trans, same_add_right, same_mod, same_add_multiple, same_equal}
+use Rattle.group_table.specs.Group.{Table, product, identity_of, inverse, IsGroup}
+use Rattle.group_table.proofs.Square.{place_below}
+use Rattle.group_table.proofs.Sentences.{IsTwoSidedInverse, two_sided, inverse_found, closed}
+use Rattle.group_table.proofs.Sentences as sentences
+use Rattle.classes.specs.Conjugacy.{conjugate, least_transporter}
+use Rattle.classes.proofs.Conjugacy.{transporter_least, conjugate_by}
+use Rattle.std.specs.Prelude.{is_some}
+use Rattle.twisted.specs.Twist.{TwistedSubgroup, size, phase, IsTwist}
+use Rattle.twisted.specs.Regular.{kappa, is_symmetric_at, is_regular}
+use Rattle.twisted.proofs.Carrying.{carry}
+use Rattle.twisted.proofs.ConjugationPhases.{IsConjugationPhase, IsRegular}
+use Rattle.twisted.proofs.CentreLaws.{Regularity, Transporters}
+
+-- a group by its table, with its inverses
+pub table_group : (t : Table) → IsGroup t → IsGroupBelow t.order (product t) (inverse t) (identity_of t)
+table_group t group =
+    let g = sentences.group_below t group in
+    record {
+      one_below = g.unit_below;
+      op_below = g.closed;
+      inv_below = λ x p. (inverse_at x p).below;
+      op_assoc = g.associative;
+      one_op = g.unit_left;
+      op_one = g.unit_right;
+      inv_op = λ x p. (inverse_at x p).left;
+      op_inv = λ x p. (inverse_at x p).right;
+    }
+  where
+    inverse_at : (x : ℕ) → x < t.order → IsTwoSidedInverse t x (inverse t x)
+    inverse_at x p = two_sided t x (inverse t x) group p (inverse_found t x group p)
+
+-- the difference of two exponents, with the second added again
+pub difference_back : (n a b : ℕ) → b < n → Same n ((a + (n - b)) % n + b) a
+difference_back n a b below =
+    same_trans (same_add_right b (same_mod n (a + (n - b)))) (same_trans (same_of n (by a b below)) (same_add_multiple n a 1))
+  where
+    by : (a b : ℕ) → b < n → a + (n - b) + b ≡ a + 1 * n
+    by a b below = omega arith
+
+-- a test that doesn't hold everywhere fails somewhere
+pub all_below-fails_at : (n : ℕ) (test : ℕ → Bool) → all_below n test ≡ false → (i : ℕ) × (i < n) × (test i ≡ false)
+all_below-fails_at zero test fails = absurd (let wrong : true ≡ false = sym (all_below-zero test) ∙ fails in cc)
+all_below-fails_at (suc n) test fails = by (all_below n test) (test n) refl refl (sym (all_below-suc n test) ∙ fails) (all_below-fails_at n test)
+  where
+    by : (a b : Bool) → all_below n test ≡ a → test n ≡ b → (a && b) ≡ false → (all_below n test ≡ false → (i : ℕ) × (i < n) × (test i ≡ false)) → (i : ℕ) × (i < suc n) × (test i ≡ false)
+    by false b front last e before = let found = before front in (found.0, below_suc found.1, found.2)
+      where
+        below_suc : {i : ℕ} → i < n → i < suc n
+        below_suc h = omega arith
+    by true false front last e before = (n, omega arith, last)
+    by true true front last e before = absurd cc
+
+-- what a test of two numbers under another test says
+test_passes : (b c : Bool) → cond b c true ≡ true → b ≡ true → c ≡ true
+test_passes true c e t = e
+test_passes false c e t = absurd cc
+
+test_fails : (b c : Bool) → cond b c true ≡ false → (b ≡ true) × (c ≡ false)
+test_fails true c e = (refl, e)
+test_fails false c e = absurd cc
+
+module _ (s : TwistedSubgroup) (twist : IsTwist s) where
+  pub some_place : 0 < size s
+  some_place = omega (arith, twist.small.from_one)
+
+  pub some_root : 0 < s.modulus
+  some_root = omega (arith, twist.modulus.from_one)
+
+  -- the places
+  abbrev pub Place : Type 0
+  Place = Below (size s)
+
+  abbrev pub places : Finite (Below (size s))
+  places = finite_below (size s) some_place
+
+  abbrev pub place_group : Group (Below (size s))
+  place_group = group_below (table_group s.group twist.group)
+
+  abbrev pub phase_at : Below (size s) → Below (size s) → ℕ
+  phase_at p r = phase s p.value r.value
+
+  abbrev pub kappa_at : Below (size s) → Below (size s) → ℕ
+  kappa_at c x = kappa s c.value x.value
+
+  pub phase_below : (p r : ℕ) → p < size s → r < size s → phase s p r < s.modulus
+  phase_below p r p_below r_below = twist.below (p * size s + r) (rw twist.square (place_below (size s) p r p_below r_below))
+
+  pub phases_cocycle : IsTwoCocycle place_group s.modulus phase_at
+  phases_cocycle = record {
+    law = λ x y z. twist.cocycle.law x.value y.value z.value x.below y.below z.below;
+    at_one_left = λ x. same_of s.modulus (twist.cocycle.at_identity_left x.value x.below);
+    at_one_right = λ x. same_of s.modulus (twist.cocycle.at_identity_right x.value x.below);
+  }
+
+  -- c x c^-1
+  pub carry_value : (c x : Below (size s)) → (carry place_group c x).value ≡ conjugate s.group c.value x.value
+  unfolding carry conjugate
+  carry_value c x = refl
+
+  pub kappa_phase : IsConjugationPhase place_group s.modulus phase_at kappa_at
+  unfolding kappa carry conjugate
+  kappa_phase = record {
+    difference = λ c x.
+        let y = carry place_group c x in
+        difference_back s.modulus (phase s c.value x.value) (phase s y.value c.value) (phase_below y.value c.value y.below c.below);
+  }
+
+  -- the products of two places, and of the other order, agree exactly where the places commute
+  pub places_commute : (x y : Below (size s)) → product s.group x.value y.value ≡ product s.group y.value x.value → place_group.op x y ≡ place_group.op y x
+  places_commute x y e = below_equal _ _ e
+
+  pub regular_of_test : (x : Below (size s)) → is_regular s x.value ≡ true → IsRegular place_group s.modulus phase_at x
+  unfolding is_regular
+  regular_of_test x e = record {
+    symmetric = λ y same.
+        same_of s.modulus
+        (eqb-true _ _
+        (test_passes (nat_eq (product s.group x.value y.value) (product s.group y.value x.value)) (nat_eq (phase s x.value y.value) (phase s y.value x.value))
+        (all_below-at (size s) y.value (is_symmetric_at s x.value) e y.below)
+        (eq-eqb _ _ (ap (λ (z : Below (size s)). z.value) same))));
+  }
+
+  -- a place that fails the test has a place that shows it
+  pub irregular_of_test : (x : Below (size s)) → is_regular s x.value ≡ false
+      → (y : Below (size s)) × (place_group.op x y ≡ place_group.op y x) × (Same s.modulus (phase_at x y) (phase_at y x) → ⊥)
+  unfolding is_regular
+  irregular_of_test x e =
+      let found = all_below-fails_at (size s) (is_symmetric_at s x.value) e in
+      let y : Below (size s) = record { value = found.0; below = found.1 } in
+      let shows = test_fails (nat_eq (product s.group x.value y.value) (product s.group y.value x.value)) (nat_eq (phase s x.value y.value) (phase s y.value x.value)) found.2 in (
+        y,
+        places_commute x y (eqb-true _ _ shows.0),
+        λ same.
+            let equal : phase s x.value y.value ≡ phase s y.value x.value =
+            same_equal (phase_below x.value y.value x.below y.below) (phase_below y.value x.value y.below x.below) same in
+            let passes : nat_eq (phase s x.value y.value) (phase s y.value x.value) ≡ true = eq-eqb _ _ equal in
+            let fails : nat_eq (phase s x.value y.value) (phase s y.value x.value) ≡ false = shows.1 in
+            absurd cc,
+      )
+
+  pub test_of_regular : (x : Below (size s)) → IsRegular place_group s.modulus phase_at x → is_regular s x.value ≡ true
+  test_of_regular x r = by (is_regular s x.value) refl
+    where
+      by : (b : Bool) → is_regular s x.value ≡ b → is_regular s x.value ≡ true
+      by true e = e
+      by false e = let shows = irregular_of_test x e in absurd (shows.2 (r.symmetric shows.0 shows.1))
+
+  pub regularity : Regularity place_group s.modulus phase_at
+  regularity = record { decide = λ x. by x (is_regular s x.value) refl }
+    where
+      by : (x : Below (size s)) (b : Bool) → is_regular s x.value ≡ b
+          → IsRegular place_group s.modulus phase_at x ⊎ ((y : Below (size s)) × (place_group.op x y ≡ place_group.op y x) × (Same s.modulus (phase_at x y) (phase_at y x) → ⊥))
+      by x true e = inl (regular_of_test x e)
+      by x false e = inr (irregular_of_test x e)
+
+  -- something carries x to y, or nothing does
+  pub transporters : Transporters place_group
+  transporters = record { find = λ x y. by x y (least_transporter s.group x.value y.value) refl }
+    where
+      by : (x y : Below (size s)) (o : Option ℕ) → least_transporter s.group x.value y.value ≡ o
+          → ((c : Below (size s)) × (carry place_group c x ≡ y)) ⊎ ((c : Below (size s)) → carry place_group c x ≡ y → ⊥)
+      by x y (Some c) e =
+          let least = transporter_least s.group twist.group x.value y.value c e in
+          let c : Below (size s) = record { value = c; below = least.below } in
+          inl (c, below_equal _ _ (carry_value c x ∙ eqb-true _ _ least.passes))
+      by x y None e = inr (λ c same.
+          let carries : conjugate s.group c.value x.value ≡ y.value = sym (carry_value c x) ∙ ap (λ (z : Below (size s)). z.value) same in
+          let found : is_some (least_transporter s.group x.value y.value) ≡ true = conjugate_by s.group twist.group x.value y.value c.value c.below carries in
+          let none : is_some (least_transporter s.group x.value y.value) ≡ false = ap is_some e in
+          cc)
