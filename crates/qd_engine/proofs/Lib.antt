@@ -1,4 +1,5 @@
 pub mod Inputs
+pub mod Ranks
 pub mod Planned
 pub mod Documents
 pub mod Meaning

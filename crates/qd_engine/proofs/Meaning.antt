@@ -10,8 +10,8 @@ use Rattle.qd_engine.specs.Report.{report_of}
 use Rattle.qd_engine.specs.Lines.{memory_line}
 use Rattle.qd_engine.specs.Answers.{why_of_cause, why_of}
 use Rattle.qd_engine.specs.Causes.{OfInput, document_in, Comes, IsDone}
-use Rattle.std.specs.Prelude.{String, string_bytes, IsOk, OnOk}
-use Rattle.std.specs.Global.{Global}
+use Rattle.std.specs.Prelude.{IsOk, OnOk}
+use Rattle.std.specs.Global.{Vec}
 use Rattle.qd_engine.specs.declared.stop.Stop.{Stop}
 use Rattle.qd_engine.specs.declared.stop.Stop.TheVariants as stops
 use Rattle.qd_engine.specs.Lines.{line_of}
@@ -19,7 +19,7 @@ use Rattle.qd_engine.specs.Endings.{IsCause, Says, Writing, Ends, EndsSaying, De
 use Rattle.qd_engine.proofs.Documents.{document_group, document_cocycle}
 use Rattle.qd_engine.proofs.Planned.{refusal_comes, report_passes}
 use Rattle.qd_engine.specs.declared.command.Command.{Command}
-use Rattle.qd_engine.specs.declared.command.Command.TheVariants.{Check}
+use Rattle.qd_engine.specs.declared.command.Command.TheVariants.{Check, Classes}
 use Rattle.qd_engine.specs.declared.answer.Why.{Why}
 use Rattle.qd_engine.specs.declared.answer.Why.TheVariants as whys
 use Rattle.qd_engine.specs.declared.answer.Outcome.{Outcome}
@@ -177,6 +177,7 @@ plan_decides words left source_failed writing sink_failed why bytes (outcome, te
 -- a report is longer than the line for want of memory
 report_long : (command : Command) (w : Cochain) → length memory_line ≤ length (report_of command w)
 report_long Check w = simp length-append (omega arith)
+report_long Classes w = simp length-append (omega arith)
 
 room_for_less : (room : Option ℕ) (long short : List ℕ) → length short ≤ length long → HasRoom room long → HasRoom room short
 room_for_less None long short less has = has
@@ -220,9 +221,9 @@ room_decides words left source_failed writing sink_failed why bytes report (outc
 
 -- ---- from what was prepared to how the program ends
 
-pub prepared_ends : (words : List (List ℕ)) (left : Option (List ℕ)) (source_failed : Type 0) (writing : Writing) (sink_failed : Type 0) (why : Why) (prepared : Result (String Global) Stop)
+pub prepared_ends : (words : List (List ℕ)) (left : Option (List ℕ)) (source_failed : Type 0) (writing : Writing) (sink_failed : Type 0) (why : Why) (prepared : Result (Vec ℕ) Stop)
     → Prepares words left source_failed prepared → SaysPrepared prepared writing sink_failed why → EndsSaying words left source_failed writing sink_failed why
-prepared_ends words left source_failed writing sink_failed why (Ok text) prepares says = (Report, string_bytes text, prepares, says)
+prepared_ends words left source_failed writing sink_failed why (Ok text) prepares says = (Report, text.items, prepares, says)
 prepared_ends words left source_failed writing sink_failed why (Err (stops.Refused cause)) prepares (inl says) = (Refused cause, line_of cause, (prepares, refl), says)
 prepared_ends words left source_failed writing sink_failed why (Err (stops.Refused cause)) prepares (inr says) = (Memory, memory_line, refl, says)
 prepared_ends words left source_failed writing sink_failed why (Err stops.Memory) prepares says = (Memory, memory_line, refl, says)
@@ -236,13 +237,13 @@ not_done writing failed why outcome text other ends done =
     ]
 
 -- Done comes of a report alone
-pub done_prepared : (writing : Writing) (failed : Type 0) (why : Why) (prepared : Result (String Global) Stop) → SaysPrepared prepared writing failed why → why ≡ whys.Done → IsOk prepared
+pub done_prepared : (writing : Writing) (failed : Type 0) (why : Why) (prepared : Result (Vec ℕ) Stop) → SaysPrepared prepared writing failed why → why ≡ whys.Done → IsOk prepared
 done_prepared writing failed why (Ok text) says done = refl
 done_prepared writing failed why (Err (stops.Refused cause)) (inl says) done = absurd (not_done writing failed why (Refused cause) (line_of cause) (cause_not_done cause) says done)
 done_prepared writing failed why (Err (stops.Refused cause)) (inr says) done = absurd (not_done writing failed why Memory memory_line (λ e. cc) says done)
 done_prepared writing failed why (Err stops.Memory) says done = absurd (not_done writing failed why Memory memory_line (λ e. cc) says done)
 
-pub drained_if_done : (writing : Writing) (failed : Type 0) (why : Why) (left : Option (List ℕ)) (prepared : Result (String Global) Stop) → SaysPrepared prepared writing failed why → OnOk prepared (IsAtEnd left)
+pub drained_if_done : (writing : Writing) (failed : Type 0) (why : Why) (left : Option (List ℕ)) (prepared : Result (Vec ℕ) Stop) → SaysPrepared prepared writing failed why → OnOk prepared (IsAtEnd left)
     → why ≡ whys.Done → IsAtEnd left
 drained_if_done writing failed why left (Ok text) says drained done = drained
-drained_if_done writing failed why left (Err stop) says drained done = absurd (let wrong : IsOk {T = String Global} (Err stop) = done_prepared writing failed why (Err stop) says done in cc)
+drained_if_done writing failed why left (Err stop) says drained done = absurd (let wrong : IsOk {T = Vec ℕ} (Err stop) = done_prepared writing failed why (Err stop) says done in cc)

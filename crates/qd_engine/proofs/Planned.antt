@@ -26,8 +26,7 @@ use Rattle.qd_engine.specs.Answers.{why_of_cause}
 use Rattle.qd_engine.specs.Causes.{Agrees, OfInput, document_in, IsDocument, Stops, Comes}
 use Rattle.qd_engine.specs.Endings.{IsCause, Reads, Prepares}
 use Rattle.qd_engine.specs.Follows.{Follows}
-use Rattle.std.specs.Prelude.{String, string_bytes}
-use Rattle.std.specs.Global.{Global}
+use Rattle.std.specs.Global.{Vec}
 use Rattle.qd_engine.specs.declared.stop.Stop.{Stop}
 use Rattle.qd_engine.specs.declared.stop.Stop.TheVariants as ends
 use Rattle.qd_engine.specs.declared.command.Command.{Command}
@@ -339,8 +338,8 @@ planned_is_cause words left failed command bytes (Roots number) asks agrees e = 
 planned_is_cause words left failed command bytes (Group fault) asks agrees e = (bytes, agrees, plan_asked words command bytes asks ∙ e)
 planned_is_cause words left failed command bytes (Cocycle fault) asks agrees e = (bytes, agrees, plan_asked words command bytes asks ∙ e)
 
-pub answer_prepares : (words : List (List ℕ)) (left : Option (List ℕ)) (failed : Type 0) (command : Command) (bytes : List ℕ) (result : Result (String Global) Stop) → command_of words ≡ Some command
-    → Agrees left bytes → Follows string_bytes result (answer_to command bytes) → Prepares words left failed result
+pub answer_prepares : (words : List (List ℕ)) (left : Option (List ℕ)) (failed : Type 0) (command : Command) (bytes : List ℕ) (result : Result (Vec ℕ) Stop) → command_of words ≡ Some command
+    → Agrees left bytes → Follows (λ (text : Vec ℕ). text.items) result (answer_to command bytes) → Prepares words left failed result
 answer_prepares words left failed command bytes (Ok text) asks agrees e = (bytes, agrees, plan_asked words command bytes asks ∙ e)
 answer_prepares words left failed command bytes (Err (ends.Refused cause)) asks agrees e = planned_is_cause words left failed command bytes cause asks agrees e
 answer_prepares words left failed command bytes (Err ends.Memory) asks agrees e = tt

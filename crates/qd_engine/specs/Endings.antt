@@ -1,6 +1,6 @@
 -- What the program has to say, and how it ends by writing that.
-use Rattle.std.specs.Prelude.{◌≡◌, ℕ, ◌<◌, List, length, Option, Result, Ok, Err, ⊤, ◌⊎◌, String, string_bytes}
-use Rattle.std.specs.Global.{Global, Vec}
+use Rattle.std.specs.Prelude.{◌≡◌, ℕ, ◌<◌, List, length, Option, Result, Ok, Err, ⊤, ◌⊎◌}
+use Rattle.std.specs.Global.{Vec}
 use Rattle.std.specs.Io.KnownBytes.{Appends}
 use Rattle.qd_io.specs.Stream.{AppendsFront, HasRoom}
 use Rattle.qd_engine.specs.Plan.{plan}
@@ -49,8 +49,8 @@ Reads left failed (Err (stops.Refused cause)) = ⊥
 Reads left failed (Err stops.Memory) = ⊤
 
 -- what comes of all steps before the writing
-abbrev pub Prepares : List (List ℕ) → Option (List ℕ) → Type 0 → Result (String Global) Stop → Type 0
-Prepares words left failed (Ok text) = OfInput left (λ bytes. plan words bytes ≡ Ok (string_bytes text))
+abbrev pub Prepares : List (List ℕ) → Option (List ℕ) → Type 0 → Result (Vec ℕ) Stop → Type 0
+Prepares words left failed (Ok text) = OfInput left (λ bytes. plan words bytes ≡ Ok (text.items))
 Prepares words left failed (Err (stops.Refused cause)) = IsCause words left failed cause
 Prepares words left failed (Err stops.Memory) = ⊤
 
@@ -65,7 +65,7 @@ Decides (Ok text) why = (why ≡ whys.Done) ⊎ (why ≡ whys.Memory)
 Decides (Err cause) why = (why ≡ why_of_cause cause) ⊎ (why ≡ whys.Memory)
 
 -- what was prepared is said: the report, the line of the refusal, or that there was no memory
-abbrev pub SaysPrepared : Result (String Global) Stop → Writing → Type 0 → Why → Type 0
-SaysPrepared (Ok text) writing failed why = Ends writing failed why Report (string_bytes text)
+abbrev pub SaysPrepared : Result (Vec ℕ) Stop → Writing → Type 0 → Why → Type 0
+SaysPrepared (Ok text) writing failed why = Ends writing failed why Report (text.items)
 SaysPrepared (Err (stops.Refused cause)) writing failed why = Ends writing failed why (Refused cause) (line_of cause) ⊎ Ends writing failed why Memory memory_line
 SaysPrepared (Err stops.Memory) writing failed why = Ends writing failed why Memory memory_line

@@ -6,7 +6,7 @@ use Rattle.group_table.specs.declared.fault.GroupFault.{GroupFault}
 use Rattle.group_table.specs.declared.fault.GroupFault.TheVariants.{Entry, NoIdentity, NoInverse, NotAssociative}
 use Rattle.cochain.specs.declared.fault.CocycleFault.{CocycleFault}
 use Rattle.cochain.specs.declared.fault.CocycleFault.TheVariants.{NotNormalised, NotCocycle}
-use Rattle.qd_engine.specs.Text.{◌⧺◌}
+use Rattle.data_print.specs.Text.{◌⧺◌}
 use Rattle.qd_engine.specs.declared.cause.Cause.{Cause}
 use Rattle.qd_engine.specs.declared.cause.Cause.TheVariants.{Usage, Read, TooLong, Syntax, Wide, Section, Order, Roots, Group, Cocycle}
 

@@ -1,20 +1,23 @@
 -- The report of each command.
-use Rattle.std.specs.Prelude.{ℕ, List, codes}
-use Rattle.std.specs.Fmt.{decimal}
-use Rattle.orders.specs.Order.{exponent_of}
-use Rattle.group_table.specs.Group.{product, identity_of}
+use Rattle.std.specs.Prelude.{ℕ, List, length, map, codes}
+use Rattle.std.specs.List.{range_with_len}
+use Rattle.classes.specs.Conjugacy.{representatives, representative_at}
 use Rattle.cochain.specs.Cochain.{Cochain}
-use Rattle.qd_engine.specs.Text.{◌⧺◌}
+use Rattle.twisted.specs.Regular.{rank}
+use Rattle.slant.specs.Twists.{twist_of}
+use Rattle.data_print.specs.Text.{◌⧺◌}
+use Rattle.data_print.specs.Head.{head_of}
+use Rattle.data_print.specs.ClassLines.{classes_text}
 use Rattle.qd_engine.specs.declared.command.Command.{Command}
-use Rattle.qd_engine.specs.declared.command.Command.TheVariants.{Check}
+use Rattle.qd_engine.specs.declared.command.Command.TheVariants.{Check, Classes}
 
--- the two lines that every report begins with
-abbrev pub head_of : Cochain → List ℕ
-head_of w =
-    codes "group order " ⧺ decimal w.group.order
-    ⧺ codes " identity " ⧺ decimal (identity_of w.group)
-    ⧺ codes " exponent " ⧺ decimal (exponent_of w.group.order (product w.group) (identity_of w.group))
-    ⧺ codes "\ncocycle roots " ⧺ decimal w.roots ⧺ codes "\n"
+-- the rank of the class with the number c: that of the twisted centraliser of its representative
+unfoldable pub class_rank : Cochain → ℕ → ℕ
+class_rank w c = rank (twist_of w (representative_at w.group c))
+
+-- the ranks of all classes, in order
+unfoldable pub class_ranks : Cochain → List ℕ
+class_ranks w = map (class_rank w) (range_with_len 0 (length (representatives w.group)))
 
 -- the line that every report ends with
 abbrev pub end_line : List ℕ
@@ -22,3 +25,4 @@ end_line = codes "end\n"
 
 abbrev pub report_of : Command → Cochain → List ℕ
 report_of Check w = head_of w ⧺ end_line
+report_of Classes w = head_of w ⧺ classes_text w.group (class_ranks w) ⧺ end_line

@@ -6,6 +6,8 @@ ghost use Rattle.qd_engine.specs.Words.{texts, command_of};
 pub enum Command {
     /// Whether a document has a group and a normalised 3-cocycle of it.
     Check,
+    /// The conjugacy classes of a document's group, with the rank of each.
+    Classes,
 }
 
 /// The command of the words, which follow the program's name; `None` where they are not in its grammar.
@@ -14,6 +16,7 @@ pub fn command_of(words: &[String]) -> Option<Command>
 {
     match words {
         [word] if word.as_str() == "check" => Some(Command::Check),
+        [word] if word.as_str() == "classes" => Some(Command::Classes),
         _ => None,
     }
 }

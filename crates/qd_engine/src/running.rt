@@ -20,7 +20,7 @@ use qd_io::{Sink, Source};
 use std::alloc::Global;
 
 /// All steps before the writing: the text of the report, or why there is none.
-fn prepare<S: Source>(alloc: Global, words: &Vec<String>, source: &mut S) -> Result<String, Stop>
+fn prepare<S: Source>(alloc: Global, words: &Vec<String>, source: &mut S) -> Result<Vec<u8>, Stop>
     ensures prepares { Prepares (texts words.now.items) (S.left source.old)
         (Rises (S.faults source.old) (S.faults source.new)) result }
     ensures drained { OnOk result (IsAtEnd (S.left source.new)) }
@@ -37,14 +37,14 @@ fn prepare<S: Source>(alloc: Global, words: &Vec<String>, source: &mut S) -> Res
 const MEMORY_LINE: &str = "refused 14 memory\n";
 
 /// Writes the report, or the one line of a refusal.
-fn say<W: Sink>(alloc: Global, prepared: Result<String, Stop>, sink: &mut W) -> Answer
+fn say<W: Sink>(alloc: Global, prepared: Result<Vec<u8>, Stop>, sink: &mut W) -> Answer
     ensures status { result.status ≡ status_of result.why }
     ensures said { SaysPrepared prepared
         (record { before = W.written sink.old; after = W.written sink.new; room = W.room sink.old })
         (Rises (W.faults sink.old) (W.faults sink.new)) result.why }
 {
     match prepared {
-        Ok(text) => finish(sink, Outcome::Report, text.as_bytes()),
+        Ok(text) => finish(sink, Outcome::Report, &text),
         Err(Stop::Memory) => finish(sink, Outcome::Memory, MEMORY_LINE.as_bytes()),
         Err(Stop::Refused(cause)) => match line(alloc, cause) {
             Ok(text) => finish(sink, Outcome::Refused(cause), text.as_bytes()),

@@ -10,9 +10,12 @@ const NO_GROUP: &str = "qdouble 1\norder 2\ntable\n0 1\n1 1\nroots 1\nomega triv
 
 const REPORT: &str = "group order 2 identity 0 exponent 2\ncocycle roots 2\nend\n";
 
-fn check(alloc: Global) -> Result<Vec<String>, AllocError> {
+const CLASSES: &str = "group order 2 identity 0 exponent 2\ncocycle roots 2\n\
+    class 0 at 0 size 1 centraliser 2 rank 2\nclass 1 at 1 size 1 centraliser 2 rank 2\nsimples 4\nend\n";
+
+fn words(alloc: Global, word: &str) -> Result<Vec<String>, AllocError> {
     let mut words = Vec::new(alloc);
-    words.push(String::from_str(alloc, "check")?)?;
+    words.push(String::from_str(alloc, word)?)?;
     Ok(words)
 }
 
@@ -26,26 +29,29 @@ fn sink(alloc: Global, fails: &[u32]) -> Result<MemSink, AllocError> {
 }
 
 #[test]
-fn checks_a_document(rt: HostRuntime) -> Result<(), Fail> {
+fn reports_on_a_document(rt: HostRuntime) -> Result<(), Fail> {
     let alloc = rt.alloc();
-    let mut source = SureSource::new(Vec::from_slice(alloc, SEMION.as_bytes())?);
-    let mut sink = SureSink::new(alloc, REPORT.len())?;
-    let answer = run(alloc, &check(alloc)?, &mut source, &mut sink);
-    assert_eq!(rt;
-        answer,
-        Answer {
-            status: 0,
-            why: Why::Done
-        }
-    );
-    assert_eq!(rt; sink.written().as_slice(), REPORT.as_bytes());
+    let rows = [("check", REPORT), ("classes", CLASSES)];
+    for (word, report) in rows {
+        let mut source = SureSource::new(Vec::from_slice(alloc, SEMION.as_bytes())?);
+        let mut sink = SureSink::new(alloc, report.len())?;
+        let answer = run(alloc, &words(alloc, word)?, &mut source, &mut sink);
+        assert_eq!(rt;
+            answer,
+            Answer {
+                status: 0,
+                why: Why::Done
+            }
+        );
+        assert_eq!(rt; sink.written().as_slice(), report.as_bytes());
+    }
     Ok(())
 }
 
 #[test]
 fn tells_of_streams_that_fail(rt: HostRuntime) -> Result<(), Fail> {
     let alloc = rt.alloc();
-    let words = check(alloc)?;
+    let words = words(alloc, "check")?;
     let never: [u32; 0] = [];
 
     // What is read, which calls of the source and of the sink fail, and what comes of it.
