@@ -8,3 +8,4 @@ pub mod Coefficients
 pub mod Translation
 pub mod RegularClasses
 pub mod AlgebraLaws
+pub mod PhaseLaws
