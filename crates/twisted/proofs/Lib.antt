@@ -9,3 +9,4 @@ pub mod Translation
 pub mod RegularClasses
 pub mod AlgebraLaws
 pub mod PhaseLaws
+pub mod ClassSums

@@ -7,12 +7,14 @@ ghost use Rattle.twisted.specs.Laws.{ProductAssociates, CentralExactly, ClassSum
 mod elem;
 mod product;
 mod regular;
+mod sums;
 mod twist;
 
 pub use elem::Elem;
 pub use product::{MulRefusal, mul};
 use qd_ring::Ring;
 pub use regular::{centre_rank, is_regular, kappa, regular_reps};
+pub use sums::class_sum;
 pub use twist::Twist;
 
 /// Conjugation phases compose; regularity is constant on classes; on a regular place the phase depends on the conjugate alone; and
