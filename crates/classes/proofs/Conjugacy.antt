@@ -1,5 +1,5 @@
 -- Conjugation is an action, conjugacy an equivalence, and each element has a representative, a transporter and a class.
-use Rattle.std.proofs.Common.{◌≡◌, ◌≢◌, ℕ, zero, suc, eq-or-lt_of_le, ◌+◌, ◌<◌, ◌≤◌, Bool, true, false, ◌↔◌, cond, ◌&&◌, not, [], ◌∷◌, length, get_or, nat_eq, Some, None, refl, sym, ap, ◌∙◌, arith, inl, inr, eq-eqb, eqb-true}
+use Rattle.std.proofs.Common.{◌≡◌, ◌≢◌, ℕ, zero, suc, eq-or-lt_of_le, ◌<◌, ◌≤◌, Bool, true, false, ◌↔◌, cond, ◌&&◌, not, [], ◌∷◌, length, get_or, nat_eq, Some, None, refl, sym, ap, ◌∙◌, arith, inl, inr, eq-eqb, eqb-true}
 use Rattle.std.specs.Prelude.{unwrap_or}
 use Rattle.std.specs.List.{All, Contains}
 use Rattle.std.proofs.lemmas.List.Elements.{All-get_or, All-cons, All-weaker, Contains-append_right}
@@ -40,7 +40,7 @@ different_numbers a e fails same = fails_and_passes (nat_eq a e) fails (eq-eqb a
 
 module _ (t : Table) (G : IsGroup t) where
   -- the inverse of k
-  inverse_at : (k : ℕ) → k < t.order → IsTwoSidedInverse t k (inverse t k)
+  pub inverse_at : (k : ℕ) → k < t.order → IsTwoSidedInverse t k (inverse t k)
   inverse_at k below = two_sided t k (inverse t k) G below (inverse_found t k G below)
 
   pub conjugate_below : (k a : ℕ) → k < t.order → a < t.order → conjugate t k a < t.order
@@ -211,12 +211,6 @@ module _ (t : Table) (G : IsGroup t) where
   pub representative_at_is : (c : ℕ) → c < length (representatives t) → IsRepresentative t (representative_at t c)
   representative_at_is c p = All-get_or (IsRepresentative t) (representatives t) c 0 p all_represent
 
-  -- there are few classes
-  pub few_classes : length (representatives t) ≤ t.order + 1
-  unfolding other_representatives
-  few_classes =
-      omega (arith, length-passing_below t.order (λ a. nat_eq (representative_of t a) a && not (nat_eq a (identity_of t))))
-
   -- a representative is in the list
   listed : (a : ℕ) → IsRepresentative t a → (b : Bool) → nat_eq a (identity_of t) ≡ b → Contains (representatives t) a
   unfolding other_representatives
@@ -270,7 +264,7 @@ module _ (t : Table) (G : IsGroup t) where
   few_members a = length-passing_below t.order (is_conjugate t a)
 
   -- no two classes have the same representative
-  different_at : (c d : ℕ) → c < d → d < length (representatives t) → representative_at t c ≢ representative_at t d
+  pub different_at : (c d : ℕ) → c < d → d < length (representatives t) → representative_at t c ≢ representative_at t d
   unfolding other_representatives
   different_at zero (suc d) less last same =
       let test : ℕ → Bool = λ a. nat_eq (representative_of t a) a && not (nat_eq a (identity_of t)) in
@@ -331,3 +325,7 @@ module _ (t : Table) (G : IsGroup t) where
     λ listed. let here = (passing_below-exactly t.order x (λ x. nat_eq (product t x a) (product t a x))).0 listed in (here.0, eqb-true _ _ here.1),
     λ commutes. (passing_below-exactly t.order x (λ x. nat_eq (product t x a) (product t a x))).1 (commutes.0, eq-eqb _ _ commutes.1),
   )
+
+  -- a is a member of its own class
+  pub member_itself : (a : ℕ) → a < t.order → Contains (members_of t a) a
+  member_itself a p = (members_exactly a a p).1 (identity_of t, unit_below, conjugate_by_identity a p)

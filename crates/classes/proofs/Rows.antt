@@ -137,3 +137,10 @@ one_more_reach t reaches x i count each is g d below = by (place g i (omega arit
     by : (g ≡ i) ⊎ (g < i) → get_or (reaches ++ x ∷ []) g d ≡ reach_of t g
     by (inl last) = get_or_push reaches x d g (count ∙ sym last) ∙ is ∙ ap (reach_of t) (sym last)
     by (inr before) = get_or_append_left reaches (x ∷ []) d g (omega arith) ∙ each g d before
+
+-- what is read of the list of reaches, at a place within it
+pub reach_read : (t : Table) (found xs : List (Option Reach)) (i : ℕ) → IsGroup t → length found ≡ t.order
+    → ((g : ℕ) → g < t.order → get_or found g None ≡ reach_below t t.order g) → xs ≡ found → i < length xs → get_or xs i None ≡ Some (reach_of t i)
+reach_read t found xs i group count each same inside =
+    let below : i < t.order = omega (arith, ap length same) in
+    ap (λ ys. get_or ys i None) same ∙ each i below ∙ reach_found t i group below

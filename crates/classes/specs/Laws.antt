@@ -1,5 +1,5 @@
 -- What holds of conjugacy in each group (textbook).
-use Rattle.std.specs.Prelude.{◌≡◌, ℕ, ◌<◌, ◌≤◌, ◌↔◌, true, length, Contains}
+use Rattle.std.specs.Prelude.{◌≡◌, ℕ, ◌*◌, ◌<◌, ◌≤◌, ◌↔◌, true, length, Contains}
 use Rattle.group_table.specs.Group.{Table, IsGroup, product, identity_of}
 use Rattle.classes.specs.Conjugacy.{conjugate, is_conjugate, representative_of, transporter_of, representatives, representative_at, class_of, members_of, centraliser_of}
 
@@ -29,6 +29,11 @@ MembersExactly =
 abbrev pub CentraliserExactly : Type 0
 CentraliserExactly =
     (t : Table) → IsGroup t → (a x : ℕ) → Contains (centraliser_of t a) x ↔ ((x < t.order) × (product t x a ≡ product t a x))
+
+-- the class equation: the size of the class of a times that of its centraliser is the order of the group
+abbrev pub ClassEquation : Type 0
+ClassEquation =
+    (t : Table) → IsGroup t → (a : ℕ) → a < t.order → length (members_of t a) * length (centraliser_of t a) ≡ t.order
 
 -- the representative of the class of g is conjugate to g
 abbrev pub RepresentativeConjugate : Type 0

@@ -1,5 +1,5 @@
-ghost use Rattle.std.specs.Prelude.{◌≡◌, ℕ, ◌<◌, ◌≤◌, length, slice_index, IfOk};
-ghost use Rattle.group_table.specs.Group.{IsGroup};
+ghost use Rattle.std.specs.Prelude.{◌≡◌, ℕ, ◌*◌, ◌<◌, ◌≤◌, length, slice_index, IfOk};
+ghost use Rattle.group_table.specs.Group.{IsGroup, IsSmall};
 ghost use Rattle.classes.specs.Conjugacy.{conjugate, representative_of, transporter_of, representatives, representative_at, class_of, members_of, centraliser_of};
 
 use crate::parts::{class_list, class_numbers};
@@ -58,7 +58,10 @@ impl Classes {
     /// How many classes there are.
     pub fn count(&self) -> u32
         ensures count { result ≡ length (representatives self.now) }
+        ensures positive { 1 ≤ result }
+        ensures at_most_order { result ≤ self.now.order }
         ensures group { IsGroup self.now }
+        ensures small { IsSmall self.now.order }
     {
         self.classes.len() as u32
     }
@@ -78,6 +81,9 @@ impl Classes {
     pub fn size(&self, c: u32) -> u32
         requires c_below { c < length (representatives self.now) }
         ensures size { result ≡ length (members_of self.now (representative_at self.now c)) }
+        ensures positive { 1 ≤ result }
+        ensures at_most_order { result ≤ self.now.order }
+        ensures equation { result * length (centraliser_of self.now (representative_at self.now c)) ≡ self.now.order }
     {
         self.classes[c as usize].members.len()
     }

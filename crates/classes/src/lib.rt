@@ -1,7 +1,7 @@
 //! The conjugacy classes of a finite group, with centralisers and transporters.
 #![tactic(auto)]
 
-ghost use Rattle.classes.specs.Laws.{ConjugateByIdentity, ConjugateByProduct, ConjugateOfProduct, MembersExactly, CentraliserExactly};
+ghost use Rattle.classes.specs.Laws.{ConjugateByIdentity, ConjugateByProduct, ConjugateOfProduct, MembersExactly, CentraliserExactly, ClassEquation};
 ghost use Rattle.classes.specs.Laws.{RepresentativeConjugate, RepresentativeLeast, RepresentativeOfConjugate, TransporterCarries, ClassRepresents, ClassOfRepresentative};
 
 mod class_table;
@@ -12,13 +12,15 @@ mod tests;
 
 pub use class_table::Classes;
 
-/// Conjugation acts on the group by automorphisms, classes are its orbits, and centralisers the elements that commute.
+/// Conjugation acts on the group by automorphisms, classes are its orbits, centralisers the elements that commute, and the
+/// size of a class times that of a centraliser is the order of the group.
 pub fn conjugation_laws()
     ensures by_identity { ConjugateByIdentity }
     ensures by_product { ConjugateByProduct }
     ensures of_product { ConjugateOfProduct }
     ensures members { MembersExactly }
     ensures centraliser { CentraliserExactly }
+    ensures equation { ClassEquation }
 {}
 
 /// Each element is conjugate to the representative of its class, which is the least such element and the same for the whole class;

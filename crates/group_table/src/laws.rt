@@ -9,6 +9,7 @@ use crate::nats::Nats;
 use scan::{first_below, holds_below};
 use std::alloc::Global;
 
+/// The product of `g` and `h`: what stands in row `g` at place `h`.
 #[tactic(auto, using(crate::proofs::Square::place_below))]
 pub fn product(n: u32, table: &[u32], g: u32, h: u32) -> u32
     requires square { length table.now ≡ n * n }
@@ -20,6 +21,7 @@ pub fn product(n: u32, table: &[u32], g: u32, h: u32) -> u32
     table[(g * n + h) as usize]
 }
 
+/// The first product that is no element.
 pub fn entry_fault(n: u32, table: &[u32]) -> Option<GroupFault>
     requires square { length table.now ≡ n * n }
     requires small { n ≤ 60 }
@@ -65,7 +67,7 @@ pub fn two_sided_identity(n: u32, table: &[u32]) -> Option<u32>
     )
 }
 
-/// The least right inverse of `g`, where `identity` is the identity of the table.
+/// The least right inverse of `g`, where `e` is the identity of the table.
 pub fn inverse_of(n: u32, table: &[u32], e: u32, g: u32) -> Option<u32>
     requires square { length table.now ≡ n * n }
     requires small { n ≤ 60 }
@@ -83,6 +85,7 @@ pub fn inverse_of(n: u32, table: &[u32], e: u32, g: u32) -> Option<u32>
     )
 }
 
+/// The least element with no right inverse.
 pub fn inverse_fault(n: u32, table: &[u32], e: u32) -> Option<GroupFault>
     requires square { length table.now ≡ n * n }
     requires small { n ≤ 60 }
@@ -98,6 +101,7 @@ pub fn inverse_fault(n: u32, table: &[u32], e: u32) -> Option<GroupFault>
     })
 }
 
+/// Whether `(gh)k = g(hk)`.
 fn associates(n: u32, table: &[u32], g: u32, h: u32, k: u32) -> bool
     requires square { length table.now ≡ n * n }
     requires small { n ≤ 60 }
@@ -110,6 +114,7 @@ fn associates(n: u32, table: &[u32], g: u32, h: u32, k: u32) -> bool
     product(n, table, product(n, table, g, h), k) == product(n, table, g, product(n, table, h, k))
 }
 
+/// The first `k` for which `(gh)k` is not `g(hk)`.
 fn row_fault(n: u32, table: &[u32], g: u32, h: u32) -> Option<GroupFault>
     requires square { length table.now ≡ n * n }
     requires small { n ≤ 60 }
@@ -127,6 +132,7 @@ fn row_fault(n: u32, table: &[u32], g: u32, h: u32) -> Option<GroupFault>
     })
 }
 
+/// The first three elements that do not associate.
 pub fn associativity_fault(n: u32, table: &[u32]) -> Option<GroupFault>
     requires square { length table.now ≡ n * n }
     requires small { n ≤ 60 }

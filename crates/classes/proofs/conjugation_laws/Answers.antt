@@ -1,4 +1,5 @@
 use Rattle.classes.proofs.Conjugacy.{conjugate_by_identity, conjugate_by_product, conjugate_of_product, members_exactly, centraliser_exactly}
+use Rattle.classes.proofs.Counting.{class_equation}
 use Rattle.classes.proofs.conjugation_laws.Goals as goal
 
 pub returns-clause-by_identity : goal.returns-clause-by_identity
@@ -15,3 +16,6 @@ returns-clause-members c = members_exactly
 
 pub returns-clause-centraliser : goal.returns-clause-centraliser
 returns-clause-centraliser c = centraliser_exactly
+
+pub returns-clause-equation : goal.returns-clause-equation
+returns-clause-equation c = class_equation

@@ -4,5 +4,5 @@ use Rattle.classes.proofs.parts.class_count.Goals as goal
 
 pub overflow_cast-result : goal.overflow_cast-result
 overflow_cast-result c =
-    let few = few_kept _ _ c.requires.group c.requires.small c.requires.classes in
+    let few = few_kept _ _ c.requires.group c.requires.classes in
     omega arith
