@@ -10,3 +10,4 @@ pub mod RegularClasses
 pub mod AlgebraLaws
 pub mod PhaseLaws
 pub mod ClassSums
+pub mod InstanceChecks

@@ -3,6 +3,7 @@
 
 ghost use Rattle.twisted.specs.Laws.{KappaComposes, RegularOnClasses, KappaOfConjugate, RankCounts};
 ghost use Rattle.twisted.specs.Laws.{ProductAssociates, CentralExactly, ClassSumAtConjugates, CombinationsAreCentral, CentralIsCombination, CoefficientsAreUnique};
+ghost use Rattle.twisted.specs.Instances.{FourIsTwist, FourRegular, PermutationsAreTwist, PermutationsRegular};
 
 mod elem;
 mod product;
@@ -40,4 +41,13 @@ pub fn centre_laws<R: Ring>(ring: &R)
     ensures combinations { CombinationsAreCentral (R.ops ring.now) (R.unit ring.now) }
     ensures spans { CentralIsCombination (R.ops ring.now) (R.unit ring.now) }
     ensures unique { CoefficientsAreUnique (R.ops ring.now) (R.unit ring.now) }
+{}
+
+/// Worked values: the four group whose algebra is that of the matrices of two rows, and a coboundary on the permutations of three
+/// points, whose classes are all regular.
+pub fn instances()
+    ensures four { FourIsTwist }
+    ensures four_regular { FourRegular }
+    ensures permutations { PermutationsAreTwist }
+    ensures permutations_regular { PermutationsRegular }
 {}
