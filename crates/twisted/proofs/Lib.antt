@@ -8,3 +8,6 @@ pub mod Coefficients
 pub mod Translation
 pub mod RegularClasses
 pub mod AlgebraLaws
+pub mod PhaseLaws
+pub mod ClassSums
+pub mod InstanceChecks

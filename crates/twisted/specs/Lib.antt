@@ -3,3 +3,4 @@ pub mod Regular
 pub mod Algebra
 pub mod Refusal
 pub mod Laws
+pub mod Instances

@@ -43,7 +43,7 @@ fn left_quotient(twist: &Twist, y: u32, x: u32) -> u32
 }
 
 /// The exponent in the ring of the root with exponent `v` modulo the modulus of the twist.
-fn exponent<R: Ring>(ring: &R, twist: &Twist, v: u32) -> u32
+pub fn exponent<R: Ring>(ring: &R, twist: &Twist, v: u32) -> u32
     requires v_below { v < twist.now.modulus }
     ensures exponent { result ≡ exponent (R.order ring.now) twist.now v }
 {

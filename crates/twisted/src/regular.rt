@@ -14,7 +14,7 @@ use std::alloc::Global;
 
 /// The conjugate `c x c^-1`.
 #[tactic(auto, unfolding(classes::specs::Conjugacy::conjugate))]
-fn conjugate(group: &Group, c: u32, x: u32) -> u32
+pub fn conjugate(group: &Group, c: u32, x: u32) -> u32
     requires c_below { c < group.now.order }
     requires x_below { x < group.now.order }
     ensures conjugate { result ≡ conjugate group.now c x }

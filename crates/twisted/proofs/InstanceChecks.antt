@@ -1,0 +1,90 @@
+-- The worked twists are twists, by computing.
+use Rattle.std.proofs.Common.{◌≡◌, ℕ, ◌+◌, ◌%◌, ◌<◌, Bool, true, ◌&&◌, nat_eq, nat_lt, length, get_or, None, refl, lit<, lit≤, eqb-true}
+use Rattle.std.proofs.lemmas.Bool.{ltb-true}
+use Rattle.scan.specs.First.{first, all_below}
+use Rattle.scan.proofs.Places.{all_below-at, and_true}
+use Rattle.group_table.specs.Group.{product, identity_of, group_fault}
+use Rattle.group_table.specs.Numbers.{passing_below}
+use Rattle.classes.specs.Conjugacy.{conjugate, representative_of, other_representatives}
+use Rattle.twisted.specs.Twist.{TwistedSubgroup, size, element, phase, HasCocycle}
+use Rattle.twisted.specs.Regular.{kappa, is_regular, regular_representatives, rank}
+use Rattle.twisted.specs.Instances.{four_twist, permutation_twist, FourIsTwist, PermutationsAreTwist, FourRegular, PermutationsRegular}
+
+-- the laws of a 2-cocycle as one test
+law_holds : TwistedSubgroup → ℕ → ℕ → ℕ → Bool
+law_holds s p q r = nat_eq ((phase s p q + phase s (product s.group p q) r) % s.modulus) ((phase s p (product s.group q r) + phase s q r) % s.modulus)
+
+laws_hold : TwistedSubgroup → Bool
+laws_hold s = all_below (size s) (λ p. all_below (size s) (λ q. all_below (size s) (law_holds s p q)))
+
+is_normal : TwistedSubgroup → Bool
+is_normal s = all_below (size s) (λ p. nat_eq (phase s (identity_of s.group) p) 0 && nat_eq (phase s p (identity_of s.group)) 0)
+
+ascends : TwistedSubgroup → Bool
+ascends s = all_below (size s) (λ r. all_below r (λ p. nat_lt (element s p) (element s r)))
+
+phases_fit : TwistedSubgroup → Bool
+phases_fit s = all_below (length s.phases) (λ i. nat_lt (get_or s.phases i 0) s.modulus)
+
+cocycle_of : (s : TwistedSubgroup) → laws_hold s ≡ true → is_normal s ≡ true → HasCocycle s
+unfolding laws_hold law_holds is_normal
+cocycle_of s laws normal = record {
+  law = λ p q r p_below q_below r_below. record {
+    same = eqb-true _ _
+        (all_below-at (size s) r _ (all_below-at (size s) q _ (all_below-at (size s) p _ laws p_below) q_below) r_below);
+  };
+  at_identity_left = λ p below. eqb-true _ _ (and_true _ _ (all_below-at (size s) p _ normal below)).0;
+  at_identity_right = λ p below. eqb-true _ _ (and_true _ _ (all_below-at (size s) p _ normal below)).1;
+}
+
+ascending_of : (s : TwistedSubgroup) → ascends s ≡ true → (p r : ℕ) → p < r → r < size s → element s p < element s r
+unfolding ascends
+ascending_of s e p r less below = ltb-true _ _ (all_below-at r p _ (all_below-at (size s) r _ e below) less)
+
+below_of : (s : TwistedSubgroup) → phases_fit s ≡ true → (i : ℕ) → i < length s.phases → get_or s.phases i 0 < s.modulus
+unfolding phases_fit
+below_of s e i below = ltb-true _ _ (all_below-at (length s.phases) i _ e below)
+
+four_lawful : group_fault four_twist.group ≡ None
+unfolding group_fault first all_below
+four_lawful = refl
+
+permutations_lawful : group_fault permutation_twist.group ≡ None
+unfolding group_fault first all_below
+permutations_lawful = refl
+
+pub four_is_twist : FourIsTwist
+unfolding laws_hold law_holds is_normal ascends phases_fit first all_below
+four_is_twist = record {
+  group = record { square = refl; lawful = four_lawful };
+  small = record { from_one = lit≤ tt; to_sixty = lit≤ tt };
+  count = refl;
+  ascending = ascending_of four_twist refl;
+  holds_at = (0, lit< tt, refl);
+  modulus = record { from_one = lit≤ tt; to_most = lit≤ tt };
+  square = refl;
+  below = below_of four_twist refl;
+  cocycle = cocycle_of four_twist refl refl;
+}
+
+pub permutations_are_twist : PermutationsAreTwist
+unfolding laws_hold law_holds is_normal ascends phases_fit first all_below
+permutations_are_twist = record {
+  group = record { square = refl; lawful = permutations_lawful };
+  small = record { from_one = lit≤ tt; to_sixty = lit≤ tt };
+  count = refl;
+  ascending = ascending_of permutation_twist refl;
+  holds_at = (3, lit< tt, refl);
+  modulus = record { from_one = lit≤ tt; to_most = lit≤ tt };
+  square = refl;
+  below = below_of permutation_twist refl;
+  cocycle = cocycle_of permutation_twist refl refl;
+}
+
+pub four_regular : FourRegular
+unfolding kappa is_regular regular_representatives rank conjugate representative_of other_representatives passing_below first all_below
+four_regular = (refl, refl, refl, refl)
+
+pub permutations_regular : PermutationsRegular
+unfolding kappa is_regular regular_representatives rank conjugate representative_of other_representatives passing_below first all_below
+permutations_regular = (refl, refl, refl, refl)
