@@ -1,9 +1,11 @@
 //! Products, class sums and places on two small twists, worked by hand.
 
-ghost use Rattle.std.specs.Prelude.{◌≡◌, ◌^◌, ◌<◌, length};
+ghost use Rattle.std.specs.Prelude.{◌≡◌, ◌^◌, ◌<◌, ◌≤◌, length};
 ghost use Rattle.twisted.specs.Twist.{size, IsTwist};
 
-use crate::{Elem, MulRefusal, Twist, class_sum, centre_rank, is_regular, kappa, mul, regular_reps};
+use crate::{
+    Elem, MulRefusal, Twist, centre_rank, class_sum, is_regular, kappa, mul, regular_reps,
+};
 use group_table::{Group, Nats};
 use qd_ring::{Cyc, CycRing};
 use std::alloc::Global;
@@ -60,7 +62,12 @@ fn four(rt: &impl Abort, alloc: Global) -> Twist
 fn only_the_identity_is_regular(rt: HostRuntime) {
     let twist = four(&rt, rt.alloc());
     assert_eq!(rt; centre_rank(&twist), 1);
-    assert_eq!(rt; regular_reps(rt.alloc(), &twist).expect(&rt, "memory").as_slice(), [0].as_slice());
+    assert_eq!(rt;
+        regular_reps(rt.alloc(), &twist)
+            .expect(&rt, "memory")
+            .as_slice(),
+        [0].as_slice()
+    );
     assert_eq!(rt; kappa(&twist, 1, 2), 1);
     assert!(rt; !is_regular(&twist, 3));
 }
@@ -88,9 +95,15 @@ fn permutations(rt: &impl Abort, alloc: Global) -> Twist
     )
 }
 
+/// The ring of the values of conductor 4, whose x is a root of -1.
+fn gaussian_integers() -> CycRing<4> {
+    CycRing::new()
+}
+
 /// The element has these coefficients: real and imaginary parts by place.
 fn expect_coefficients(rt: &impl Abort, a: &Elem<CycRing<4>>, parts: &[(i128, i128)])
-    requires { length a.now ≡ length parts.now }
+    requires same { length a.now ≡ length parts.now }
+    requires few { length parts.now ≤ 60 }
 {
     for p in 0..parts.len() as u32 {
         let value = a.get(p);
@@ -105,7 +118,7 @@ fn element(rt: &impl Abort, alloc: Global, twist: &Twist, p: u32, v: Cyc<4>) -> 
     requires { p < size twist.now }
     ensures { length result ≡ size twist.now }
 {
-    let mut a = Elem::zero(alloc, &CycRing::new(), twist).expect(rt, "memory");
+    let mut a = Elem::zero(alloc, &gaussian_integers(), twist).expect(rt, "memory");
     a.set(p, v);
     a
 }
@@ -128,27 +141,43 @@ fn class_sums(rt: HostRuntime) {
     assert_eq!(rt; centre_rank(&twist), 3);
     assert!(rt; is_regular(&twist, 1));
     assert!(rt; is_regular(&twist, 3));
-    let ring = CycRing::<4>::new();
+    let ring = gaussian_integers();
     let turns = class_sum(rt.alloc(), &ring, &twist, 1).expect(&rt, "memory");
-    expect_coefficients(&rt, &turns, &[(0, 0), (1, 0), (0, -1), (0, 0), (0, 0), (0, 0)]);
+    expect_coefficients(
+        &rt,
+        &turns,
+        &[(0, 0), (1, 0), (0, -1), (0, 0), (0, 0), (0, 0)],
+    );
     let exchanges = class_sum(rt.alloc(), &ring, &twist, 3).expect(&rt, "memory");
-    expect_coefficients(&rt, &exchanges, &[(0, 0), (0, 0), (0, 0), (1, 0), (0, -1), (-1, 0)]);
+    expect_coefficients(
+        &rt,
+        &exchanges,
+        &[(0, 0), (0, 0), (0, 0), (1, 0), (0, -1), (-1, 0)],
+    );
 }
 
 #[test]
 fn products(rt: HostRuntime) {
     let twist = permutations(&rt, rt.alloc());
-    let ring = CycRing::<4>::new();
+    let ring = gaussian_integers();
     let turn = element(&rt, rt.alloc(), &twist, 1, Cyc::one());
     let exchange = element(&rt, rt.alloc(), &twist, 3, Cyc::one());
     let Ok(square) = mul(rt.alloc(), &ring, &twist, &exchange, &exchange) else {
         panic!(rt; "no square");
     };
-    expect_coefficients(&rt, &square, &[(-1, 0), (0, 0), (0, 0), (0, 0), (0, 0), (0, 0)]);
+    expect_coefficients(
+        &rt,
+        &square,
+        &[(-1, 0), (0, 0), (0, 0), (0, 0), (0, 0), (0, 0)],
+    );
     let Ok(turned) = mul(rt.alloc(), &ring, &twist, &exchange, &turn) else {
         panic!(rt; "no product");
     };
-    expect_coefficients(&rt, &turned, &[(0, 0), (0, 0), (0, 0), (0, 0), (0, 0), (0, -1)]);
+    expect_coefficients(
+        &rt,
+        &turned,
+        &[(0, 0), (0, 0), (0, 0), (0, 0), (0, 0), (0, -1)],
+    );
     let great = element(&rt, rt.alloc(), &twist, 0, Cyc::whole(1 << 60));
     let refusal = mul(rt.alloc(), &ring, &twist, &great, &great).err();
     assert_eq!(rt; refusal, Some(MulRefusal::Overflow { place: 0 }));
