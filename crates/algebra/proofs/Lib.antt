@@ -6,3 +6,4 @@ pub mod BelowLaws
 pub mod CongruenceLaws
 pub mod ConvolutionLaws
 pub mod RootLaws
+pub mod InvolutionLaws

@@ -10,7 +10,7 @@ use Rattle.std.proofs.lemmas.Bool.{eq-eqb, ne_eqb, cases_eq}
 use Rattle.std.specs.Prelude.{◌&&◌, not}
 use Rattle.algebra.specs.Structures.{CommRing}
 use Rattle.algebra.specs.Sums.{sum_below, pick, multiple, power, sum_list}
-use Rattle.algebra.proofs.RingLaws.{nought_add, mul_add, add_mul, mul_nought, nought_mul, one_mul, neg_add, neg_nought, sum_rules, product_rules}
+use Rattle.algebra.proofs.RingLaws.{nought_add, mul_add, add_mul, mul_nought, nought_mul, one_mul, neg_add, neg_nought, sum_rules, product_rules, add_fixed}
 
 -- the recursions of the definitions
 module _ {A : Type 0} (R : CommRing A) where
@@ -270,3 +270,19 @@ module _ {A : Type 0} (R : CommRing A) where
   pub pick_not : (b : Bool) (x : A) → R.add (pick R b x) (pick R (not b) x) ≡ x
   pick_not true x = simp (pick_true, pick_false, R.add_nought)
   pick_not false x = simp (pick_true, pick_false, nought_add)
+
+-- a map that respects sums goes through sums and picks
+module _ {A B : Type 0} (R : CommRing A) (S : CommRing B) (h : A → B) (respects : (x y : A) → h (R.add x y) ≡ S.add (h x) (h y)) where
+  pub nought_map : h R.nought ≡ S.nought
+  nought_map = add_fixed S (h R.nought) (h R.nought) (sym (respects R.nought R.nought) ∙ ap h (R.add_nought R.nought))
+
+  pub sum_map : (n : ℕ) (f : ℕ → A) → h (sum_below R n f) ≡ sum_below S n (λ i. h (f i))
+  sum_map zero f = ap h (sum_zero R f) ∙ nought_map ∙ sym (sum_zero S (λ i. h (f i)))
+  sum_map (suc n) f = ap h (sum_suc R n f) ∙ respects (sum_below R n f) (f n) ∙ ap (λ s. S.add s (h (f n))) (sum_map n f) ∙ sym (sum_suc S n (λ i. h (f i)))
+
+  pub pick_map : (b : Bool) (x : A) → h (pick R b x) ≡ pick S b (h x)
+  pick_map true x = ap h (pick_true R x) ∙ sym (pick_true S (h x))
+  pick_map false x = ap h (pick_false R x) ∙ nought_map ∙ sym (pick_false S (h x))
+
+  pub multiple_map : (n : ℕ) (x : A) → h (multiple R n x) ≡ multiple S n (h x)
+  multiple_map n x = ap h (sym (sum_constant R n x)) ∙ sum_map n (λ i. x) ∙ sum_constant S n (h x)

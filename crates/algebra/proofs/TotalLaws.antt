@@ -6,7 +6,7 @@ use mathlib.Core.Path.{fun_ext}
 use Rattle.algebra.specs.Structures.{CommRing}
 use Rattle.algebra.specs.Sums.{sum_below, pick, multiple}
 use Rattle.algebra.specs.Totals.{Finite, equals, total}
-use Rattle.algebra.proofs.SumLaws.{sum_ext, sum_nought, sum_add, sum_neg, mul_sum, sum_mul, pick_sum, sum_exchange, sum_constant, sum_pick}
+use Rattle.algebra.proofs.SumLaws.{sum_map, sum_ext, sum_nought, sum_add, sum_neg, mul_sum, sum_mul, pick_sum, sum_exchange, sum_constant, sum_pick}
 
 -- equality of elements as a test
 module _ {G : Type 0} (F : Finite G) where
@@ -107,3 +107,9 @@ module _ {A G H : Type 0} (R : CommRing A) (F : Finite G) (E : Finite H) where
   total_fibres p f =
       total_ext R F f (λ x. total R E (λ y. pick R (equals E y (p x)) (f x))) (λ x. sym (total_pick R E (p x) (λ y. f x)))
       ∙ total_exchange (λ x y. pick R (equals E y (p x)) (f x))
+
+-- a map that respects sums goes through totals
+module _ {A B G : Type 0} (R : CommRing A) (S : CommRing B) (F : Finite G) (h : A → B) (respects : (x y : A) → h (R.add x y) ≡ S.add (h x) (h y)) where
+  pub total_map : (f : G → A) → h (total R F f) ≡ total S F (λ x. h (f x))
+  unfolding total
+  total_map f = sum_map R S h respects F.size (λ i. f (F.at i))

@@ -8,3 +8,4 @@ pub mod Roots
 pub mod Convolution
 pub mod Residues
 pub mod Theorems
+pub mod Involutions

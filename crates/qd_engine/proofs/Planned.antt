@@ -248,7 +248,7 @@ answer_passes command bytes text e =
       document = record { short = ltb-false _ _ within; lawful = no_stop };
       group = (unless_ok Group (group_fault (table_of (document_in bytes))) (table_of (document_in bytes)) group c).0;
       cocycle = no_fault;
-      report = let same : report_of command w ≡ text = cc in sym same ∙ ap (report_of command) same_w;
+      report = let same : text ≡ report_of command w = cc in same ∙ ap (report_of command) same_w;
     }
 
 -- ---- the whole plan

@@ -9,7 +9,9 @@ use qd_io::{Sink, write_whole};
 /// Writes what the program has to say, and answers how it ends by that.
 pub fn finish<W: Sink>(sink: &mut W, outcome: Outcome, text: &[u8]) -> Answer
     ensures status { result.status ≡ status_of result.why }
-    ensures ends { Ends (record { before = W.written sink.old; after = W.written sink.new; room = W.room sink.old }) (Rises (W.faults sink.old) (W.faults sink.new)) result.why outcome text.now }
+    ensures ends { Ends
+        (record { before = W.written sink.old; after = W.written sink.new; room = W.room sink.old })
+        (Rises (W.faults sink.old) (W.faults sink.new)) result.why outcome text.now }
 {
     let planned = outcome.status();
     match write_whole(sink, text) {

@@ -20,19 +20,16 @@ use qd_io::{Sink, Source};
 use std::alloc::Global;
 
 /// All steps before the writing: the text of the report, or why there is none.
-#[tactic(auto, unfolding(crate::specs::Plan::plan))]
 fn prepare<S: Source>(alloc: Global, words: &Vec<String>, source: &mut S) -> Result<String, Stop>
-    ensures prepares { Prepares (texts words.now.items) (S.left source.old) (Rises (S.faults source.old) (S.faults source.new)) result }
+    ensures prepares { Prepares (texts words.now.items) (S.left source.old)
+        (Rises (S.faults source.old) (S.faults source.new)) result }
     ensures drained { OnOk result (IsAtEnd (S.left source.new)) }
     ensures untouched { command_of (texts words.now.items) ≡ None → source.new ≡ source.old }
 {
     let Some(command) = command_of(words) else {
         return Err(Stop::Refused(Cause::Usage));
     };
-    let bytes = match input(alloc, source) {
-        Ok(bytes) => bytes,
-        Err(stop) => return Err(stop),
-    };
+    let bytes = input(alloc, source)?;
     answer_to(alloc, command, &bytes)
 }
 
@@ -42,7 +39,9 @@ const MEMORY_LINE: &str = "refused 14 memory\n";
 /// Writes the report, or the one line of a refusal.
 fn say<W: Sink>(alloc: Global, prepared: Result<String, Stop>, sink: &mut W) -> Answer
     ensures status { result.status ≡ status_of result.why }
-    ensures said { SaysPrepared prepared (record { before = W.written sink.old; after = W.written sink.new; room = W.room sink.old }) (Rises (W.faults sink.old) (W.faults sink.new)) result.why }
+    ensures said { SaysPrepared prepared
+        (record { before = W.written sink.old; after = W.written sink.new; room = W.room sink.old })
+        (Rises (W.faults sink.old) (W.faults sink.new)) result.why }
 {
     match prepared {
         Ok(text) => finish(sink, Outcome::Report, text.as_bytes()),
@@ -67,15 +66,26 @@ pub fn run<S: Source, W: Sink>(
     ensures status { result.status ≡ status_of result.why }
 
     // Done: the input is a document of a group and a normalised 3-cocycle, and the sink has its report.
-    ensures done { result.why ≡ Why.Done → IsDone (texts words.now.items) (S.left source.old) (W.written sink.old) (W.written sink.new) }
+    ensures done { result.why ≡ Why.Done →
+        IsDone (texts words.now.items) (S.left source.old) (W.written sink.old) (W.written sink.new) }
 
     // Every answer: what holds where it comes, and what was written.
-    ensures cause { Comes (texts words.now.items) (S.left source.old) (Rises (S.faults source.old) (S.faults source.new)) result.why }
-    ensures written { EndsSaying (texts words.now.items) (S.left source.old) (Rises (S.faults source.old) (S.faults source.new)) (record { before = W.written sink.old; after = W.written sink.new; room = W.room sink.old }) (Rises (W.faults sink.old) (W.faults sink.new)) result.why }
+    ensures cause { Comes (texts words.now.items) (S.left source.old)
+        (Rises (S.faults source.old) (S.faults source.new)) result.why }
+    ensures written { EndsSaying (texts words.now.items) (S.left source.old)
+        (Rises (S.faults source.old) (S.faults source.new))
+        (record { before = W.written sink.old; after = W.written sink.new; room = W.room sink.old })
+        (Rises (W.faults sink.old) (W.faults sink.new)) result.why }
 
     // Where the input is known and nothing fails, the answer is what the plan gives, or that there was no memory.
-    ensures decided { (bytes : List ℕ) → S.left source.old ≡ Some bytes → (Rises (S.faults source.old) (S.faults source.new) → ⊥) → (Rises (W.faults sink.old) (W.faults sink.new) → ⊥) → Decides (plan (texts words.now.items) bytes) result.why }
-    ensures roomy { (bytes report : List ℕ) → S.left source.old ≡ Some bytes → (Rises (S.faults source.old) (S.faults source.new) → ⊥) → plan (texts words.now.items) bytes ≡ Ok report → HasRoom (W.room sink.old) report → (result.why ≡ Why.Done) ⊎ (result.why ≡ Why.Memory) }
+    ensures decided { (bytes : List ℕ) → S.left source.old ≡ Some bytes
+        → (Rises (S.faults source.old) (S.faults source.new) → ⊥)
+        → (Rises (W.faults sink.old) (W.faults sink.new) → ⊥)
+        → Decides (plan (texts words.now.items) bytes) result.why }
+    ensures roomy { (bytes report : List ℕ) → S.left source.old ≡ Some bytes
+        → (Rises (S.faults source.old) (S.faults source.new) → ⊥)
+        → plan (texts words.now.items) bytes ≡ Ok report → HasRoom (W.room sink.old) report
+        → (result.why ≡ Why.Done) ⊎ (result.why ≡ Why.Memory) }
 
     // What becomes of the source.
     ensures drained { result.why ≡ Why.Done → IsAtEnd (S.left source.new) }

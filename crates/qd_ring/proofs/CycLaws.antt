@@ -1,20 +1,19 @@
 -- Sizes of arrays and of the values that they stand for, and the special images.
-use Rattle.qd_ring.specs.ArrayLaws.{array_length, array_parts, coefficients_of, size-padded, size-value}
-use Rattle.std.proofs.Common.{◌≡◌, ℕ, zero, suc, ◌+◌, ◌-◌, ◌*◌, ◌^◌, ◌%◌, ◌≤◌, ◌<◌, max, Bool, true, false, List, [], ◌∷◌, ◌++◌, length, take, drop, refl, sym, ap, ◌∙◌, subst, arith, nat_le, nat_lt}
-use Rattle.std.proofs.Math.Nat.{mul-le-mul, mul-le-mul_left}
-use Rattle.std.specs.Prelude.{ℤ, pos, nat_abs}
-use borrow.Author.Tests.{leb-true, le-leb, lt-leb, ltb-true, lt-ltb, le-ltb}
+use Rattle.qd_ring.specs.ArrayLaws.{array_length, size-padded, size-value}
+use Rattle.std.proofs.Common.{◌≡◌, ℕ, ◌-◌, ◌*◌, ◌^◌, ◌%◌, ◌≤◌, ◌<◌, true, false, List, length, sym, ap, ◌∙◌, subst, arith, nat_le, nat_lt}
+use Rattle.std.proofs.Math.Nat.{mul-le-mul}
+use Rattle.std.specs.Prelude.{ℤ}
+use borrow.Author.Tests.{leb-true, le-leb, lt-leb, lt-ltb, le-ltb}
 use mathlib.Core.Path.{ap₂}
-use Rattle.cyclotomic.specs.Polynomial.{zeros, at_power}
 use Rattle.cyclotomic.specs.Cyclotomic.{cyclotomic}
-use Rattle.cyclotomic.specs.Conductors.{is_conductor, phi_of}
+use Rattle.cyclotomic.specs.Conductors.{is_conductor}
 use Rattle.cyclotomic.specs.Fit.{size_of, value_size, value_fits, product_fits, greatest_magnitude}
-use Rattle.cyclotomic.specs.Ring.{Value, value_product, value_one, value_of}
-use Rattle.cyclotomic.specs.CyclotomicRing.{CyclotomicValue, cyclotomic_value, galois_image, conjugate, root, remainder_ring}
+use Rattle.cyclotomic.specs.Ring.{Value, value_product}
+use Rattle.cyclotomic.specs.CyclotomicRing.{CyclotomicValue, cyclotomic_value, galois_image, root, remainder_ring}
 use Rattle.algebra.proofs.RingLaws.{one_mul}
 use Rattle.cyclotomic.proofs.Images.{root-zero, image-one_power}
 use Rattle.cyclotomic.proofs.Inverses.{galois_modulo}
-use Rattle.cyclotomic.proofs.Sizes.{total_of, total-size, size-cons, size-zeros}
+use Rattle.cyclotomic.proofs.Sizes.{total_of, total-size}
 use Rattle.cyclotomic.proofs.Bounds.{product_that_fits}
 use Rattle.qd_ring.specs.CycArrays.{array_of, is_array, is_small}
 use Rattle.qd_ring.proofs.ProductLaws.{is_array-of}
@@ -51,7 +50,7 @@ module _ (k : ℕ) (entry : is_conductor k ≡ true) where
   pub image_alone : (t : ℕ) (u : CyclotomicValue k) → value_product (cyclotomic k) (root k 0) (galois_image k t u) ≡ galois_image k t u
   image_alone t u =
       ap (λ r. value_product (cyclotomic k) r (galois_image k t u)) (root-zero (cyclotomic k))
-          ∙ one_mul (remainder_ring (cyclotomic k)) (galois_image k t u)
+      ∙ one_mul (remainder_ring (cyclotomic k)) (galois_image k t u)
 
   pub image_modulo : (t : ℕ) (u : CyclotomicValue k) → value_product (cyclotomic k) (root k 0) (galois_image k (t % k) u) ≡ galois_image k t u
   image_modulo t u = image_alone (t % k) u ∙ sym (galois_modulo k entry t u)
@@ -84,4 +83,4 @@ module _ (k : ℕ) (entry : is_conductor k ≡ true) (xs ys : List ℤ) (a : is_
   pub product_no : 2 ^ 108 ≤ s * t → product_fits (cyclotomic_value k xs) (cyclotomic_value k ys) ≡ false
   product_no h =
       product_fits-sizes k entry xs ys a b
-          ∙ le-ltb (size_of xs * size_of ys) (2 ^ 108) (subst (λ z. 2 ^ 108 ≤ z) (ap₂ (λ x y. x * y) s_is t_is) h)
+      ∙ le-ltb (size_of xs * size_of ys) (2 ^ 108) (subst (λ z. 2 ^ 108 ≤ z) (ap₂ (λ x y. x * y) s_is t_is) h)

@@ -1,9 +1,9 @@
 -- Sums, differences and constants as arrays.
-use Rattle.qd_ring.specs.ArrayLaws.{all_noughts, array_length, array_parts, coefficients_of, size-value, value_fits-small, value_of-padded, value_of-zeros, zeros_noughts}
-use Rattle.std.proofs.Common.{◌≡◌, ℕ, zero, suc, pred, ◌+◌, ◌-◌, ◌*◌, ◌^◌, ◌%◌, ◌≤◌, ◌<◌, max, Bool, true, false, List, [], ◌∷◌, ◌++◌, length, take, drop, refl, sym, ap, ◌∙◌, subst, arith, ◌==◌, ◌&&◌, eq-eqb, length-append, length-drop, get_or}
+use Rattle.qd_ring.specs.ArrayLaws.{all_noughts, array_length, array_parts, coefficients_of, size-value, value_of-padded, value_of-zeros, zeros_noughts}
+use Rattle.std.proofs.Common.{◌≡◌, ℕ, zero, suc, pred, ◌-◌, ◌%◌, ◌≤◌, ◌<◌, true, false, List, [], ◌∷◌, ◌++◌, length, take, drop, refl, sym, ap, ◌∙◌, arith, ◌&&◌, eq-eqb, length-drop, get_or}
 use Rattle.std.proofs.Math.Seq.{take-length}
 use Rattle.std.proofs.lemmas.List.{drop-replicate}
-use Rattle.std.specs.Prelude.{ℤ, pos, negsuc, neg_ℤ, ◌+ℤ◌, ◌*ℤ◌, nat_abs}
+use Rattle.std.specs.Prelude.{ℤ, pos, negsuc, ◌+ℤ◌, ◌*ℤ◌, nat_abs}
 use Rattle.std.specs.List.{list_all}
 use mathlib.Core.Path.{ap₂}
 use Rattle.cyclotomic.specs.Polynomial.{zeros, plus, scaled, coefficient}
@@ -11,19 +11,17 @@ use Rattle.cyclotomic.specs.Cyclotomic.{cyclotomic}
 use Rattle.cyclotomic.specs.Conductors.{is_conductor, phi_of}
 use Rattle.cyclotomic.specs.Fit.{size_of, value_size, value_fits, greatest_magnitude}
 use borrow.Author.Tests.{le-leb}
-use Rattle.cyclotomic.specs.Ring.{Value, value_sum, value_multiple, value_negative, value_nought, value_of, value_one, value_product}
+use Rattle.cyclotomic.specs.Ring.{value_sum, value_multiple, value_negative, value_nought, value_product}
 use Rattle.cyclotomic.specs.CyclotomicRing.{CyclotomicValue, cyclotomic_ring, cyclotomic_value, root}
 use Rattle.algebra.specs.Sums.{power}
 use Rattle.cyclotomic.proofs.Orthogonality.{power-root}
 use Rattle.cyclotomic.proofs.Inverses.{root_modulo}
-use Rattle.cyclotomic.specs.Laws.Integers as Z
-use Rattle.cyclotomic.specs.Laws.Polynomials.{nil-plus, plus-nil, length-zeros, length-scaled, length-plus, scaled-one, scaled-zeros, plus-zeros}
-use Rattle.cyclotomic.specs.Laws.Values.{product_one}
+use Rattle.cyclotomic.specs.Laws.Polynomials.{length-zeros, length-scaled, length-plus, scaled-one, scaled-zeros, plus-zeros}
 use Rattle.cyclotomic.proofs.Sizes.{size-scaled, size-zeros, size-cons}
 use Rattle.cyclotomic.proofs.Bounds.{root_size}
 use Rattle.qd_ring.specs.CycArrays.{array_of, is_array, is_nought, is_small}
 use Rattle.qd_ring.specs.ReductionSigns.{conductor_bounds}
-use Rattle.qd_ring.proofs.ProductLaws.{length-value, value-array_of, nought_sum}
+use Rattle.qd_ring.proofs.ProductLaws.{length-value, nought_sum}
 use Rattle.qd_ring.proofs.CycLaws.{small_means, size-array_of, is_small_yes}
 
 plus-padded : (p q : List ℤ) (j : ℕ) → length p ≡ length q → plus (p ++ zeros j) (q ++ zeros j) ≡ plus p q ++ zeros j

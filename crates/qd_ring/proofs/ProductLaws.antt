@@ -1,29 +1,25 @@
 -- Products term by term, arrays of values, and what a zero buffer stands for.
-use Rattle.qd_ring.specs.ArrayLaws.{all_noughts, array_front, array_length, coefficients_of, value-front, value_of-padded, zeros_noughts}
-use Rattle.std.proofs.Common.{◌≡◌, ℕ, zero, suc, ◌+◌, ◌-◌, ◌*◌, ◌^◌, ◌≤◌, ◌<◌, Bool, true, false, List, [], ◌∷◌, ◌++◌, length, get_or, take, drop, refl, sym, ap, ◌∙◌, subst, arith, length-append, eqb-true, eq-eqb, ◌==◌, ◌&&◌}
+use Rattle.qd_ring.specs.ArrayLaws.{coefficients_of, value_of-padded, zeros_noughts}
+use Rattle.std.proofs.Common.{◌≡◌, ℕ, zero, suc, ◌+◌, ◌-◌, ◌*◌, ◌≤◌, ◌<◌, true, List, ◌++◌, length, get_or, take, drop, refl, sym, ap, ◌∙◌, arith, length-append, eq-eqb, ◌&&◌}
 use Rattle.std.proofs.Math.Nat.{mul-le-mul_right}
 use Rattle.std.proofs.Math.Numerals.{add-one}
-use Rattle.std.proofs.Math.Seq.{take-length, take-append_seam, drop-append_seam}
-use Rattle.std.proofs.lemmas.List.{take-append-drop, length-take-le, take-replicate}
-use Rattle.std.specs.Prelude.{ℤ, pos, negsuc, ◌*ℤ◌, nat_abs}
+use Rattle.std.proofs.Math.Seq.{drop-append_seam}
+use Rattle.std.proofs.lemmas.List.{take-replicate}
+use Rattle.std.specs.Prelude.{ℤ, pos, nat_abs}
 use Rattle.std.specs.List.{list_all}
 use mathlib.Core.Path.{ap₂}
 use Rattle.cyclotomic.specs.Polynomial.{zeros, at_power}
 use Rattle.cyclotomic.specs.Division.{degree, remainder}
 use Rattle.cyclotomic.specs.Cyclotomic.{cyclotomic}
 use Rattle.cyclotomic.specs.Conductors.{is_conductor, phi_of}
-use Rattle.cyclotomic.specs.Fit.{size_of, value_size, value_fits, greatest_magnitude}
-use Rattle.cyclotomic.specs.Ring.{Value, value_sum, value_multiple, value_nought, value_of, value_one, value_product, value_root, value_image}
-use Rattle.cyclotomic.specs.CyclotomicRing.{CyclotomicValue, cyclotomic_value, galois_image, root, remainder_ring}
-use Rattle.cyclotomic.specs.Laws.Action.{LinearMap, act, act-nil, act-cons, act-nothing}
+use Rattle.cyclotomic.specs.Ring.{Value, value_sum, value_multiple, value_nought, value_of, value_product, value_root, value_image}
+use Rattle.cyclotomic.specs.CyclotomicRing.{CyclotomicValue, cyclotomic_value, galois_image, remainder_ring}
 use Rattle.cyclotomic.specs.Laws.Polynomials.{length-zeros}
-use Rattle.cyclotomic.specs.Laws.Remainders.{remainder-itself}
-use Rattle.cyclotomic.specs.Laws.Values.{same_value, times_x, value_of-act, value_of-nil, value_of-itself, product_comm, sum_assoc, sum_nought, sum_comm}
+use Rattle.cyclotomic.specs.Laws.Values.{times_x, value_of-nil, value_of-itself, product_comm, sum_assoc, sum_nought, sum_comm}
 use Rattle.algebra.proofs.RingLaws.{add_mul, nought_mul}
-use Rattle.cyclotomic.proofs.Tests.{and_left, and_right}
 use Rattle.cyclotomic.proofs.Fields.{cyclotomic_degree}
-use Rattle.cyclotomic.proofs.Sizes.{total_of, size-cons, size-zeros}
-use Rattle.qd_ring.specs.CycArrays.{array_of, is_array, is_nought, is_small}
+use Rattle.cyclotomic.proofs.Sizes.{total_of}
+use Rattle.qd_ring.specs.CycArrays.{array_of, is_array, is_nought}
 use Rattle.qd_ring.proofs.BufferLaws.{value-take_suc}
 use Rattle.qd_ring.proofs.SpreadLaws.{product-multiple, total-take, total-take_suc}
 use Rattle.qd_ring.specs.ReductionSigns.{conductor_bounds}
@@ -54,23 +50,23 @@ module _ (m xs : List ℤ) (w : Value (degree m)) where
   product_more i h =
       let a = get_or xs i (pos 0) in
       ap product_by (add-one i)
-          ∙ ap (λ u. value_product m u w) (value-take_suc m xs i h)
-          ∙ add_mul (remainder_ring m) (value_of m (take i xs)) (value_multiple a (value_root m i)) w
-          ∙ ap (value_sum (product_by i)) (multiple-product m a (value_root m i) w)
+      ∙ ap (λ u. value_product m u w) (value-take_suc m xs i h)
+      ∙ add_mul (remainder_ring m) (value_of m (take i xs)) (value_multiple a (value_root m i)) w
+      ∙ ap (value_sum (product_by i)) (multiple-product m a (value_root m i) w)
 
   -- a term that is 0 adds nothing
   pub product_skip : (i : ℕ) → i < length xs → get_or xs i (pos 0) ≡ pos 0 → product_by (i + 1) ≡ product_by i
   product_skip i h e =
       product_more i h
-          ∙ ap (λ a. value_sum (product_by i) (value_multiple a (value_product m (value_root m i) w))) e
-          ∙ ap (value_sum (product_by i)) ((times_x m).scale_zero (value_product m (value_root m i) w))
-          ∙ sum_nought m (product_by i)
+      ∙ ap (λ a. value_sum (product_by i) (value_multiple a (value_product m (value_root m i) w))) e
+      ∙ ap (value_sum (product_by i)) ((times_x m).scale_zero (value_product m (value_root m i) w))
+      ∙ sum_nought m (product_by i)
 
   pub product_step : (old now next : Value (degree m)) (i : ℕ) → i < length xs → now ≡ value_sum old (product_by i) → next ≡ value_sum now (value_multiple (get_or xs i (pos 0)) (value_product m (value_root m i) w)) → next ≡ value_sum old (product_by (i + 1))
   product_step old now next i h before is =
       let added = value_multiple (get_or xs i (pos 0)) (value_product m (value_root m i) w) in
       is ∙ ap (λ z. value_sum z added) before ∙ sum_assoc m old (product_by i) added
-          ∙ ap (value_sum old) (sym (product_more i h))
+      ∙ ap (value_sum old) (sym (product_more i h))
 
 -- ---- arrays
 module _ (k : ℕ) (entry : is_conductor k ≡ true) where
@@ -83,11 +79,11 @@ module _ (k : ℕ) (entry : is_conductor k ≡ true) where
       let bounds = conductor_bounds k entry in
       let n = length u.coefficients in
       let long : length (u.coefficients ++ zeros (42 - n)) ≡ 42 =
-          omega (arith, length-append u.coefficients (zeros (42 - n)), length-zeros (42 - n), length-value u, bounds.2) in
+      omega (arith, length-append u.coefficients (zeros (42 - n)), length-zeros (42 - n), length-value u, bounds.2) in
       let rest : drop (phi_of k) (u.coefficients ++ zeros (42 - n)) ≡ zeros (42 - n) =
-          ap (λ j. drop j (u.coefficients ++ zeros (42 - n))) (sym (length-value u)) ∙ drop-append_seam u.coefficients (zeros (42 - n)) in
+      ap (λ j. drop j (u.coefficients ++ zeros (42 - n))) (sym (length-value u)) ∙ drop-append_seam u.coefficients (zeros (42 - n)) in
       ap₂ (λ x y. x && y) (eq-eqb (length (u.coefficients ++ zeros (42 - n))) 42 long)
-          (ap (list_all is_nought) rest ∙ zeros_noughts (42 - n))
+      (ap (list_all is_nought) rest ∙ zeros_noughts (42 - n))
 
   pub value-array_of : (u : CyclotomicValue k) → cyclotomic_value k (array_of u) ≡ u
   unfolding array_of
@@ -104,7 +100,7 @@ module _ (k : ℕ) (entry : is_conductor k ≡ true) where
 pub product_total : (xs : List ℤ) (i t : ℕ) → i < length xs → total_of (take (i + 1) xs) * t ≡ total_of (take i xs) * t + nat_abs (get_or xs i (pos 0)) * t
 product_total xs i t h =
     let more : total_of (take (i + 1) xs) ≡ total_of (take i xs) + nat_abs (get_or xs i (pos 0)) =
-        ap (λ n. total_of (take n xs)) (add-one i) ∙ total-take_suc xs i h in
+    ap (λ n. total_of (take n xs)) (add-one i) ∙ total-take_suc xs i h in
     omega (arith, ap (λ n. n * t) more)
 
 pub product_most : (xs : List ℤ) (i t : ℕ) → total_of (take i xs) * t ≤ total_of xs * t

@@ -1,12 +1,11 @@
 -- Reduction in place: the window moves down by one place at a time, and holds the remainder of what stood from there on.
-use Rattle.std.proofs.Common.{◌≡◌, ℕ, zero, suc, ◌+◌, ◌-◌, ◌*◌, ◌^◌, ◌≤◌, ◌<◌, max, true, List, [], ◌∷◌, ◌++◌, length, get_or, take, drop, refl, sym, ap, ◌∙◌, subst, arith, length-append, length-drop, append_assoc}
+use Rattle.std.proofs.Common.{◌≡◌, ℕ, zero, suc, ◌+◌, ◌*◌, ◌≤◌, ◌<◌, true, List, [], ◌∷◌, ◌++◌, length, get_or, take, drop, refl, sym, ap, ◌∙◌, subst, arith, length-drop, append_assoc}
 use Rattle.std.proofs.Math.Nat.{mul-le-mul}
 use Rattle.std.proofs.Math.Decide.{dec_lt}
-use Rattle.std.proofs.Math.Seq.{drop-cons, take-append_seam, drop-append_seam, take-suc, take-length}
-use Rattle.std.proofs.lemmas.List.{get_or-take, length-take-le, take-append-le}
-use Rattle.std.specs.Prelude.{ℤ, pos, negsuc, nat_abs}
+use Rattle.std.proofs.Math.Seq.{drop-cons, take-append_seam, drop-append_seam, take-length}
+use Rattle.std.proofs.lemmas.List.{get_or-take, length-take-le}
+use Rattle.std.specs.Prelude.{ℤ, pos}
 use mathlib.Core.Path.{ap₂}
-use Rattle.cyclotomic.specs.Polynomial.{leading, lower}
 use Rattle.cyclotomic.specs.Division.{degree, cancelled, remainder}
 use Rattle.cyclotomic.specs.Cyclotomic.{cyclotomic}
 use Rattle.cyclotomic.specs.Conductors.{is_conductor, phi_of, reduction_of}
@@ -14,9 +13,9 @@ use Rattle.cyclotomic.specs.Fit.{size_of, value_size}
 use Rattle.cyclotomic.specs.Ring.{Value, value_of, value_one}
 use Rattle.cyclotomic.specs.Laws.Remainders.{remainder-cons, length-remainder, length-cancelled, remainder-itself}
 use Rattle.cyclotomic.specs.Laws.Values.{value_of-act}
-use Rattle.cyclotomic.proofs.Checks.{cyclotomic_is, reduction_length}
-use Rattle.cyclotomic.proofs.Fields.{cyclotomic_degree, cyclotomic_lower}
-use Rattle.cyclotomic.proofs.Sizes.{total_of, size-act, size-cons, magnitude-sum}
+use Rattle.cyclotomic.proofs.Checks.{cyclotomic_is}
+use Rattle.cyclotomic.proofs.Fields.{cyclotomic_degree}
+use Rattle.cyclotomic.proofs.Sizes.{total_of, size-act, size-cons}
 use Rattle.cyclotomic.proofs.Bounds.{step_size, phi_square}
 use Rattle.qd_ring.proofs.BufferLaws.{magnitude_at}
 

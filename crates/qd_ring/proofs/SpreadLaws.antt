@@ -1,19 +1,18 @@
 -- Adding a polynomial at x^t, times a power of x, place by place modulo K.
-use Rattle.std.proofs.Common.{◌≡◌, ℕ, zero, suc, ◌+◌, ◌-◌, ◌*◌, ◌^◌, ◌%◌, ◌≤◌, ◌<◌, true, List, [], ◌∷◌, ◌++◌, length, get_or, take, refl, sym, ap, ◌∙◌, subst, arith, mul-zero, mul-suc, add_assoc, add_comm}
+use Rattle.std.proofs.Common.{◌≡◌, ℕ, zero, suc, ◌+◌, ◌*◌, ◌^◌, ◌%◌, ◌≤◌, ◌<◌, true, List, [], ◌∷◌, length, get_or, take, refl, sym, ap, ◌∙◌, arith, mul-zero}
 use Rattle.std.proofs.Math.Nat.{mod-add-mod, mod-eq_of_lt, add-zero}
 use Rattle.std.proofs.Math.Seq.{take-length}
 use Rattle.std.proofs.Math.Numerals.{add-one}
-use Rattle.std.proofs.lemmas.List.{length-take-le}
-use Rattle.std.specs.Prelude.{ℤ, pos, negsuc, ◌+ℤ◌, ◌*ℤ◌, nat_abs}
+use Rattle.std.specs.Prelude.{ℤ, pos, ◌*ℤ◌, nat_abs}
 use mathlib.Core.Path.{ap₂}
-use Rattle.cyclotomic.specs.Polynomial.{zeros, plus, scaled, at_power}
-use Rattle.cyclotomic.specs.Division.{degree, remainder}
+use Rattle.cyclotomic.specs.Polynomial.{at_power}
+use Rattle.cyclotomic.specs.Division.{degree}
 use Rattle.cyclotomic.specs.Cyclotomic.{cyclotomic}
-use Rattle.cyclotomic.specs.Conductors.{is_conductor, phi_of}
+use Rattle.cyclotomic.specs.Conductors.{is_conductor}
 use Rattle.cyclotomic.specs.Ring.{Value, value_sum, value_multiple, value_nought, value_of, value_one, value_product, value_root}
 use Rattle.cyclotomic.specs.CyclotomicRing.{CyclotomicValue, cyclotomic_value, root}
-use Rattle.cyclotomic.specs.Laws.Action.{LinearMap, map_power, iterate, act, act-nil, act-scale, act-at_power, iterate-power, act-nought, act-cons, scale_nought}
-use Rattle.cyclotomic.specs.Laws.Values.{times_x, value_of-act, value_of-nil, product-act, product_sum, sum_assoc, sum_nought}
+use Rattle.cyclotomic.specs.Laws.Action.{map_power, iterate, act, act-nil, act-scale, act-at_power, iterate-power, act-nought, act-cons, scale_nought}
+use Rattle.cyclotomic.specs.Laws.Values.{times_x, value_of-act, value_of-nil, product-act, product_sum, sum_assoc}
 use Rattle.cyclotomic.proofs.Images.{root_steps, root-sum}
 use Rattle.cyclotomic.proofs.Inverses.{root_modulo}
 use Rattle.cyclotomic.proofs.Sizes.{total_of, magnitude-product}

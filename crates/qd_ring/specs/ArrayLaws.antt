@@ -1,16 +1,15 @@
 -- Arrays of values: their parts, their sizes, and that they fit.
-use Rattle.std.proofs.Common.{◌≡◌, ℕ, zero, suc, ◌+◌, ◌-◌, ◌*◌, ◌^◌, ◌≤◌, ◌<◌, max, Bool, true, false, List, [], ◌∷◌, ◌++◌, length, take, drop, refl, sym, ap, ◌∙◌, subst, arith, eqb-true, ◌==◌, ◌&&◌, nat_le}
+use Rattle.std.proofs.Common.{◌≡◌, ℕ, zero, suc, max, true, List, [], ◌∷◌, ◌++◌, length, take, drop, refl, sym, ap, ◌∙◌, arith, eqb-true, ◌==◌, nat_le}
 use Rattle.std.proofs.lemmas.List.{take-append-drop, length-take-le}
 use Rattle.std.specs.Prelude.{ℤ, pos, negsuc, nat_abs}
 use Rattle.std.specs.List.{list_all}
 use borrow.Author.Tests.{le-leb}
 use mathlib.Core.Path.{ap₂}
 use Rattle.cyclotomic.specs.Polynomial.{zeros}
-use Rattle.cyclotomic.specs.Division.{degree}
 use Rattle.cyclotomic.specs.Cyclotomic.{cyclotomic}
 use Rattle.cyclotomic.specs.Conductors.{is_conductor, phi_of}
 use Rattle.cyclotomic.specs.Fit.{size_of, value_size, value_fits, greatest_magnitude}
-use Rattle.cyclotomic.specs.Ring.{Value, value_nought, value_of, value_one}
+use Rattle.cyclotomic.specs.Ring.{value_nought, value_of, value_one}
 use Rattle.cyclotomic.specs.CyclotomicRing.{CyclotomicValue, cyclotomic_ring, cyclotomic_value, root}
 use Rattle.cyclotomic.specs.Laws.Action.{LinearMap, act, act-nil, act-cons, act-nothing}
 use Rattle.cyclotomic.specs.Laws.Remainders.{remainder-itself}
@@ -59,7 +58,7 @@ module _ (k : ℕ) (entry : is_conductor k ≡ true) where
     unfolding is_array
     array_parts =
         sym (take-append-drop (phi_of k) xs)
-            ∙ ap (λ z. take (phi_of k) xs ++ z) (all_noughts (drop (phi_of k) xs) (and_right (length xs == 42) (list_all is_nought (drop (phi_of k) xs)) array))
+        ∙ ap (λ z. take (phi_of k) xs ++ z) (all_noughts (drop (phi_of k) xs) (and_right (length xs == 42) (list_all is_nought (drop (phi_of k) xs)) array))
 
     pub array_front : length (take (phi_of k) xs) ≡ phi_of k
     array_front =
@@ -75,7 +74,7 @@ module _ (k : ℕ) (entry : is_conductor k ≡ true) where
     unfolding value_of
     coefficients_of =
         ap (λ (v : CyclotomicValue k). v.coefficients) (sym value-front)
-            ∙ remainder-itself (cyclotomic k) (take (phi_of k) xs) (array_front ∙ sym (cyclotomic_degree k entry))
+        ∙ remainder-itself (cyclotomic k) (take (phi_of k) xs) (array_front ∙ sym (cyclotomic_degree k entry))
 
 -- ---- sizes
 pub size-padded : (p : List ℤ) (j : ℕ) → size_of (p ++ zeros j) ≡ size_of p
@@ -87,7 +86,7 @@ module _ (k : ℕ) (entry : is_conductor k ≡ true) where
   pub size-value : (xs : List ℤ) → is_array k xs ≡ true → value_size (cyclotomic_value k xs) ≡ size_of xs
   size-value xs array =
       ap size_of (coefficients_of k entry xs array)
-          ∙ sym (ap size_of (array_parts k entry xs array) ∙ size-padded (take (phi_of k) xs) (length (drop (phi_of k) xs)))
+      ∙ sym (ap size_of (array_parts k entry xs array) ∙ size-padded (take (phi_of k) xs) (length (drop (phi_of k) xs)))
 
   pub value_fits-small : (xs : List ℤ) → is_array k xs ≡ true → value_fits (cyclotomic_value k xs) ≡ is_small xs
   unfolding value_fits is_small
@@ -101,5 +100,4 @@ pub power_fits : (k : ℕ) → is_conductor k ≡ true → (e : ℕ) → value_f
 unfolding value_fits
 power_fits k entry e =
     ap value_fits (power-root (cyclotomic k) e)
-        ∙ le-leb (value_size (root k e)) greatest_magnitude (omega (arith, root_size k entry e))
-
+    ∙ le-leb (value_size (root k e)) greatest_magnitude (omega (arith, root_size k entry e))

@@ -14,5 +14,5 @@ cyclotomic_fit k = record {
   overflows = sizes_overflow;
   front = sizes_overflow-front;
   order = sizes_overflow-order;
-  sum_fits = sizes_overflow-sum_fits (cyclotomic k)
+  sum_fits = sizes_overflow-sum_fits (cyclotomic k);
 }

@@ -197,3 +197,6 @@ impl<const K: u32> Cyc<K> {
         }
     }
 }
+
+#[cfg(test)]
+mod tests;

@@ -173,7 +173,8 @@ fn read_value(text: &[u8], phi: u32) -> Result<Plain, ValueFault>
 /// `x^phi` on.
 ///
 /// The text is exactly the one that is written of the value. `Wide` is the answer where it is so written of whole numbers
-/// of which one is over 2^120 - 1 in magnitude, and `NotValue` where it is written of none.
+/// of which one is over 2^120 - 1 in magnitude, and `NotValue` where it is written of no whole numbers that are 0 from that
+/// of `x^phi` on.
 pub fn read_plain(bytes: &Vec<u8>, start: u32, len: u32, phi: u32) -> Result<Plain, ValueFault>
     requires within { start + len ≤ length bytes.now.items }
     requires powers { phi ≤ 42 }

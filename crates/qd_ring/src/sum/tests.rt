@@ -4,8 +4,10 @@ ghost use Rattle.algebra.specs.Residues.{residue};
 ghost use Rattle.qd_ring.specs.Fit.{no_limits};
 ghost use Rattle.qd_ring.specs.Thirds.{three, thirds, thirds_unit};
 
+use crate::cyc::Cyc;
+use crate::cyc_ring::CycRing;
 use crate::ring::Ring;
-use crate::sum::try_sum;
+use crate::sum::{root_of, try_sum, try_sum_below, try_term};
 use std::test::Fail;
 
 // the residues modulo 3, with the root of unity 2
@@ -64,5 +66,18 @@ impl Ring for Thirds {
 #[test]
 fn sums_of_residues(rt: HostRuntime) -> Result<(), Fail> {
     assert_eq!(rt; try_sum(&Thirds, &[1, 2, 2]), Some(2));
+    Ok(())
+}
+
+#[test]
+#[tactic(auto, unfolding(cyclotomic::specs::Conductors::is_conductor, cyclotomic::specs::Conductors::conductors))]
+fn sums_of_cyclotomic_values(rt: HostRuntime) -> Result<(), Fail> {
+    let ring = CycRing::<12>::new();
+    let one = Cyc::<12>::one();
+    let x_to_3 = root_of(&ring, 3);
+    let minus_one = root_of(&ring, 6);
+    assert_eq!(rt; try_sum(&ring, &[one, x_to_3, minus_one]), Some(x_to_3));
+    let vanishing = try_sum_below(&ring, 4, |j| try_term(&ring, 3 * j, &one, &one));
+    assert_eq!(rt; vanishing, Some(Cyc::zero()));
     Ok(())
 }

@@ -1,4 +1,5 @@
 use Rattle.std.proofs.Common.{◌≡◌, Some, None, sym, ◌∙◌}
+use Rattle.std.proofs.lemmas.Result.{err_from_is_err_and}
 use Rattle.qd_engine.specs.Words.{texts, command_of}
 use Rattle.qd_engine.proofs.Planned.{usage_prepares, read_prepares, answer_prepares}
 use Rattle.qd_engine.proofs.running.prepare.Goals as goal
@@ -8,12 +9,13 @@ returns-in_default-clause-prepares g c =
     let none : command_of (texts c.args.words.now.items) ≡ None = rw (← c.deref.ensures.value) (sym c.command_of.ensures.command ∙ c.in_default.is) in
     usage_prepares _ _ none
 
-pub returns-in-Err-clause-prepares : goal.returns-in-Err-clause-prepares
-returns-in-Err-clause-prepares g c =
+pub returns-in_err-bytes-clause-prepares : goal.returns-in_err-bytes-clause-prepares
+returns-in_err-bytes-clause-prepares g c =
     let asks : command_of (texts c.args.words.now.items) ≡ Some c.in-Some.command = rw (← c.deref.ensures.value) (sym c.command_of.ensures.command ∙ c.in-Some.is) in
-    read_prepares _ _ _ c.in-Some.command c.in-Err.stop asks c.in-Err.ensures.reads
+    let p = err_from_is_err_and c.from_residual.result c.from_residual.ensures.1 in
+    rw (p.1, p.2) (read_prepares _ _ _ c.in-Some.command c.in_err-bytes.field-0.0 asks c.in_err-bytes.ensures.reads)
 
 pub returns-clause-prepares : goal.returns-clause-prepares
 returns-clause-prepares g c =
     let asks : command_of (texts c.args.words.now.items) ≡ Some c.in-Some.command = rw (← c.deref.ensures.value) (sym c.command_of.ensures.command ∙ c.in-Some.is) in
-    answer_prepares _ _ _ c.in-Some.command c.in-Ok.bytes.items c.answer_to.result asks c.in-Ok.ensures.reads c.answer_to.ensures.follows
+    answer_prepares _ _ _ c.in-Some.command c.in_ok-bytes.bytes.items c.answer_to.result asks c.in_ok-bytes.ensures.reads c.answer_to.ensures.follows

@@ -1,5 +1,5 @@
 -- Each coefficient adds its multiple of a power of x, times the factor.
-use Rattle.std.proofs.Common.{◌≡◌, ◌+◌, ◌*◌, ◌^◌, ◌%◌, ◌<◌, ◌≤◌, suc, length, take, get_or, ap, sym, subst, ◌∙◌, refl, arith, nat_abs, pos, rules, ◌*ℤ◌}
+use Rattle.std.proofs.Common.{◌≡◌, ◌+◌, ◌*◌, ◌^◌, ◌<◌, suc, length, take, get_or, ap, sym, subst, ◌∙◌, arith, nat_abs, pos, rules, ◌*ℤ◌}
 use Rattle.std.proofs.Math.Numerals.{add-one}
 use Rattle.std.proofs.Math.Nat.{mod-lt}
 use Rattle.std.proofs.lemmas.Int.{to_z-of_z}

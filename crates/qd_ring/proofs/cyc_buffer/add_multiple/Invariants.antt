@@ -1,5 +1,5 @@
 -- What the coefficients so far have added.
-use Rattle.std.proofs.Common.{◌≡◌, ◌+◌, ◌*◌, ◌%◌, ◌≤◌, ◌<◌, take, length, nat_abs}
+use Rattle.std.proofs.Common.{◌≡◌, ◌+◌, ◌*◌, ◌%◌, ◌≤◌, ◌<◌, take, nat_abs}
 use Rattle.cyclotomic.specs.Polynomial.{at_power}
 use Rattle.cyclotomic.specs.Cyclotomic.{cyclotomic}
 use Rattle.cyclotomic.specs.Ring.{value_sum, value_product, value_multiple}

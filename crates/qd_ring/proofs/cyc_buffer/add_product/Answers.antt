@@ -1,5 +1,5 @@
 -- Each term that isn't 0 adds its multiple; the others add nothing.
-use Rattle.std.proofs.Common.{◌≡◌, ◌+◌, ◌*◌, ◌^◌, ◌<◌, ◌≤◌, length, take, get_or, ap, sym, subst, ◌∙◌, refl, arith, nat_abs, pos, rules}
+use Rattle.std.proofs.Common.{◌≡◌, ◌+◌, ◌*◌, ◌^◌, ◌<◌, get_or, ap, sym, subst, ◌∙◌, refl, arith, nat_abs, pos, rules}
 use mathlib.Core.Path.{ap₂}
 use Rattle.std.proofs.lemmas.Int.{to_z-of_z}
 use mir.Syntax.{w128}
@@ -9,7 +9,7 @@ use Rattle.cyclotomic.specs.Ring.{value_sum, value_product, value_multiple}
 use Rattle.cyclotomic.specs.CyclotomicRing.{cyclotomic_value, root}
 use Rattle.cyclotomic.specs.Laws.Values.{sum_nought}
 use Rattle.cyclotomic.proofs.Sizes.{total_of}
-use Rattle.qd_ring.proofs.ProductLaws.{product_by, product_none, product_skip, product_step, product_total, product_most}
+use Rattle.qd_ring.proofs.ProductLaws.{product_none, product_skip, product_step, product_total, product_most}
 use Rattle.qd_ring.proofs.cyc_buffer.add_product.Goals as goal
 use Rattle.qd_ring.proofs.cyc_buffer.add_product.Goals.{then-factor-ne0, else-factor-ne0}
 

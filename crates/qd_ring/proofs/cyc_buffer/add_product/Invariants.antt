@@ -1,5 +1,5 @@
 -- What the terms so far have added.
-use Rattle.std.proofs.Common.{◌≡◌, ◌+◌, ◌*◌, ◌≤◌, take, length}
+use Rattle.std.proofs.Common.{◌≡◌, ◌+◌, ◌*◌, ◌≤◌, take}
 use Rattle.cyclotomic.specs.Cyclotomic.{cyclotomic}
 use Rattle.cyclotomic.specs.Ring.{value_sum, value_product}
 use Rattle.cyclotomic.specs.CyclotomicRing.{cyclotomic_value}

@@ -1,5 +1,5 @@
 -- Each number is changed, and every number on the way fits.
-use Rattle.std.proofs.Common.{◌≡◌, ◌+◌, ◌^◌, ◌<◌, ◌≤◌, length, take, get_or, ap, sym, subst, ◌∙◌, refl, arith, nat_abs, pos, neg_ℤ}
+use Rattle.std.proofs.Common.{◌≡◌, ◌^◌, ◌<◌, ◌≤◌, length, take, ap, sym, subst, ◌∙◌, refl, arith, nat_abs, neg_ℤ}
 use Rattle.std.proofs.Math.Seq.{take-length}
 use Rattle.std.proofs.lemmas.Int.{to_z-of_z}
 use mir.Syntax.{w8}

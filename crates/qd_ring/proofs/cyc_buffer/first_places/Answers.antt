@@ -1,5 +1,5 @@
 -- The copied places, and the zeros that were there.
-use Rattle.std.proofs.Common.{◌≡◌, ◌++◌, take, drop, ◌∙◌}
+use Rattle.std.proofs.Common.{◌++◌}
 use Rattle.std.specs.Prelude.{pos}
 use Rattle.std.proofs.lemmas.List.{drop-replicate}
 use mathlib.Core.Path.{ap₂}

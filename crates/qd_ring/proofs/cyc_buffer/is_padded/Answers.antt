@@ -1,5 +1,5 @@
 -- The array is 42 long, and its end is tested.
-use Rattle.std.proofs.Common.{◌≡◌, ◌≤◌, length, drop, ap, ◌∙◌, arith}
+use Rattle.std.proofs.Common.{length, drop, ap, ◌∙◌, arith}
 use Rattle.std.specs.List.{list_all}
 use Rattle.cyclotomic.proofs.Checks.{reduction_length}
 use Rattle.qd_ring.specs.CycArrays.{is_nought}

@@ -1,19 +1,16 @@
 -- The product of the first phi(K) places.
 use Rattle.qd_ring.specs.ArrayLaws.{array_front, value-front}
-use Rattle.std.proofs.Common.{◌≡◌, ◌+◌, ◌-◌, ◌*◌, ◌^◌, ◌<◌, ◌≤◌, ◌++◌, length, take, ap, sym, subst, ◌∙◌, refl, arith}
+use Rattle.std.proofs.Common.{length, take, ap, ◌∙◌, arith}
 use Rattle.std.proofs.Math.Nat.{mul-le-mul}
 use mathlib.Core.Path.{ap₂}
-use Rattle.cyclotomic.specs.Polynomial.{at_power}
 use Rattle.cyclotomic.specs.Cyclotomic.{cyclotomic}
-use Rattle.cyclotomic.specs.Conductors.{phi_of}
 use Rattle.cyclotomic.specs.Ring.{value_product}
-use Rattle.cyclotomic.specs.CyclotomicRing.{cyclotomic_value, root}
+use Rattle.cyclotomic.specs.CyclotomicRing.{cyclotomic_value}
 use Rattle.cyclotomic.proofs.Checks.{reduction_length}
-use Rattle.cyclotomic.proofs.Sizes.{total_of}
 use Rattle.qd_ring.specs.CycArrays.{array_of}
 use Rattle.qd_ring.specs.ReductionSigns.{conductor_bounds}
 use Rattle.qd_ring.proofs.SpreadLaws.{total-take}
-use Rattle.qd_ring.proofs.ProductLaws.{image-front, empty_front, empty_length}
+use Rattle.qd_ring.proofs.ProductLaws.{empty_front, empty_length}
 use Rattle.qd_ring.proofs.cyc_buffer.product.Goals as goal
 
 pub slice_bounds-buffer-end : goal.slice_bounds-buffer-end

@@ -1,6 +1,6 @@
 -- From an empty buffer the value is what is added, and its remainder is copied.
 use Rattle.qd_ring.specs.ArrayLaws.{value_of-zeros}
-use Rattle.std.proofs.Common.{◌≡◌, ◌+◌, ◌-◌, ◌*◌, ◌^◌, ◌<◌, ◌≤◌, ◌++◌, length, take, ap, sym, subst, ◌∙◌, refl, arith}
+use Rattle.std.proofs.Common.{◌≡◌, ◌-◌, ◌++◌, length, take, ap, ◌∙◌, arith}
 use Rattle.cyclotomic.specs.Polynomial.{at_power, zeros}
 use Rattle.cyclotomic.specs.Cyclotomic.{cyclotomic}
 use Rattle.cyclotomic.specs.Conductors.{phi_of}

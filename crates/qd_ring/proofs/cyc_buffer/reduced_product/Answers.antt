@@ -1,11 +1,11 @@
 -- From an empty buffer the value is what is added, and its remainder is copied.
 use Rattle.qd_ring.specs.ArrayLaws.{value_of-zeros}
-use Rattle.std.proofs.Common.{◌≡◌, ◌+◌, ◌-◌, ◌*◌, ◌^◌, ◌<◌, ◌≤◌, ◌++◌, length, take, ap, sym, subst, ◌∙◌, refl, arith}
-use Rattle.cyclotomic.specs.Polynomial.{at_power, zeros}
+use Rattle.std.proofs.Common.{◌≡◌, ◌-◌, ◌++◌, length, take, ap, ◌∙◌, arith}
+use Rattle.cyclotomic.specs.Polynomial.{zeros}
 use Rattle.cyclotomic.specs.Cyclotomic.{cyclotomic}
 use Rattle.cyclotomic.specs.Conductors.{phi_of}
 use Rattle.cyclotomic.specs.Ring.{value_sum, value_product}
-use Rattle.cyclotomic.specs.CyclotomicRing.{cyclotomic_value, root}
+use Rattle.cyclotomic.specs.CyclotomicRing.{cyclotomic_value}
 use Rattle.cyclotomic.specs.Laws.Polynomials.{length-zeros}
 use Rattle.cyclotomic.proofs.Checks.{reduction_length}
 use Rattle.cyclotomic.proofs.Sizes.{total_of}

@@ -1,5 +1,5 @@
 -- One more number.
-use Rattle.std.proofs.Common.{◌≡◌, get_or, sym, pos, rules}
+use Rattle.std.proofs.Common.{get_or, sym, pos, rules}
 use mir.Syntax.{w128}
 use mir.Val.{SFits}
 use Rattle.cyclotomic.proofs.Sizes.{size-nil}

@@ -1,10 +1,7 @@
 -- Each coefficient adds its multiple of a power of x.
-use Rattle.std.proofs.Common.{◌≡◌, ◌+◌, ◌*◌, ◌^◌, ◌%◌, ◌<◌, ◌≤◌, suc, length, take, get_or, ap, sym, subst, ◌∙◌, refl, arith, nat_abs, pos}
+use Rattle.std.proofs.Common.{◌≡◌, ◌+◌, ◌^◌, ◌<◌, suc, take, get_or, ap, sym, subst, ◌∙◌, arith, nat_abs, pos}
 use Rattle.std.proofs.Math.Numerals.{add-one}
-use Rattle.std.proofs.Math.Seq.{take-length}
 use Rattle.std.proofs.Math.Nat.{mod-lt}
-use mir.Syntax.{w128}
-use mir.Val.{to_z, of_z}
 use Rattle.cyclotomic.specs.Cyclotomic.{cyclotomic}
 use Rattle.cyclotomic.specs.Ring.{value_sum, value_multiple}
 use Rattle.cyclotomic.specs.CyclotomicRing.{cyclotomic_value, root}
@@ -13,7 +10,7 @@ use Rattle.cyclotomic.proofs.Checks.{conductor_positive}
 use Rattle.cyclotomic.proofs.Sizes.{total_of}
 use Rattle.qd_ring.proofs.BufferLaws.{read_128}
 use Rattle.qd_ring.specs.ReductionSigns.{conductor_bounds}
-use Rattle.qd_ring.proofs.SpreadLaws.{spread_by, spread_none, spread_step, spread_all, place_start, place_next, total-take, total-take_suc}
+use Rattle.qd_ring.proofs.SpreadLaws.{spread_none, spread_step, place_start, place_next, total-take, total-take_suc}
 use Rattle.qd_ring.proofs.cyc_buffer.spread.Goals as goal
 
 pub loop-a-init : goal.loop-a-init

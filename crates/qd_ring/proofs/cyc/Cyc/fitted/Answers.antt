@@ -1,5 +1,5 @@
 -- The size decides, and the array of a value stands for it.
-use Rattle.std.proofs.Common.{◌≡◌, ap, sym, ◌∙◌}
+use Rattle.std.proofs.Common.{ap, sym, ◌∙◌}
 use Rattle.cyclotomic.specs.CyclotomicRing.{cyclotomic_value}
 use Rattle.qd_ring.specs.CycArrays.{is_small}
 use Rattle.qd_ring.proofs.ProductLaws.{value-array_of}

@@ -1,8 +1,8 @@
 -- The multiple of 1 by the root.
-use Rattle.std.proofs.Common.{◌≡◌, ℕ, ◌+◌, ◌^◌, ◌<◌, ◌≤◌, ◌∷◌, [], ap, sym, subst, ◌∙◌, arith, lit<, refl, pos, length, drop, get_or, rules}
+use Rattle.std.proofs.Common.{ap, ◌∙◌, arith}
 use Rattle.cyclotomic.specs.Cyclotomic.{cyclotomic}
-use Rattle.cyclotomic.specs.Ring.{value_product, value_one}
-use Rattle.cyclotomic.specs.CyclotomicRing.{cyclotomic_value, galois_image, root}
+use Rattle.cyclotomic.specs.Ring.{value_product}
+use Rattle.cyclotomic.specs.CyclotomicRing.{cyclotomic_value, root}
 use Rattle.cyclotomic.specs.Laws.Values.{product_one}
 use Rattle.qd_ring.specs.CycArrays.{array_of}
 use Rattle.qd_ring.specs.ReductionSigns.{conductor_bounds}

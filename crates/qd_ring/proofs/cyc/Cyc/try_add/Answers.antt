@@ -1,8 +1,7 @@
 -- The array is that of the value, and fits where its size does.
-use Rattle.std.proofs.Common.{◌≡◌, ◌^◌, ◌<◌, ap, sym, ◌∙◌, arith, lit<}
-use Rattle.cyclotomic.specs.Ring.{value_sum, value_negative}
+use Rattle.std.proofs.Common.{◌∙◌, arith, lit<}
+use Rattle.cyclotomic.specs.Ring.{value_sum}
 use Rattle.cyclotomic.specs.CyclotomicRing.{cyclotomic_value}
-use Rattle.qd_ring.specs.CycArrays.{array_of}
 use Rattle.qd_ring.proofs.CycLaws.{small_means, array-is}
 use Rattle.qd_ring.proofs.CycSums.{sum_array}
 use Rattle.qd_ring.proofs.cyc.Cyc.try_add.Goals as goal

@@ -1,13 +1,12 @@
 -- The image is formed, and fits where its size does.
-use Rattle.std.proofs.Common.{◌≡◌, ◌+◌, ◌-◌, ◌%◌, ◌<◌, ◌≤◌, ap, sym, ◌∙◌, arith, lit<}
+use Rattle.std.proofs.Common.{◌%◌, ap, ◌∙◌, lit<}
 use Rattle.std.proofs.Math.Nat.{mod-lt}
 use Rattle.cyclotomic.specs.Cyclotomic.{cyclotomic}
 use Rattle.cyclotomic.specs.Ring.{value_product}
-use Rattle.cyclotomic.specs.CyclotomicRing.{cyclotomic_value, galois_image, conjugate, root}
+use Rattle.cyclotomic.specs.CyclotomicRing.{cyclotomic_value, galois_image, root}
 use Rattle.cyclotomic.proofs.Checks.{conductor_positive}
 use Rattle.qd_ring.specs.CycArrays.{array_of}
-use Rattle.qd_ring.specs.ReductionSigns.{conductor_bounds}
-use Rattle.qd_ring.proofs.CycLaws.{small_total, array-is, image_alone, image_modulo, times_alone}
+use Rattle.qd_ring.proofs.CycLaws.{small_total, array-is, image_modulo}
 use Rattle.qd_ring.proofs.cyc.Cyc.try_galois.Goals as goal
 
 pub nonzero_rem-t : goal.nonzero_rem-t

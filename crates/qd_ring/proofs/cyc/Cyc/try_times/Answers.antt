@@ -1,13 +1,11 @@
 -- The image is formed, and fits where its size does.
-use Rattle.std.proofs.Common.{◌≡◌, ◌+◌, ◌-◌, ◌%◌, ◌<◌, ◌≤◌, ap, sym, ◌∙◌, arith, lit<}
-use Rattle.std.proofs.Math.Nat.{mod-lt}
+use Rattle.std.proofs.Common.{ap, ◌∙◌, arith, lit<}
 use Rattle.cyclotomic.specs.Cyclotomic.{cyclotomic}
 use Rattle.cyclotomic.specs.Ring.{value_product}
-use Rattle.cyclotomic.specs.CyclotomicRing.{cyclotomic_value, galois_image, conjugate, root}
-use Rattle.cyclotomic.proofs.Checks.{conductor_positive}
+use Rattle.cyclotomic.specs.CyclotomicRing.{cyclotomic_value, galois_image, root}
 use Rattle.qd_ring.specs.CycArrays.{array_of}
 use Rattle.qd_ring.specs.ReductionSigns.{conductor_bounds}
-use Rattle.qd_ring.proofs.CycLaws.{small_total, array-is, image_alone, image_modulo, times_alone}
+use Rattle.qd_ring.proofs.CycLaws.{small_total, array-is, times_alone}
 use Rattle.qd_ring.proofs.cyc.Cyc.try_times.Goals as goal
 
 pub image-requires-clause-stride : goal.image-requires-clause-stride

@@ -1,8 +1,6 @@
 -- One number, then zeros.
-use Rattle.std.proofs.Common.{◌≡◌, ℕ, ◌+◌, ◌^◌, ◌<◌, ◌≤◌, ◌∷◌, [], ap, sym, subst, ◌∙◌, arith, lit<, refl, pos, length, drop, get_or, rules}
-use Rattle.cyclotomic.specs.Cyclotomic.{cyclotomic}
-use Rattle.cyclotomic.specs.Ring.{value_product, value_one}
-use Rattle.cyclotomic.specs.CyclotomicRing.{cyclotomic_value, galois_image, root}
+use Rattle.std.proofs.Common.{◌∷◌, ap, ◌∙◌}
+use Rattle.cyclotomic.specs.CyclotomicRing.{cyclotomic_value}
 use Rattle.std.proofs.lemmas.Int.{to_z-of_z}
 use Rattle.cyclotomic.specs.Polynomial.{zeros}
 use Rattle.qd_ring.specs.CycArrays.{is_array, is_small}

@@ -1,8 +1,5 @@
 -- The array of zeros.
-use Rattle.std.proofs.Common.{◌≡◌, ℕ, ◌+◌, ◌^◌, ◌<◌, ◌≤◌, ◌∷◌, [], ap, sym, subst, ◌∙◌, arith, lit<, refl, pos, length, drop, get_or, rules}
-use Rattle.cyclotomic.specs.Cyclotomic.{cyclotomic}
-use Rattle.cyclotomic.specs.Ring.{value_product, value_one}
-use Rattle.cyclotomic.specs.CyclotomicRing.{cyclotomic_value, galois_image, root}
+use Rattle.std.proofs.Common.{arith, pos}
 use Rattle.qd_ring.proofs.CycSums.{constant_array, constant_small, zero_value}
 use Rattle.qd_ring.proofs.cyc.Cyc.zero.Goals as goal
 

@@ -13,8 +13,8 @@ unwrap-requires g c =
     let a = c.args.self in
     let minus = value_negative (cyclotomic_value g.row.K a.coefficients) in
     let fits : value_fits (value_sum (cyclotomic_value g.row.K c.zero-zero.result.coefficients) minus) ≡ true =
-        ap value_fits (ap (λ z. value_sum z minus) c.zero-zero.ensures ∙ nought_sum (cyclotomic g.row.K) minus)
-            ∙ negative_fits g.row.K a.conductor a.coefficients a.array a.small in
+    ap value_fits (ap (λ z. value_sum z minus) c.zero-zero.ensures ∙ nought_sum (cyclotomic g.row.K) minus)
+    ∙ negative_fits g.row.K a.conductor a.coefficients a.array a.small in
     search rules
 
 pub returns : goal.returns

@@ -10,6 +10,7 @@ returns g c =
     let k = g.row.K in
     let xs = c.args.a.now.coefficients in
     let ys = c.args.b.now.coefficients in
-    let decides = signed_items xs ys in
-    (λ same. ap (cyclotomic_value k) (decides.0 (sym c.eq.ensures ∙ same)),
-        λ equal. let arrays : xs ≡ ys = arrays_same k c.args.self.now.conductor xs ys c.args.a.now.array c.args.b.now.array equal in c.eq.ensures ∙ decides.1 arrays)
+    let decides = signed_items xs ys in (
+      λ same. ap (cyclotomic_value k) (decides.0 (sym c.eq.ensures ∙ same)),
+      λ equal. let arrays : xs ≡ ys = arrays_same k c.args.self.now.conductor xs ys c.args.a.now.array c.args.b.now.array equal in c.eq.ensures ∙ decides.1 arrays,
+    )

@@ -12,8 +12,8 @@ returns-clause-fits g c =
     let k = g.row.K in
     let u = cyclotomic_value k c.args.a.now.coefficients in
     c.try_times.ensures.fits
-        ∙ ap (λ n. value_fits (value_product (cyclotomic k) (root k n) u)) c.new.ensures
-        ∙ ap value_fits (scaled_by_power k c.args.self.now.conductor c.args.e u)
+    ∙ ap (λ n. value_fits (value_product (cyclotomic k) (root k n) u)) c.new.ensures
+    ∙ ap value_fits (scaled_by_power k c.args.self.now.conductor c.args.e u)
 
 pub returns-clause-multiple : goal.returns-clause-multiple
 returns-clause-multiple g c =
