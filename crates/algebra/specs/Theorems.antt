@@ -1,5 +1,5 @@
 -- The laws of sums, congruences and twisted algebras that the crate's law functions carry. A commutative ring is taken on
--- the natural numbers, as every countable one is up to names, and a finite group or type on the numbers below its size.
+-- the natural numbers, as every countably infinite one is up to names, and a finite group or type on the numbers below its size.
 use Rattle.std.specs.Prelude.{◌≡◌, ℕ, ◌+◌, ◌<◌, nat_eq}
 use Rattle.algebra.specs.Structures.{CommRing}
 use Rattle.algebra.specs.Sums.{sum_below, pick}

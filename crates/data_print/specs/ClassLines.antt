@@ -1,4 +1,4 @@
--- The lines of the conjugacy classes, each with the rank of its twisted group algebra, and the line of their sum.
+-- The lines of the conjugacy classes, each with a rank: that of the centre of its twisted group algebra, and the line of their sum.
 use Rattle.std.specs.Prelude.{ℕ, List, length, sum, slice_index, codes}
 use Rattle.std.specs.Fmt.{decimal}
 use Rattle.group_table.specs.Group.{Table}
@@ -18,7 +18,7 @@ class_line t c rank =
 abbrev pub class_lines : Table → List ℕ → List ℕ
 class_lines t ranks = first_lines (λ c. class_line t c (slice_index ranks c)) (length (representatives t))
 
--- the line of the sum of the ranks, which is the number of simple modules
+-- the line of the sum of the ranks, by the theory the number of simple modules
 abbrev pub simples_line : List ℕ → List ℕ
 simples_line ranks = codes "simples " ⧺ decimal (sum ranks) ⧺ codes "\n"
 

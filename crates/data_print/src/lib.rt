@@ -6,6 +6,7 @@ mod head;
 
 pub use class_lines::append_classes;
 pub use head::append_head;
+/// There was no memory for what was asked.
 pub use std::alloc::AllocError as Memory;
 
 #[cfg(test)]

@@ -3,3 +3,4 @@ pub mod Ranks
 pub mod Planned
 pub mod Documents
 pub mod Meaning
+pub mod Taken

@@ -1,7 +1,7 @@
 -- What the program's answer means, from what it had to say and how it ended.
 use Rattle.std.proofs.Common.{◌≡◌, ℕ, ◌≤◌, List, length, Option, Some, None, Result, Ok, Err, refl, sym, subst, ◌∙◌, arith, ◌⊎◌, inl, inr, length-append}
 use Rattle.std.specs.Prelude.{IsSome}
-use Rattle.std.specs.Io.KnownBytes.{Appends, IsAtEnd}
+use Rattle.std.specs.Io.KnownBytes.{Appends}
 use Rattle.qd_io.specs.Stream.{HasRoom}
 use Rattle.cochain.specs.Cochain.{Cochain}
 use Rattle.qd_engine.specs.Words.{command_of}
@@ -10,7 +10,7 @@ use Rattle.qd_engine.specs.Report.{report_of}
 use Rattle.qd_engine.specs.Lines.{memory_line}
 use Rattle.qd_engine.specs.Answers.{why_of_cause, why_of}
 use Rattle.qd_engine.specs.Causes.{OfInput, document_in, Comes, IsDone}
-use Rattle.std.specs.Prelude.{IsOk, OnOk}
+use Rattle.std.specs.Prelude.{IsOk}
 use Rattle.std.specs.Global.{Vec}
 use Rattle.qd_engine.specs.declared.stop.Stop.{Stop}
 use Rattle.qd_engine.specs.declared.stop.Stop.TheVariants as stops
@@ -40,7 +40,7 @@ pub record Written (writing : Writing) (why : Why) (outcome : Outcome) (text : L
   pub is : why ≡ why_of outcome
   pub added : Appends writing.before writing.after text
 
-ending : (writing : Writing) (failed : Type 0) (why : Why) (outcome : Outcome) (text : List ℕ) → Ends writing failed why outcome text
+pub ending : (writing : Writing) (failed : Type 0) (why : Why) (outcome : Outcome) (text : List ℕ) → Ends writing failed why outcome text
     → Failed writing failed why outcome text ⊎ Written writing why outcome text
 ending writing failed (whys.Write planned) outcome text e = inl (record { planned = planned; is = refl; rose = e.1; no_room = e.3 })
 ending writing failed whys.Done outcome text e = inr (record { is = e.0; added = e.1 })
@@ -242,8 +242,3 @@ done_prepared writing failed why (Ok text) says done = refl
 done_prepared writing failed why (Err (stops.Refused cause)) (inl says) done = absurd (not_done writing failed why (Refused cause) (line_of cause) (cause_not_done cause) says done)
 done_prepared writing failed why (Err (stops.Refused cause)) (inr says) done = absurd (not_done writing failed why Memory memory_line (λ e. cc) says done)
 done_prepared writing failed why (Err stops.Memory) says done = absurd (not_done writing failed why Memory memory_line (λ e. cc) says done)
-
-pub drained_if_done : (writing : Writing) (failed : Type 0) (why : Why) (left : Option (List ℕ)) (prepared : Result (Vec ℕ) Stop) → SaysPrepared prepared writing failed why → OnOk prepared (IsAtEnd left)
-    → why ≡ whys.Done → IsAtEnd left
-drained_if_done writing failed why left (Ok text) says drained done = drained
-drained_if_done writing failed why left (Err stop) says drained done = absurd (let wrong : IsOk {T = Vec ℕ} (Err stop) = done_prepared writing failed why (Err stop) says done in cc)

@@ -338,6 +338,11 @@ planned_is_cause words left failed command bytes (Roots number) asks agrees e = 
 planned_is_cause words left failed command bytes (Group fault) asks agrees e = (bytes, agrees, plan_asked words command bytes asks ∙ e)
 planned_is_cause words left failed command bytes (Cocycle fault) asks agrees e = (bytes, agrees, plan_asked words command bytes asks ∙ e)
 
+-- a refusal of too much comes of no input that is short enough
+pub long_refused : (command : Command) (bytes : List ℕ) → answer_to command bytes ≡ Err TooLong → INPUT_LIMIT < length bytes
+unfolding Refuses
+long_refused command bytes e = answer_refuses command bytes TooLong e
+
 pub answer_prepares : (words : List (List ℕ)) (left : Option (List ℕ)) (failed : Type 0) (command : Command) (bytes : List ℕ) (result : Result (Vec ℕ) Stop) → command_of words ≡ Some command
     → Agrees left bytes → Follows (λ (text : Vec ℕ). text.items) result (answer_to command bytes) → Prepares words left failed result
 answer_prepares words left failed command bytes (Ok text) asks agrees e = (bytes, agrees, plan_asked words command bytes asks ∙ e)

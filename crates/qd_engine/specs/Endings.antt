@@ -2,7 +2,7 @@
 use Rattle.std.specs.Prelude.{◌≡◌, ℕ, ◌<◌, List, length, Option, Result, Ok, Err, ⊤, ◌⊎◌}
 use Rattle.std.specs.Global.{Vec}
 use Rattle.std.specs.Io.KnownBytes.{Appends}
-use Rattle.qd_io.specs.Stream.{AppendsFront, HasRoom}
+use Rattle.qd_io.specs.Stream.{AppendsFront, HasRoom, TakesUpTo, TakesOver}
 use Rattle.qd_engine.specs.Plan.{plan}
 use Rattle.qd_engine.specs.Lines.{line_of, memory_line}
 use Rattle.qd_engine.specs.Answers.{why_of, why_of_cause, status_of}
@@ -47,6 +47,18 @@ Reads left failed (Err (stops.Refused Read)) = failed
 Reads left failed (Err (stops.Refused TooLong)) = OfInput left (λ bytes. INPUT_LIMIT < length bytes)
 Reads left failed (Err (stops.Refused cause)) = ⊥
 Reads left failed (Err stops.Memory) = ⊤
+
+-- how much was taken of a source, by what came of the steps: more than the program reads exactly where it refuses for that
+abbrev pub Takes : {X : Type 0} → Option (List ℕ) → Option (List ℕ) → Result X Stop → Type 0
+Takes before after (Err (stops.Refused TooLong)) = TakesOver INPUT_LIMIT before after
+Takes before after prepared = TakesUpTo INPUT_LIMIT before after
+
+-- The same by the answer. One that could not be written, or for want of memory, may stand for a refusal of too much.
+abbrev pub TakesFor : Option (List ℕ) → Option (List ℕ) → Why → Type 0
+TakesFor before after whys.TooLong = TakesOver INPUT_LIMIT before after
+TakesFor before after (whys.Write planned) = TakesUpTo INPUT_LIMIT before after ⊎ (((planned ≡ 6) ⊎ (planned ≡ 14)) × TakesOver INPUT_LIMIT before after)
+TakesFor before after whys.Memory = TakesUpTo INPUT_LIMIT before after ⊎ TakesOver INPUT_LIMIT before after
+TakesFor before after why = TakesUpTo INPUT_LIMIT before after
 
 -- what comes of all steps before the writing
 abbrev pub Prepares : List (List ℕ) → Option (List ℕ) → Type 0 → Result (Vec ℕ) Stop → Type 0

@@ -35,7 +35,7 @@ asked (Some command) = Ok command
 abbrev pub within_limit : List ℕ → Result (List ℕ) Cause
 within_limit bytes = if nat_lt INPUT_LIMIT (length bytes) then Err TooLong else Ok bytes
 
--- why a text is no document; want of memory is no reason that a text gives
+-- why a text is no document. Want of memory is no reason that a text gives: `stop_of` never says it, and its line is never met
 abbrev pub cause_of_stop : DocRefusal → Cause
 cause_of_stop (stops.Syntax offset expected) = Syntax offset expected
 cause_of_stop (stops.Wide offset) = Wide offset

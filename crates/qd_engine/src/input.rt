@@ -2,7 +2,7 @@ ghost use Rattle.std.specs.Prelude.{◌≡◌, ◌≤◌, vec_len, OnOk, IfOk};
 ghost use Rattle.std.specs.Io.KnownBytes.{IsAtEnd};
 ghost use Rattle.qd_io.specs.Stream.{Rises};
 ghost use Rattle.qd_io.specs.declared.reading.TheConstants.{INPUT_LIMIT};
-ghost use Rattle.qd_engine.specs.Endings.{Reads};
+ghost use Rattle.qd_engine.specs.Endings.{Reads, Takes};
 
 use crate::cause::Cause;
 use crate::stop::Stop;
@@ -12,6 +12,7 @@ use std::alloc::Global;
 /// All the bytes of the source, or why they are not to be had.
 pub fn input<S: Source>(alloc: Global, source: &mut S) -> Result<Vec<u8>, Stop>
     ensures reads { Reads (S.left source.old) (Rises (S.faults source.old) (S.faults source.new)) result }
+    ensures taken { Takes (S.left source.old) (S.left source.new) result }
     ensures drained { OnOk result (IsAtEnd (S.left source.new)) }
     ensures limit { IfOk result (λ bytes. vec_len bytes ≤ INPUT_LIMIT) }
 {

@@ -6,7 +6,7 @@ ghost use Rattle.qd_engine.specs.Plan.{plan};
 ghost use Rattle.qd_engine.specs.Answers.{status_of};
 ghost use Rattle.qd_engine.specs.Causes.{Comes, IsDone};
 ghost use Rattle.qd_engine.specs.declared.answer.Why.{Why};
-ghost use Rattle.qd_engine.specs.Endings.{Prepares, SaysPrepared, EndsSaying, Decides};
+ghost use Rattle.qd_engine.specs.Endings.{Prepares, Takes, TakesFor, SaysPrepared, EndsSaying, Decides};
 
 use crate::answer::{Answer, Outcome};
 use crate::cause::Cause;
@@ -23,6 +23,7 @@ use std::alloc::Global;
 fn prepare<S: Source>(alloc: Global, words: &Vec<String>, source: &mut S) -> Result<Vec<u8>, Stop>
     ensures prepares { Prepares (texts words.now.items) (S.left source.old)
         (Rises (S.faults source.old) (S.faults source.new)) result }
+    ensures taken { Takes (S.left source.old) (S.left source.new) result }
     ensures drained { OnOk result (IsAtEnd (S.left source.new)) }
     ensures untouched { command_of (texts words.now.items) ≡ None → source.new ≡ source.old }
 {
@@ -88,7 +89,8 @@ pub fn run<S: Source, W: Sink>(
         → (result.why ≡ Why.Done) ⊎ (result.why ≡ Why.Memory) }
 
     // What becomes of the source.
-    ensures drained { result.why ≡ Why.Done → IsAtEnd (S.left source.new) }
+    ensures taken { TakesFor (S.left source.old) (S.left source.new) result.why }
+    ensures drained { (result.why ≡ Why.Done) ⊎ (result.why ≡ Why.Write 0) → IsAtEnd (S.left source.new) }
     ensures untouched { command_of (texts words.now.items) ≡ None → source.new ≡ source.old }
 {
     let prepared = prepare(alloc, words, source);

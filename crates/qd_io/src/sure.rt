@@ -54,7 +54,7 @@ impl Source for SureSource {
     }
 }
 
-/// What a `SureSink` holds: what was written, and the room that is left.
+/// A sink into memory that promises the room that is left. A piece that is longer is a fault, which is counted.
 #[derive(Debug, Drop)]
 pub struct SureSink {
     bytes: Vec<u8>,

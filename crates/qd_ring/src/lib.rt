@@ -19,6 +19,7 @@ mod value_text;
 
 pub use cyc::Cyc;
 pub use cyc_ring::CycRing;
+pub use cyclotomic::{NoConductor, conductor, phi};
 pub use plain::{Plain, ValueFault};
 pub use ring::Ring;
 pub use root::Root;

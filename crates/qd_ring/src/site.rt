@@ -28,6 +28,7 @@ pub enum Part {
 /// The place of a listed sum; a number that its part doesn't name is 0.
 #[derive(Clone, Copy, PartialEq, Eq, Hash, Debug)]
 pub struct Site {
+    /// The kind of the sum.
     pub part: Part,
     /// The representative of the class in the clauses of a table, the element g of a full or tensor character at (g, x), the
     /// simple k of an inner product with k or of its indicator.

@@ -13,7 +13,8 @@ mod tests;
 pub use centraliser::twist_at;
 pub use slant_product::{gamma, theta};
 
-/// Every phase is an exponent below the number of roots, and is 0 where an argument or the index is the identity.
+/// Every phase is an exponent below the number of roots; the slant product and the coproduct phase are 0 where an argument or the index
+/// is the identity.
 pub fn phase_values()
     ensures below { PhasesBelow }
     ensures theta { ThetaNormalised }

@@ -9,7 +9,7 @@ use Rattle.twisted.specs.Twist.{TwistedSubgroup, size, phase}
 unfoldable pub kappa : TwistedSubgroup → ℕ → ℕ → ℕ
 kappa s c x = (phase s c x + (s.modulus - phase s (conjugate s.group c x) c)) % s.modulus
 
--- th(x,y) = th(y,x), where x and y commute
+-- th(x,y) = th(y,x), where x and y commute. Both are below the modulus, so that they are the same number
 abbrev pub is_symmetric_at : TwistedSubgroup → ℕ → ℕ → Bool
 is_symmetric_at s x y = if product s.group x y == product s.group y x then phase s x y == phase s y x else true
 
