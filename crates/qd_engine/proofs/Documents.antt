@@ -5,7 +5,8 @@ use Rattle.std.proofs.Math.Nat.{mod-lt}
 use Rattle.group_table.specs.Group.{group_fault, IsGroup}
 use Rattle.cochain.specs.Cochain.{reduced, cocycle_fault, IsCocycle}
 use Rattle.qd_doc.proofs.Shapes.{document_in_range}
-use Rattle.qd_engine.specs.Plan.{table_of, exponents_of}
+use Rattle.qd_engine.specs.Documents.{form_of, table_of, exponents_of}
+use Rattle.qd_engine.specs.declared.command.Command.{Command}
 use Rattle.qd_engine.specs.Causes.{document_in, IsDocument}
 
 -- every reduced exponent is below the number of roots
@@ -14,16 +15,16 @@ reduced_below roots exponents i some within =
     let inside : i < length exponents = rw (length-map exponents (λ v. v % roots)) at within in
     rw (get_or-map (λ v. v % roots) exponents i 0 0 inside) (mod-lt (get_or exponents i 0) some)
 
-pub document_group : (bytes : List ℕ) → IsDocument bytes → group_fault (table_of (document_in bytes)) ≡ None → IsGroup (table_of (document_in bytes))
-document_group bytes document lawful = record { square = (document_in_range bytes document.lawful).table; lawful = lawful }
+pub document_group : (command : Command) (bytes : List ℕ) → IsDocument command bytes → group_fault (table_of (document_in command bytes)) ≡ None → IsGroup (table_of (document_in command bytes))
+document_group command bytes document lawful = record { square = (document_in_range (form_of command) bytes document.lawful).table; lawful = lawful }
 
-pub document_cocycle : (bytes : List ℕ) → IsDocument bytes → group_fault (table_of (document_in bytes)) ≡ None → cocycle_fault (exponents_of (document_in bytes)) ≡ None
-    → IsCocycle (exponents_of (document_in bytes))
-document_cocycle bytes document group lawful =
-    let shape = document_in_range bytes document.lawful in
+pub document_cocycle : (command : Command) (bytes : List ℕ) → IsDocument command bytes → group_fault (table_of (document_in command bytes)) ≡ None
+    → cocycle_fault (exponents_of (document_in command bytes)) ≡ None → IsCocycle (exponents_of (document_in command bytes))
+document_cocycle command bytes document group lawful =
+    let shape = document_in_range (form_of command) bytes document.lawful in
     record {
       cochain = record {
-        group = document_group bytes document group;
+        group = document_group command bytes document group;
         small = record { from_one = shape.order.0; to_sixty = shape.order.1 };
         number = record { from_one = shape.roots.0; to_most = shape.roots.1 };
         cube = length-map _ _ ∙ shape.exponents;

@@ -1,6 +1,9 @@
 pub mod Inputs
 pub mod Ranks
-pub mod Planned
+pub mod Chains
 pub mod Documents
+pub mod Shapes
+pub mod Verified
+pub mod Planned
 pub mod Meaning
 pub mod Taken

@@ -5,11 +5,13 @@ use Rattle.std.specs.Io.KnownBytes.{Appends}
 use Rattle.qd_io.specs.Stream.{HasRoom}
 use Rattle.cochain.specs.Cochain.{Cochain}
 use Rattle.qd_engine.specs.Words.{command_of}
-use Rattle.qd_engine.specs.Plan.{exponents_of, plan}
+use Rattle.qd_doc.specs.declared.document.Document.{Document}
+use Rattle.qd_engine.specs.Documents.{exponents_of}
+use Rattle.qd_engine.specs.Plan.{plan}
 use Rattle.qd_engine.specs.Report.{report_of}
 use Rattle.data_print.specs.Lines.{memory_line}
 use Rattle.qd_engine.specs.Answers.{why_of_cause, why_of}
-use Rattle.qd_engine.specs.Causes.{OfInput, document_in, Comes, IsDone}
+use Rattle.qd_engine.specs.Causes.{OfInput, document_in, IsLawful, IsVerified, Comes, IsDone}
 use Rattle.std.specs.Prelude.{IsOk}
 use Rattle.std.specs.Global.{Vec}
 use Rattle.qd_engine.specs.declared.stop.Stop.{Stop}
@@ -17,9 +19,10 @@ use Rattle.qd_engine.specs.declared.stop.Stop.TheVariants as stops
 use Rattle.data_print.specs.Lines.{line_of}
 use Rattle.qd_engine.specs.Endings.{IsCause, Says, Writing, Ends, EndsSaying, Decides, Prepares, SaysPrepared}
 use Rattle.qd_engine.proofs.Documents.{document_group, document_cocycle}
-use Rattle.qd_engine.proofs.Planned.{refusal_comes, report_passes}
+use Rattle.qd_engine.proofs.Verified.{verify_given, rows_verified}
+use Rattle.qd_engine.proofs.Planned.{Passes, refusal_comes, report_passes}
 use Rattle.qd_engine.specs.declared.command.Command.{Command}
-use Rattle.qd_engine.specs.declared.command.Command.TheVariants.{Check, Classes}
+use Rattle.qd_engine.specs.declared.command.Command.TheVariants.{Check, Classes, Verify}
 use Rattle.qd_engine.specs.declared.answer.Why.{Why}
 use Rattle.qd_engine.specs.declared.answer.Why.TheVariants as whys
 use Rattle.qd_engine.specs.declared.answer.Outcome.{Outcome}
@@ -97,10 +100,22 @@ cause_comes words left failed cause h =
       | inr (bytes, agrees, e) ↦ refusal_comes words left failed bytes cause agrees e
     ]
 
+-- under `verify` the rows are good
+passes_verified : (command : Command) (bytes text : List ℕ) → Passes command bytes text → command ≡ Verify → IsVerified (document_in command bytes)
+passes_verified Check bytes text passes is = absurd cc
+passes_verified Classes bytes text passes is = absurd cc
+passes_verified Verify bytes text passes is =
+    let given = verify_given bytes in
+    rows_verified (document_in Verify bytes) (rw given at passes.tested)
+
 report_comes : (words : List (List ℕ)) (left : Option (List ℕ)) (failed : Type 0) (text : List ℕ) → OfInput left (λ bytes. plan words bytes ≡ Ok text) → Comes words left failed whys.Done
 report_comes words left failed text (bytes, agrees, e) =
     let (command, asks, passes) = report_passes words bytes text e in
-    (rw asks refl, (bytes, agrees, (passes.document, document_group bytes passes.document passes.group, document_cocycle bytes passes.document passes.group passes.cocycle)))
+    let lawful : IsLawful (document_in command bytes) = record {
+      group = document_group command bytes passes.document passes.group;
+      cocycle = document_cocycle command bytes passes.document passes.group passes.cocycle;
+    } in
+    (command, asks, (bytes, agrees, (passes.document, lawful, passes_verified command bytes text passes)))
 
 outcome_comes : (words : List (List ℕ)) (left : Option (List ℕ)) (failed : Type 0) (outcome : Outcome) (text : List ℕ) → Says words left failed outcome text → Comes words left failed (why_of outcome)
 outcome_comes words left failed Report text h = report_comes words left failed text h
@@ -155,8 +170,9 @@ report_done words left writing text (bytes, agrees, e) added =
       bytes = bytes;
       input = agrees;
       document = passes.document;
-      group = document_group bytes passes.document passes.group;
-      cocycle = document_cocycle bytes passes.document passes.group passes.cocycle;
+      group = document_group command bytes passes.document passes.group;
+      cocycle = document_cocycle command bytes passes.document passes.group passes.cocycle;
+      verified = passes_verified command bytes text passes;
       report = subst (Appends writing.before writing.after) passes.report added;
     }
 
@@ -202,9 +218,10 @@ plan_decides words left source_failed writing sink_failed why bytes (outcome, te
 -- ---- a sink that promises room for the report
 
 -- a report is longer than the line for want of memory
-report_long : (command : Command) (w : Cochain) → length memory_line ≤ length (report_of command w)
-report_long Check w = simp length-append (omega arith)
-report_long Classes w = simp length-append (omega arith)
+report_long : (command : Command) (document : Document) (w : Cochain) → length memory_line ≤ length (report_of command document w)
+report_long Check document w = simp length-append (omega arith)
+report_long Classes document w = simp length-append (omega arith)
+report_long Verify document w = simp length-append (omega arith)
 
 room_for_less : (room : Option ℕ) (long short : List ℕ) → length short ≤ length long → HasRoom room long → HasRoom room short
 room_for_less None long short less has = has
@@ -213,7 +230,8 @@ room_for_less (Some room) long short less has = let fits : length long ≤ room 
 memory_room : (words : List (List ℕ)) (bytes report : List ℕ) (room : Option ℕ) → plan words bytes ≡ Ok report → HasRoom room report → HasRoom room memory_line
 memory_room words bytes report room e has =
     let (command, asks, passes) = report_passes words bytes report e in
-    room_for_less room (report_of command (exponents_of (document_in bytes))) memory_line (report_long command (exponents_of (document_in bytes))) (subst (HasRoom room) passes.report has)
+    let document = document_in command bytes in
+    room_for_less room (report_of command document (exponents_of document)) memory_line (report_long command document (exponents_of document)) (subst (HasRoom room) passes.report has)
 
 -- what there was to say has room where the report has
 outcome_room : (words : List (List ℕ)) (bytes report : List ℕ) (failed : Type 0) (room : Option ℕ) (outcome : Outcome) (text : List ℕ) → (failed → ⊥)

@@ -1,20 +1,27 @@
 -- What the program does with its words and its input: its steps in order, of which the first refusal counts.
-use Rattle.std.specs.Prelude.{ℕ, List, length, nat_lt, Option, Some, None, Result, Ok, Err, if◌then◌else◌}
+use Rattle.std.specs.Prelude.{ℕ, List, length, nat_le, nat_lt, ◌==◌, sum, Option, Some, None, Result, Ok, Err, if◌then◌else◌}
 use Rattle.qd_io.specs.declared.reading.TheConstants.{INPUT_LIMIT}
 use Rattle.qd_text.specs.Tokens.{tokens}
 use Rattle.qd_doc.specs.Grammar.{stop_of}
 use Rattle.qd_doc.specs.Contents.{document_of}
 use Rattle.qd_doc.specs.declared.document.Document.{Document}
-use Rattle.qd_doc.specs.declared.document.Form.TheVariants.{Bare}
+use Rattle.qd_doc.specs.Blocks.{Block}
+use Rattle.qd_doc.specs.declared.document.Form.{Form}
+use Rattle.qd_doc.specs.declared.document.Given.{Given}
 use Rattle.qd_doc.specs.declared.refusal.DocRefusal.{DocRefusal}
 use Rattle.qd_doc.specs.declared.refusal.DocRefusal.TheVariants as stops
 use Rattle.group_table.specs.Group.{Table, group_fault}
-use Rattle.cochain.specs.Cochain.{Cochain, cochain_of, cocycle_fault}
+use Rattle.cochain.specs.Cochain.{Cochain, cocycle_fault}
+use Rattle.cyclotomic.specs.Conductors.{least_conductor}
 use Rattle.qd_engine.specs.Words.{command_of}
-use Rattle.qd_engine.specs.Report.{report_of}
+use Rattle.qd_engine.specs.Documents.{form_of, table_of, exponents_of, root_order}
+use Rattle.qd_engine.specs.Shape.{shape_fault}
+use Rattle.qd_engine.specs.Tables.{tables_cause}
+use Rattle.qd_engine.specs.Report.{class_ranks, report_of}
 use Rattle.qd_engine.specs.declared.command.Command.{Command}
+use Rattle.qd_engine.specs.declared.command.Command.TheVariants.{Check, Classes, Verify}
 use Rattle.data_print.specs.declared.cause.Cause.{Cause}
-use Rattle.data_print.specs.declared.cause.Cause.TheVariants.{Usage, TooLong, Syntax, Wide, Section, Order, Roots, Group, Cocycle}
+use Rattle.data_print.specs.declared.cause.Cause.TheVariants.{Usage, TooLong, Syntax, Wide, Section, Order, Roots, Group, Cocycle, NoConductor, Conductor, Simples, Shape}
 
 infixl 10 ◌>>=◌
 abbrev pub ◌>>=◌ : {A B : Type 0} → Result A Cause → (A → Result B Cause) → Result B Cause
@@ -44,15 +51,9 @@ cause_of_stop (stops.Order number) = Order number
 cause_of_stop (stops.Roots number) = Roots number
 cause_of_stop stops.Memory = TooLong
 
--- the input is a bare document
-abbrev pub document_step : List ℕ → Result Document Cause
-document_step bytes = unless cause_of_stop (stop_of Bare bytes) (document_of (tokens bytes))
-
-abbrev pub table_of : Document → Table
-table_of document = record { order = document.order; entries = document.table }
-
-abbrev pub exponents_of : Document → Cochain
-exponents_of document = cochain_of (table_of document) document.roots document.exponents
+-- the input is a document of a form
+abbrev pub document_step : Form → List ℕ → Result Document Cause
+document_step form bytes = unless cause_of_stop (stop_of form bytes) (document_of form (tokens bytes))
 
 -- its table is a group
 abbrev pub group_step : Document → Result Table Cause
@@ -62,14 +63,63 @@ group_step document = unless Group (group_fault (table_of document)) (table_of d
 abbrev pub cocycle_step : Document → Result Cochain Cause
 cocycle_step document = unless Cocycle (cocycle_fault (exponents_of document)) (exponents_of document)
 
+-- some conductor is a multiple of the number of roots times the exponent, and the least is this
+abbrev pub needed : ℕ → Option ℕ → Result ℕ Cause
+needed multiple None = Err (NoConductor multiple)
+needed multiple (Some k) = Ok k
+
+abbrev pub conductor_step : Cochain → Result ℕ Cause
+conductor_step w = needed (root_order w) (least_conductor (root_order w))
+
+-- the stated conductor is the one that is needed
+abbrev pub stated_step : ℕ → ℕ → Result (Unit {0}) Cause
+stated_step stated k = if stated == k then Ok tt else Err (Conductor stated k)
+
+-- the most simples that `verify` takes
+abbrev pub most_simples : ℕ
+most_simples = 256
+
+-- there are no more
+abbrev pub simples_step : ℕ → Result (Unit {0}) Cause
+simples_step ranks = if nat_le ranks most_simples then Ok tt else Err (Simples ranks most_simples)
+
+-- the blocks match the classes
+abbrev pub shape_step : Table → List Block → Result (Unit {0}) Cause
+shape_step t blocks = unless Shape (shape_fault t blocks) tt
+
+-- the table of each class misses nothing
+abbrev pub tables_step : Cochain → ℕ → List Block → Result (Unit {0}) Cause
+tables_step w k blocks = unless (λ cause. cause) (tables_cause w k blocks) tt
+
+-- what `verify` tests of the rows that are given
+unfoldable pub verify_step : Cochain → Given → Result (Unit {0}) Cause
+verify_step w given = do
+  k ← conductor_step w
+  stated ← stated_step given.conductor k
+  few ← simples_step (sum (class_ranks w))
+  shaped ← shape_step w.group given.blocks
+  tables_step w k given.blocks
+
+-- the same of what a document gives. One with characters gives rows, so its first line is never met
+abbrev pub characters_step : Cochain → Option Given → Result (Unit {0}) Cause
+characters_step w None = Ok tt
+characters_step w (Some given) = verify_step w given
+
+-- what a command tests after the cocycle
+abbrev pub command_step : Command → Document → Cochain → Result (Unit {0}) Cause
+command_step Check document w = Ok tt
+command_step Classes document w = Ok tt
+command_step Verify document w = characters_step w document.characters
+
 -- from the input to the report
 unfoldable pub answer_to : Command → List ℕ → Result (List ℕ) Cause
 answer_to command bytes = do
   input ← within_limit bytes
-  document ← document_step input
+  document ← document_step (form_of command) input
   group ← group_step document
   w ← cocycle_step document
-  Ok (report_of command w)
+  tested ← command_step command document w
+  Ok (report_of command document w)
 
 -- from the words and the input to the report, or the first cause of a refusal
 unfoldable pub plan : List (List ℕ) → List ℕ → Result (List ℕ) Cause

@@ -8,6 +8,8 @@ pub enum Command {
     Check,
     /// The conjugacy classes of a document's group, with the rank of each.
     Classes,
+    /// Whether the rows that a document gives are the characters of its classes.
+    Verify,
 }
 
 /// The command of the words, which follow the program's name; `None` where they are not in its grammar.
@@ -17,6 +19,7 @@ pub fn command_of(words: &[String]) -> Option<Command>
     match words {
         [word] if word.as_str() == "check" => Some(Command::Check),
         [word] if word.as_str() == "classes" => Some(Command::Classes),
+        [word] if word.as_str() == "verify" => Some(Command::Verify),
         _ => None,
     }
 }
