@@ -1,6 +1,14 @@
 //! The check of a table of projective characters of a twisted centraliser.
 #![tactic(auto)]
 
+mod candidate;
+mod conjugated;
 mod identity_name;
 
+mod miss;
+mod refusal;
+mod sides;
+mod total;
+
 pub use identity_name::IdentityName;
+pub use refusal::TableRefusal;
