@@ -1,5 +1,5 @@
 -- What the check of a table answers.
-use Rattle.std.specs.Prelude.{◌≡◌, ℕ, ◌*◌, ◌<◌, ◌%◌, suc, nat_le, nat_lt, ◌&&◌, ℤ, true, false, List, length, Result, Ok, Err, None, Some, unwrap_or}
+use Rattle.std.specs.Prelude.{◌≡◌, ℕ, ◌*◌, ◌<◌, ◌%◌, suc, nat_le, nat_lt, ◌&&◌, ℤ, true, false, List, length, Result, Ok, Err, None, Some, unwrap_or, Bool, if◌then◌else◌}
 use Rattle.scan.specs.First.{first}
 use Rattle.cyclotomic.specs.Ring.{value_nought}
 use Rattle.cyclotomic.specs.CyclotomicRing.{cyclotomic_value}
@@ -14,7 +14,7 @@ use Rattle.table_check.specs.Characters.{Characters, RowsOver, characters_of}
 use Rattle.table_check.specs.Formed.{Formed, given, whole}
 use Rattle.table_check.specs.Sides.{degree_value, unitary_left, unitary_right, twist_left, central_left, central_right, product_left, product_right, sum_left, sum_right, column_left, column_right}
 use Rattle.table_check.specs.Good.{IsGood}
-use Rattle.table_check.specs.Check.{where_holds, table_miss}
+use Rattle.table_check.specs.Check.{where_holds, twists_fit, table_miss}
 use Rattle.table_check.specs.declared.identity_name.IdentityName.{IdentityName}
 use Rattle.table_check.specs.declared.identity_name.IdentityName.TheVariants as names
 use Rattle.table_check.specs.declared.miss.Clause.{Clause}
@@ -45,6 +45,10 @@ IsPartOf Product part = part ≡ parts.Product
 IsPartOf Sum part = part ≡ parts.Sum
 IsPartOf Column part = part ≡ parts.Column
 IsPartOf clause part = ⊥
+
+abbrev pub is_twist : Clause → Bool
+is_twist Twist = true
+is_twist clause = false
 
 -- the number j of a miss, where a place is named by its element
 abbrev pub second_of : TwistedSubgroup → Clause → ℕ → ℕ
@@ -80,7 +84,13 @@ module _ {k : ℕ} (s : TwistedSubgroup) (table : Characters k) where
   right_of Column i j x = column_right s table x j
   right_of clause i j x = given k value_nought
 
-  -- the site of a side that overflows: the centraliser's element, rows, and elements of the group
+  -- no side overflows there
+  abbrev pub fit_at : Miss → Bool
+  fit_at miss =
+      if is_twist miss.clause then twists_fit s table miss.i
+      else (left_of miss.clause miss.i miss.j miss.x).fits && (right_of miss.clause miss.i miss.j miss.x).fits
+
+  -- the site of the sides: the centraliser's element, rows, and elements of the group
   pub record IsSiteOf (miss : Miss) (site : Site) : Type 0 where
     pub part : IsPartOf miss.clause site.part
     pub at : site.at ≡ s.at
@@ -99,11 +109,11 @@ module _ {k : ℕ} (s : TwistedSubgroup) (table : Characters k) where
 
   -- what a refusal says of the first miss
   abbrev pub Refuses : TableRefusal k → Miss → Type 0
-  Refuses (refusals.Overflow site) miss = (miss.overflows ≡ true) × IsSiteOf miss site
+  Refuses (refusals.Overflow site) miss = (fit_at miss ≡ false) × IsSiteOf miss site
   Refuses (refusals.Count rows rank_wanted) miss = (miss.clause ≡ Count) × (rows ≡ table.count) × (rank_wanted ≡ rank s)
-  Refuses (refusals.Identity name i j x left right) miss = (miss.overflows ≡ false) × IsEquationOf miss name i j x left.coefficients right.coefficients
+  Refuses (refusals.Identity name i j x left right) miss = (fit_at miss ≡ true) × IsEquationOf miss name i j x left.coefficients right.coefficients
   Refuses (refusals.NoTwist row value) miss =
-      (miss.overflows ≡ false) × (miss.clause ≡ Twist) × (row ≡ miss.i) × (cyclotomic_value k value.coefficients ≡ (twist_left s table miss.i).value)
+      (fit_at miss ≡ true) × (miss.clause ≡ Twist) × (row ≡ miss.i) × (cyclotomic_value k value.coefficients ≡ (twist_left s table miss.i).value)
   Refuses (refusals.NoVacuum rows) miss = (miss.clause ≡ Vacuum) × (rows ≡ table.count)
   Refuses refusals.Memory miss = ⊥
 

@@ -1,5 +1,5 @@
--- The first place at which a table of characters misses what is asked. The clauses are the slowest, then rows, then places, each in
--- ascending order. At a place both sides are formed before they are compared, so that a side that overflows there goes first.
+-- The first place at which a table of characters misses what is asked: where a side overflows, or the clause fails. The clauses are the
+-- slowest, then rows, then places, each in ascending order, and at a place both sides are formed before they are compared.
 use Rattle.std.specs.Prelude.{ℕ, suc, ◌*◌, nat_le, Bool, true, false, not, ◌==◌, ◌&&◌, Option, Some, None, is_some, if◌then◌else◌}
 use Rattle.std.specs.Ordering.{int_eq}
 use lib.Pointwise.{pointwise}
@@ -25,15 +25,13 @@ is_same u v = pointwise int_eq u.coefficients v.coefficients
 abbrev pub where_holds : Bool → ℕ → Option ℕ
 where_holds test n = if test then Some n else None
 
--- nothing where the test holds, else that the clause fails
+-- nothing where the test holds, else the place of the clause
 abbrev pub unless_holds : Bool → Clause → ℕ → ℕ → ℕ → Option Miss
-unless_holds test clause i j x = if test then None else Some (record { clause = clause; overflows = false; i = i; j = j; x = x })
+unless_holds test clause i j x = if test then None else Some (record { clause = clause; i = i; j = j; x = x })
 
--- what is missed at a place: a side that overflows, or else that the two differ
-abbrev pub compared : {k : ℕ} → Clause → ℕ → ℕ → ℕ → Formed k → Formed k → Option Miss
-compared clause i j x left right =
-    if left.fits && right.fits then unless_holds (is_same left.value right.value) clause i j x
-    else Some (record { clause = clause; overflows = true; i = i; j = j; x = x })
+-- no side overflows, and the two are the same
+abbrev pub agree : {k : ℕ} → Formed k → Formed k → Bool
+agree left right = (left.fits && right.fits) && is_same left.value right.value
 
 -- the degree d with 1 ≤ d and d d ≤ m that a value is, if it is one
 abbrev pub degree_of : (k m : ℕ) → CyclotomicValue k → Option ℕ
@@ -51,42 +49,60 @@ module _ {k : ℕ} (s : TwistedSubgroup) (table : Characters k) where
   abbrev pub count_miss : Option Miss
   count_miss = unless_holds (table.count == rank s) Count 0 0 0
 
+  abbrev pub degree_at : ℕ → Option Miss
+  degree_at i = unless_holds (is_some (degree_of k (size s) (table.chi i (identity_of s.group)))) Degree i 0 (identity_of s.group)
+
   abbrev pub degree_miss : Option Miss
-  degree_miss =
-      let e = identity_of s.group in
-      first table.count (λ i. unless_holds (is_some (degree_of k (size s) (table.chi i e))) Degree i 0 e)
+  degree_miss = first table.count degree_at
+
+  abbrev pub unitary_at : ℕ → ℕ → Option Miss
+  unitary_at i x = unless_holds (agree (unitary_left s table i x) (unitary_right s table i x)) Unitary i 0 x
 
   abbrev pub unitary_miss : Option Miss
-  unitary_miss = first table.count (λ i. first (size s) (λ x. compared Unitary i 0 x (unitary_left s table i x) (unitary_right s table i x)))
+  unitary_miss = first table.count (λ i. first (size s) (unitary_at i))
 
-  -- where no multiple by a root overflows, one of them is chi_i(a)
-  abbrev pub twist_miss_at : ℕ → Option Miss
-  twist_miss_at i =
-      if all_below k (λ t. (twist_right s table i t).fits) then unless_holds (is_some (twist_of i)) Twist i 0 0
-      else Some (record { clause = Twist; overflows = true; i = i; j = 0; x = 0 })
+  -- no multiple of d_i by a root overflows
+  abbrev pub twists_fit : ℕ → Bool
+  twists_fit i = all_below k (λ t. (twist_right s table i t).fits)
+
+  abbrev pub twist_at : ℕ → Option Miss
+  twist_at i = unless_holds (twists_fit i && is_some (twist_of i)) Twist i 0 0
 
   abbrev pub twist_miss : Option Miss
-  twist_miss = first table.count twist_miss_at
+  twist_miss = first table.count twist_at
+
+  abbrev pub central_at : ℕ → ℕ → ℕ → Option Miss
+  central_at i y x = unless_holds (agree (central_left s table i y x) (central_right s table i y x)) Central i y x
 
   abbrev pub central_miss : Option Miss
-  central_miss =
-      first table.count (λ i. first (size s) (λ y. first (size s) (λ x. compared Central i y x (central_left s table i y x) (central_right s table i y x))))
+  central_miss = first table.count (λ i. first (size s) (λ y. first (size s) (central_at i y)))
+
+  abbrev pub product_at : ℕ → ℕ → ℕ → Option Miss
+  product_at i j x = unless_holds (agree (product_left s table i j x) (product_right s table i j x)) Product i j x
 
   abbrev pub product_miss : Option Miss
-  product_miss =
-      first table.count (λ i. first table.count (λ j. first (size s) (λ x. compared Product i j x (product_left s table i j x) (product_right s table i j x))))
+  product_miss = first table.count (λ i. first table.count (λ j. first (size s) (product_at i j)))
+
+  abbrev pub sum_at : ℕ → Option Miss
+  sum_at x = unless_holds (agree (sum_left s table x) (sum_right s table x)) Sum 0 0 x
 
   abbrev pub sum_miss : Option Miss
-  sum_miss = first (size s) (λ x. compared Sum 0 0 x (sum_left s table x) (sum_right s table x))
+  sum_miss = first (size s) sum_at
+
+  abbrev pub column_at : ℕ → ℕ → Option Miss
+  column_at x y = unless_holds (agree (column_left s table x y) (column_right s table x y)) Column 0 y x
 
   abbrev pub column_miss : Option Miss
-  column_miss = first (size s) (λ x. first (size s) (λ y. compared Column 0 y x (column_left s table x y) (column_right s table x y)))
+  column_miss = first (size s) (λ x. first (size s) (column_at x))
+
+  abbrev pub has_vacuum : Bool
+  has_vacuum = is_some (first table.count (λ i. where_holds (is_vacuum i) i))
 
   -- asked only of the centraliser of the identity
   abbrev pub vacuum_miss : Option Miss
   vacuum_miss =
       if element s (identity_of s.group) == s.at
-      then unless_holds (is_some (first table.count (λ i. where_holds (is_vacuum i) i))) Vacuum 0 0 0
+      then unless_holds has_vacuum Vacuum 0 0 0
       else None
 
   unfoldable pub table_miss : Option Miss

@@ -23,6 +23,10 @@ own_place s = unwrap_or (place_of s s.at) 0
 abbrev pub with_phase : {k : ℕ} → TwistedSubgroup → ℕ → ℕ → Formed k → Formed k
 with_phase {k} s x y u = turned k (exponent k s (phase s x y)) u
 
+-- conj(e(ka(c,x))) where c x c^-1 = y, else 0
+abbrev pub column_term : {k : ℕ} → TwistedSubgroup → ℕ → ℕ → ℕ → Formed k
+column_term {k} s x y c = where_so k (conjugate s.group c x == y) (conjugated k (given k (root k (exponent k s (kappa s c x)))))
+
 module _ {k : ℕ} (s : TwistedSubgroup) (table : Characters k) where
   -- d_i, the value of row i at the identity
   abbrev pub degree_value : ℕ → Formed k
@@ -68,16 +72,21 @@ module _ {k : ℕ} (s : TwistedSubgroup) (table : Characters k) where
   product_right i j x = where_so k (i == j) (multiplied k (given k (whole k (size s))) (conjugate_value i x))
 
   -- the sum over i of d_i E_i is m u_e
+  abbrev pub sum_term : ℕ → ℕ → Formed k
+  sum_term x i = multiplied k (degree_value i) (conjugate_value i x)
+
   abbrev pub sum_left : ℕ → Formed k
-  sum_left x = listed k table.count (λ i. multiplied k (degree_value i) (conjugate_value i x))
+  sum_left x = listed k table.count (sum_term x)
 
   abbrev pub sum_right : ℕ → Formed k
   sum_right x = where_so k (x == identity_of s.group) (given k (whole k (size s)))
 
   -- the sum over i of conj(chi_i(x)) chi_i(y) is that of conj(e(ka(c,x))) over the c with c x c^-1 = y
+  abbrev pub row_term : ℕ → ℕ → ℕ → Formed k
+  row_term x y i = multiplied k (conjugate_value i x) (given k (table.chi i y))
+
   abbrev pub column_left : ℕ → ℕ → Formed k
-  column_left x y = listed k table.count (λ i. multiplied k (conjugate_value i x) (given k (table.chi i y)))
+  column_left x y = listed k table.count (row_term x y)
 
   abbrev pub column_right : ℕ → ℕ → Formed k
-  column_right x y =
-      listed k (size s) (λ c. where_so k (conjugate s.group c x == y) (conjugated k (given k (root k (exponent k s (kappa s c x))))))
+  column_right x y = listed k (size s) (column_term s x y)

@@ -2,11 +2,14 @@
 #![tactic(auto)]
 
 mod candidate;
+mod algebra_clauses;
+mod compared;
 mod conjugated;
 mod identity_name;
 
 mod miss;
 mod refusal;
+mod row_clauses;
 mod sides;
 mod total;
 

@@ -26,8 +26,6 @@ pub enum Clause {
 pub struct Miss {
     /// The clause.
     pub clause: Clause,
-    /// Whether a side overflows.
-    pub overflows: bool,
     /// The first row; 0 where the clause names none.
     pub i: u32,
     /// The second row, or the place y; 0 where the clause names none.
