@@ -1,24 +1,25 @@
-ghost use Rattle.std.specs.Prelude.{◌≡◌, ◌<◌, length};
+ghost use Rattle.std.specs.Prelude.{◌≡◌, ◌<◌, length, map, vec_len, Some, None, IfOk, OnOk};
 ghost use Rattle.twisted.specs.Twist.{size};
-ghost use Rattle.table_check.specs.Characters.{RowsOver, characters_of, IsShaped};
+ghost use Rattle.table_check.specs.Characters.{characters_of, IsShaped};
+ghost use Rattle.table_check.specs.Check.{unitary_miss};
+ghost use Rattle.table_check.specs.Conjugates.{values_of, conjugate_row};
 ghost use Rattle.table_check.specs.Formed.{Forms};
 ghost use Rattle.table_check.specs.Sides.{conjugate_value};
-ghost use Rattle.std.specs.Prelude.{Some};
 
 use crate::candidate::Candidate;
-use qd_ring::{Cyc, Rows};
+use group_table::Memory;
+use qd_ring::Cyc;
+use std::alloc::Global;
 use std::marker::Model;
-use twisted::Twist;
 
 /// Rows of values over a twisted centraliser, with the conjugate of each value.
 #[derive(Debug, Drop)]
 pub struct Conjugated<const K: u32> {
     candidate: Candidate<K>,
-    conjugates: Rows<K>,
+    conjugates: Vec<Vec<Cyc<K>>>,
 }
 
 impl<const K: u32> Model for Conjugated<K> {
-    ghost use Rattle.std.specs.Prelude.{◌≡◌};
     ghost use Rattle.table_check.specs.Characters.{RowsOver, IsShaped};
     ghost use Rattle.table_check.specs.Conjugates.{AreConjugates};
 
@@ -26,10 +27,43 @@ impl<const K: u32> Model for Conjugated<K> {
 
     ghost view = { λ t. t.candidate };
 
-    ghost invariant = { λ t. IsShaped K t.candidate × AreConjugates K t.candidate.rows t.conjugates };
+    ghost invariant = { λ t. IsShaped K t.candidate × AreConjugates K t.candidate t.conjugates.items };
+}
+
+/// The conjugates of row `i`.
+fn conjugate_row<const K: u32>(alloc: Global, table: &Candidate<K>, i: u32) -> Result<Vec<Cyc<K>>, Memory>
+    requires i_below { i < length table.now.rows }
+    requires unitary { unitary_miss table.now.over (characters_of K table.now.rows) ≡ None }
+    ensures row { IfOk result (λ row. values_of K row.items ≡ conjugate_row (size table.now.over) (characters_of K table.now.rows) i) }
+{
+    let places = table.over().size();
+    let mut row = Vec::new(alloc);
+    for x in 0..places {
+        let Some(conjugate) = table.value(i, x).try_conj() else {
+            unreachable!()
+        };
+        row.push(conjugate)?;
+    }
+    Ok(row)
 }
 
 impl<const K: u32> Conjugated<K> {
+    /// The rows with their conjugates, where the clause on inverses holds: each conjugate is a factor of its sides, and fits.
+    pub fn of(alloc: Global, candidate: Candidate<K>) -> Result<Conjugated<K>, Memory>
+        requires unitary { unitary_miss candidate.over (characters_of K candidate.rows) ≡ None }
+        ensures same { IfOk result (λ table. table ≡ candidate.entry) }
+    {
+        let rows = candidate.rows();
+        let mut conjugates = Vec::new(alloc);
+        for i in 0..rows {
+            conjugates.push(conjugate_row(alloc, &candidate, i)?)?;
+        }
+        Ok(Conjugated {
+            candidate,
+            conjugates,
+        })
+    }
+
     /// The rows without their conjugates.
     pub fn candidate(&self) -> &Candidate<K>
         ensures candidate { result.now ≡ self.now }
@@ -51,6 +85,6 @@ impl<const K: u32> Conjugated<K> {
         requires x_below { x < size self.now.over }
         ensures forms { Forms (conjugate_value self.now.over (characters_of K self.now.rows) i x) (Some result) }
     {
-        self.conjugates.value(i, x)
+        self.conjugates[i as usize][x as usize]
     }
 }
