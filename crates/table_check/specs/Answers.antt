@@ -1,5 +1,5 @@
 -- What the check of a table answers.
-use Rattle.std.specs.Prelude.{◌≡◌, ℕ, ◌*◌, ◌<◌, ◌%◌, suc, nat_le, nat_lt, ◌&&◌, ℤ, true, false, List, length, Result, Ok, Err, None, Some, unwrap_or, Bool, if◌then◌else◌}
+use Rattle.std.specs.Prelude.{◌≡◌, ℕ, ◌+◌, ◌*◌, ◌<◌, ◌%◌, suc, nat_le, nat_lt, ◌&&◌, ℤ, true, false, List, length, Option, Result, Ok, Err, None, Some, unwrap_or, Bool, if◌then◌else◌}
 use Rattle.scan.specs.First.{first}
 use Rattle.cyclotomic.specs.Ring.{value_nought}
 use Rattle.cyclotomic.specs.CyclotomicRing.{cyclotomic_value}
@@ -25,7 +25,7 @@ use Rattle.table_check.specs.declared.refusal.TableRefusal.TheVariants as refusa
 
 -- the greatest whole number whose square is at most n
 abbrev pub square_root : ℕ → ℕ
-square_root n = unwrap_or (first (suc n) (λ d. where_holds (nat_le (d * d) n && nat_lt n (suc d * suc d)) d)) 0
+square_root n = unwrap_or (first (suc n) (λ d. where_holds (nat_le (d * d) n && nat_lt n ((d + 1) * (d + 1))) d)) 0
 
 -- the clause of the equation of this name
 abbrev pub clause_of : IdentityName → Clause
@@ -116,6 +116,19 @@ module _ {k : ℕ} (s : TwistedSubgroup) (table : Characters k) where
       (fit_at miss ≡ true) × (miss.clause ≡ Twist) × (row ≡ miss.i) × (cyclotomic_value k value.coefficients ≡ (twist_left s table miss.i).value)
   Refuses (refusals.NoVacuum rows) miss = (miss.clause ≡ Vacuum) × (rows ≡ table.count)
   Refuses refusals.Memory miss = ⊥
+
+  -- a refusal exactly where something is missed, that of what is missed
+  abbrev pub Finds : Option Miss → Option (TableRefusal k) → Type 0
+  Finds missed None = missed ≡ None
+  Finds missed (Some refusal) = (miss : Miss) × (missed ≡ Some miss) × Refuses refusal miss
+
+-- the answer at the place of an equation with these sides: its site where one overflows, else the equation with both
+abbrev pub IsAnswerTo : {k : ℕ} → IdentityName → Site → Formed k → Formed k → TableRefusal k → Type 0
+IsAnswerTo {k} name site left right (refusals.Overflow overflowing) = ((left.fits && right.fits) ≡ false) × (overflowing ≡ site)
+IsAnswerTo {k} name site left right (refusals.Identity stated i j x left_value right_value) =
+    ((left.fits && right.fits) ≡ true) × (stated ≡ name) × (i ≡ site.i) × (j ≡ site.j) × (x ≡ site.x)
+    × (cyclotomic_value k left_value.coefficients ≡ left.value) × (cyclotomic_value k right_value.coefficients ≡ right.value)
+IsAnswerTo {k} name site left right refusal = ⊥
 
 -- the rows are good exactly where nothing is missed; else the refusal is that of the first miss; want of memory says nothing
 abbrev pub Checks : (k : ℕ) → TwistedSubgroup → List (List (List ℤ)) → Result RowsOver (TableRefusal k) → Type 0

@@ -105,7 +105,13 @@ module _ {k : ℕ} (s : TwistedSubgroup) (table : Characters k) where
       then unless_holds has_vacuum Vacuum 0 0 0
       else None
 
+  -- the clauses on the values of each row
+  abbrev pub row_miss : Option Miss
+  row_miss = option_or count_miss (option_or degree_miss (option_or unitary_miss twist_miss))
+
+  -- the clauses on the elements E_i
+  abbrev pub algebra_miss : Option Miss
+  algebra_miss = option_or central_miss (option_or product_miss (option_or sum_miss (option_or column_miss vacuum_miss)))
+
   unfoldable pub table_miss : Option Miss
-  table_miss =
-      option_or count_miss (option_or degree_miss (option_or unitary_miss (option_or twist_miss
-      (option_or central_miss (option_or product_miss (option_or sum_miss (option_or column_miss vacuum_miss)))))))
+  table_miss = option_or row_miss algebra_miss

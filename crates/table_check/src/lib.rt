@@ -9,9 +9,12 @@ mod identity_name;
 
 mod miss;
 mod refusal;
+mod refusals;
 mod row_clauses;
 mod sides;
+mod table;
 mod total;
 
 pub use identity_name::IdentityName;
 pub use refusal::TableRefusal;
+pub use table::Table;
