@@ -1,3 +1,4 @@
 pub mod Text
 pub mod Head
 pub mod ClassLines
+pub mod Lines

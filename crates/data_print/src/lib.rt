@@ -1,11 +1,15 @@
-//! The lines of reports.
+//! The lines of reports and of refusals.
 #![tactic(auto)]
 
+mod cause;
 mod class_lines;
 mod head;
+mod refusal;
 
+pub use cause::{Cause, ShapeFault};
 pub use class_lines::append_classes;
 pub use head::append_head;
+pub use refusal::append_refusal;
 /// There was no memory for what was asked.
 pub use std::alloc::AllocError as Memory;
 

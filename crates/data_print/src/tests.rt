@@ -4,8 +4,10 @@ use super::*;
 use classes::Classes;
 use cochain::Cocycle;
 use group_table::{Group, Nats};
+use qd_ring::{Part, Plain, Site};
 use std::alloc::{AllocError, Global};
 use std::test::Fail;
+use table_check::IdentityName;
 
 fn numbers(alloc: Global, list: &[u32]) -> Result<Nats, AllocError> {
     let mut numbers = Nats::empty(alloc);
@@ -43,5 +45,89 @@ fn prints_a_head_and_classes(rt: HostRuntime) -> Result<(), Fail> {
     let wanted = "group order 2 identity 0 exponent 2\ncocycle roots 2\n\
         class 0 at 0 size 1 centraliser 2 rank 2\nclass 1 at 1 size 1 centraliser 2 rank 2\nsimples 4\n";
     assert_eq!(rt; out.as_slice(), wanted.as_bytes());
+    Ok(())
+}
+
+/// A whole number as a value.
+fn whole(number: i128) -> Plain {
+    let mut coefficients = [0; 42];
+    coefficients[0] = number;
+    Plain { coefficients }
+}
+
+#[test]
+fn prints_refusals(rt: HostRuntime) -> Result<(), Fail> {
+    let alloc = rt.alloc();
+    let product = Cause::Identity {
+        name: IdentityName::Product,
+        at: 0,
+        i: 0,
+        j: 1,
+        x: 0,
+        left: whole(2),
+        right: whole(0),
+    };
+    let site = Site {
+        part: Part::Product,
+        at: 0,
+        i: 0,
+        j: 1,
+        x: 0,
+    };
+    let rows = [
+        (
+            Cause::NoConductor { multiple: 11 },
+            "refused 6 conductor 11\n",
+        ),
+        (
+            Cause::Conductor {
+                stated: 8,
+                needed: 4,
+            },
+            "refused 6 stated 8 needed 4\n",
+        ),
+        (
+            Cause::Simples {
+                ranks: 900,
+                most: 256,
+            },
+            "refused 6 simples 900\n",
+        ),
+        (
+            Cause::Shape(ShapeFault::Width {
+                block: 1,
+                row: 1,
+                given: 1,
+                wanted: 2,
+            }),
+            "refused 9 width 1 1 1 2\n",
+        ),
+        (
+            Cause::Count {
+                at: 0,
+                rows: 1,
+                rank: 2,
+            },
+            "refused 9 count 0 1 2\n",
+        ),
+        (product, "refused 9 product 0 0 1 0 2 0\n"),
+        (
+            Cause::NoTwist {
+                at: 1,
+                row: 1,
+                value: whole(2),
+            },
+            "refused 9 twist 1 1 2\n",
+        ),
+        (
+            Cause::Overflow { site },
+            "refused 11 overflow product 0 0 1 0\n",
+        ),
+    ];
+    for (why, wanted) in rows {
+        let mut out = Vec::new(alloc);
+        append_refusal(&mut out, &why)?;
+        assert_eq!(rt; out.as_slice(), wanted.as_bytes());
+    }
     Ok(())
 }

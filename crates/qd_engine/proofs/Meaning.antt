@@ -7,14 +7,14 @@ use Rattle.cochain.specs.Cochain.{Cochain}
 use Rattle.qd_engine.specs.Words.{command_of}
 use Rattle.qd_engine.specs.Plan.{exponents_of, plan}
 use Rattle.qd_engine.specs.Report.{report_of}
-use Rattle.qd_engine.specs.Lines.{memory_line}
+use Rattle.data_print.specs.Lines.{memory_line}
 use Rattle.qd_engine.specs.Answers.{why_of_cause, why_of}
 use Rattle.qd_engine.specs.Causes.{OfInput, document_in, Comes, IsDone}
 use Rattle.std.specs.Prelude.{IsOk}
 use Rattle.std.specs.Global.{Vec}
 use Rattle.qd_engine.specs.declared.stop.Stop.{Stop}
 use Rattle.qd_engine.specs.declared.stop.Stop.TheVariants as stops
-use Rattle.qd_engine.specs.Lines.{line_of}
+use Rattle.data_print.specs.Lines.{line_of}
 use Rattle.qd_engine.specs.Endings.{IsCause, Says, Writing, Ends, EndsSaying, Decides, Prepares, SaysPrepared}
 use Rattle.qd_engine.proofs.Documents.{document_group, document_cocycle}
 use Rattle.qd_engine.proofs.Planned.{refusal_comes, report_passes}
@@ -24,8 +24,8 @@ use Rattle.qd_engine.specs.declared.answer.Why.{Why}
 use Rattle.qd_engine.specs.declared.answer.Why.TheVariants as whys
 use Rattle.qd_engine.specs.declared.answer.Outcome.{Outcome}
 use Rattle.qd_engine.specs.declared.answer.Outcome.TheVariants.{Report, Refused, Memory}
-use Rattle.qd_engine.specs.declared.cause.Cause.{Cause}
-use Rattle.qd_engine.specs.declared.cause.Cause.TheVariants.{Usage, Read, TooLong, Syntax, Wide, Section, Order, Roots, Group, Cocycle}
+use Rattle.data_print.specs.declared.cause.Cause.{Cause}
+use Rattle.data_print.specs.declared.cause.Cause.TheVariants.{Usage, Read, TooLong, Syntax, Wide, Section, Order, Roots, Group, Cocycle, NoConductor, Conductor, Simples, Shape, Count, Identity, NoTwist, NoVacuum, Overflow}
 
 -- ---- how it ended
 
@@ -54,6 +54,15 @@ ending writing failed (whys.Order number) outcome text e = inr (record { is = e.
 ending writing failed (whys.Roots number) outcome text e = inr (record { is = e.0; added = e.1 })
 ending writing failed (whys.Group fault) outcome text e = inr (record { is = e.0; added = e.1 })
 ending writing failed (whys.Cocycle fault) outcome text e = inr (record { is = e.0; added = e.1 })
+ending writing failed (whys.NoConductor multiple) outcome text e = inr (record { is = e.0; added = e.1 })
+ending writing failed (whys.Conductor stated needed) outcome text e = inr (record { is = e.0; added = e.1 })
+ending writing failed (whys.Simples ranks most) outcome text e = inr (record { is = e.0; added = e.1 })
+ending writing failed (whys.Shape fault) outcome text e = inr (record { is = e.0; added = e.1 })
+ending writing failed (whys.Count at rows rank) outcome text e = inr (record { is = e.0; added = e.1 })
+ending writing failed (whys.Identity name at i j x left_side right_side) outcome text e = inr (record { is = e.0; added = e.1 })
+ending writing failed (whys.NoTwist at row value) outcome text e = inr (record { is = e.0; added = e.1 })
+ending writing failed (whys.NoVacuum rows) outcome text e = inr (record { is = e.0; added = e.1 })
+ending writing failed (whys.Overflow site) outcome text e = inr (record { is = e.0; added = e.1 })
 ending writing failed whys.Memory outcome text e = inr (record { is = e.0; added = e.1 })
 
 -- ---- what it had to say
@@ -71,6 +80,15 @@ cause_kind words left failed (Order number) h = inr h
 cause_kind words left failed (Roots number) h = inr h
 cause_kind words left failed (Group fault) h = inr h
 cause_kind words left failed (Cocycle fault) h = inr h
+cause_kind words left failed (NoConductor multiple) h = inr h
+cause_kind words left failed (Conductor stated needed) h = inr h
+cause_kind words left failed (Simples ranks most) h = inr h
+cause_kind words left failed (Shape fault) h = inr h
+cause_kind words left failed (Count at rows rank) h = inr h
+cause_kind words left failed (Identity name at i j x left_side right_side) h = inr h
+cause_kind words left failed (NoTwist at row value) h = inr h
+cause_kind words left failed (NoVacuum rows) h = inr h
+cause_kind words left failed (Overflow site) h = inr h
 
 cause_comes : (words : List (List ℕ)) (left : Option (List ℕ)) (failed : Type 0) (cause : Cause) → IsCause words left failed cause → Comes words left failed (why_of_cause cause)
 cause_comes words left failed cause h =
@@ -112,6 +130,15 @@ cause_not_done (Order number) e = cc
 cause_not_done (Roots number) e = cc
 cause_not_done (Group fault) e = cc
 cause_not_done (Cocycle fault) e = cc
+cause_not_done (NoConductor multiple) e = cc
+cause_not_done (Conductor stated needed) e = cc
+cause_not_done (Simples ranks most) e = cc
+cause_not_done (Shape fault) e = cc
+cause_not_done (Count at rows rank) e = cc
+cause_not_done (Identity name at i j x left_side right_side) e = cc
+cause_not_done (NoTwist at row value) e = cc
+cause_not_done (NoVacuum rows) e = cc
+cause_not_done (Overflow site) e = cc
 
 done_is_report : (outcome : Outcome) → why_of outcome ≡ whys.Done → outcome ≡ Report
 done_is_report Report e = refl

@@ -30,8 +30,8 @@ use Rattle.std.specs.Global.{Vec}
 use Rattle.qd_engine.specs.declared.stop.Stop.{Stop}
 use Rattle.qd_engine.specs.declared.stop.Stop.TheVariants as ends
 use Rattle.qd_engine.specs.declared.command.Command.{Command}
-use Rattle.qd_engine.specs.declared.cause.Cause.{Cause}
-use Rattle.qd_engine.specs.declared.cause.Cause.TheVariants.{Usage, Read, TooLong, Syntax, Wide, Section, Order, Roots, Group, Cocycle}
+use Rattle.data_print.specs.declared.cause.Cause.{Cause}
+use Rattle.data_print.specs.declared.cause.Cause.TheVariants.{Usage, Read, TooLong, Syntax, Wide, Section, Order, Roots, Group, Cocycle, NoConductor, Conductor, Simples, Shape, Count, Identity, NoTwist, NoVacuum, Overflow}
 
 -- ---- the parts of a chain
 
@@ -156,6 +156,15 @@ Refuses bytes (Roots number) = Stops (stops.Roots number) bytes
 Refuses bytes (Group fault) = IsDocument bytes × (group_fault (table_of (document_in bytes)) ≡ Some fault)
 Refuses bytes (Cocycle fault) =
     IsDocument bytes × (group_fault (table_of (document_in bytes)) ≡ None) × (cocycle_fault (exponents_of (document_in bytes)) ≡ Some fault)
+Refuses bytes (NoConductor multiple) = ⊥
+Refuses bytes (Conductor stated needed) = ⊥
+Refuses bytes (Simples ranks most) = ⊥
+Refuses bytes (Shape fault) = ⊥
+Refuses bytes (Count at rows rank) = ⊥
+Refuses bytes (Identity name at i j x left_side right_side) = ⊥
+Refuses bytes (NoTwist at row value) = ⊥
+Refuses bytes (NoVacuum rows) = ⊥
+Refuses bytes (Overflow site) = ⊥
 
 stop_refuses : (bytes : List ℕ) (stop : DocRefusal) → IsStop stop → Stops stop bytes → Refuses bytes (cause_of_stop stop)
 unfolding Refuses IsStop
@@ -272,6 +281,15 @@ refuses_comes words left failed bytes (Order number) some agrees h = (some, (byt
 refuses_comes words left failed bytes (Roots number) some agrees h = (some, (bytes, agrees, h))
 refuses_comes words left failed bytes (Group fault) some agrees h = (some, (bytes, agrees, h))
 refuses_comes words left failed bytes (Cocycle fault) some agrees h = (some, (bytes, agrees, h))
+refuses_comes words left failed bytes (NoConductor multiple) some agrees h = absurd h
+refuses_comes words left failed bytes (Conductor stated needed) some agrees h = absurd h
+refuses_comes words left failed bytes (Simples ranks most) some agrees h = absurd h
+refuses_comes words left failed bytes (Shape fault) some agrees h = absurd h
+refuses_comes words left failed bytes (Count at rows rank) some agrees h = absurd h
+refuses_comes words left failed bytes (Identity name at i j x left_side right_side) some agrees h = absurd h
+refuses_comes words left failed bytes (NoTwist at row value) some agrees h = absurd h
+refuses_comes words left failed bytes (NoVacuum rows) some agrees h = absurd h
+refuses_comes words left failed bytes (Overflow site) some agrees h = absurd h
 
 -- a refusal of the plan means what its answer means
 pub refusal_comes : (words : List (List ℕ)) (left : Option (List ℕ)) (failed : Type 0) (bytes : List ℕ) (cause : Cause) → Agrees left bytes → plan words bytes ≡ Err cause
@@ -323,6 +341,15 @@ read_prepares words left failed command (ends.Refused (Order number)) asks h = a
 read_prepares words left failed command (ends.Refused (Roots number)) asks h = absurd h
 read_prepares words left failed command (ends.Refused (Group fault)) asks h = absurd h
 read_prepares words left failed command (ends.Refused (Cocycle fault)) asks h = absurd h
+read_prepares words left failed command (ends.Refused (NoConductor multiple)) asks h = absurd h
+read_prepares words left failed command (ends.Refused (Conductor stated needed)) asks h = absurd h
+read_prepares words left failed command (ends.Refused (Simples ranks most)) asks h = absurd h
+read_prepares words left failed command (ends.Refused (Shape fault)) asks h = absurd h
+read_prepares words left failed command (ends.Refused (Count at rows rank)) asks h = absurd h
+read_prepares words left failed command (ends.Refused (Identity name at i j x left_side right_side)) asks h = absurd h
+read_prepares words left failed command (ends.Refused (NoTwist at row value)) asks h = absurd h
+read_prepares words left failed command (ends.Refused (NoVacuum rows)) asks h = absurd h
+read_prepares words left failed command (ends.Refused (Overflow site)) asks h = absurd h
 
 planned_is_cause : (words : List (List ℕ)) (left : Option (List ℕ)) (failed : Type 0) (command : Command) (bytes : List ℕ) (cause : Cause) → command_of words ≡ Some command → Agrees left bytes
     → answer_to command bytes ≡ Err cause → IsCause words left failed cause
@@ -337,6 +364,15 @@ planned_is_cause words left failed command bytes (Order number) asks agrees e = 
 planned_is_cause words left failed command bytes (Roots number) asks agrees e = (bytes, agrees, plan_asked words command bytes asks ∙ e)
 planned_is_cause words left failed command bytes (Group fault) asks agrees e = (bytes, agrees, plan_asked words command bytes asks ∙ e)
 planned_is_cause words left failed command bytes (Cocycle fault) asks agrees e = (bytes, agrees, plan_asked words command bytes asks ∙ e)
+planned_is_cause words left failed command bytes (NoConductor multiple) asks agrees e = (bytes, agrees, plan_asked words command bytes asks ∙ e)
+planned_is_cause words left failed command bytes (Conductor stated needed) asks agrees e = (bytes, agrees, plan_asked words command bytes asks ∙ e)
+planned_is_cause words left failed command bytes (Simples ranks most) asks agrees e = (bytes, agrees, plan_asked words command bytes asks ∙ e)
+planned_is_cause words left failed command bytes (Shape fault) asks agrees e = (bytes, agrees, plan_asked words command bytes asks ∙ e)
+planned_is_cause words left failed command bytes (Count at rows rank) asks agrees e = (bytes, agrees, plan_asked words command bytes asks ∙ e)
+planned_is_cause words left failed command bytes (Identity name at i j x left_side right_side) asks agrees e = (bytes, agrees, plan_asked words command bytes asks ∙ e)
+planned_is_cause words left failed command bytes (NoTwist at row value) asks agrees e = (bytes, agrees, plan_asked words command bytes asks ∙ e)
+planned_is_cause words left failed command bytes (NoVacuum rows) asks agrees e = (bytes, agrees, plan_asked words command bytes asks ∙ e)
+planned_is_cause words left failed command bytes (Overflow site) asks agrees e = (bytes, agrees, plan_asked words command bytes asks ∙ e)
 
 -- a refusal of too much comes of no input that is short enough
 pub long_refused : (command : Command) (bytes : List ℕ) → answer_to command bytes ≡ Err TooLong → INPUT_LIMIT < length bytes

@@ -1,11 +1,11 @@
 -- What becomes of the source, from what came of the steps and how the program ended.
-use Rattle.std.proofs.Common.{◌≡◌, ℕ, ◌<◌, ◌≤◌, List, [], length, Option, Some, None, Result, Ok, Err, refl, sym, ap, subst, arith, ◌⊎◌, inl, inr}
+use Rattle.std.proofs.Common.{◌≡◌, ℕ, ◌<◌, ◌≤◌, List, length, Option, Result, Ok, Err, refl, sym, ap, subst, arith, ◌⊎◌, inl, inr}
 use Rattle.std.specs.Prelude.{IsOk, OnOk}
 use Rattle.std.specs.Global.{Vec}
 use Rattle.std.specs.Io.KnownBytes.{IsAtEnd}
 use Rattle.qd_io.specs.Stream.{TakesUpTo, TakesOver}
 use Rattle.qd_io.specs.declared.reading.TheConstants.{INPUT_LIMIT}
-use Rattle.qd_engine.specs.Lines.{line_of, memory_line}
+use Rattle.data_print.specs.Lines.{line_of, memory_line}
 use Rattle.qd_engine.specs.Answers.{why_of_cause, why_of, status_of}
 use Rattle.qd_engine.specs.Endings.{Writing, Ends, SaysPrepared, Takes, TakesFor}
 use Rattle.qd_engine.specs.Plan.{answer_to}
@@ -19,8 +19,8 @@ use Rattle.qd_engine.specs.declared.answer.Why.{Why}
 use Rattle.qd_engine.specs.declared.answer.Why.TheVariants as whys
 use Rattle.qd_engine.specs.declared.answer.Outcome.{Outcome}
 use Rattle.qd_engine.specs.declared.answer.Outcome.TheVariants.{Report, Refused, Memory}
-use Rattle.qd_engine.specs.declared.cause.Cause.{Cause}
-use Rattle.qd_engine.specs.declared.cause.Cause.TheVariants.{Usage, Read, TooLong, Syntax, Wide, Section, Order, Roots, Group, Cocycle}
+use Rattle.data_print.specs.declared.cause.Cause.{Cause}
+use Rattle.data_print.specs.declared.cause.Cause.TheVariants.{Usage, Read, TooLong, Syntax, Wide, Section, Order, Roots, Group, Cocycle, NoConductor, Conductor, Simples, Shape, Count, Identity, NoTwist, NoVacuum, Overflow}
 
 -- a refusal has another status than 0
 other_status : (cause : Cause) → status_of (why_of_cause cause) ≡ 0 → ⊥
@@ -34,6 +34,15 @@ other_status (Order number) e = cc
 other_status (Roots number) e = cc
 other_status (Group fault) e = cc
 other_status (Cocycle fault) e = cc
+other_status (NoConductor multiple) e = cc
+other_status (Conductor stated needed) e = cc
+other_status (Simples ranks most) e = cc
+other_status (Shape fault) e = cc
+other_status (Count at rows rank) e = cc
+other_status (Identity name at i j x left_side right_side) e = cc
+other_status (NoTwist at row value) e = cc
+other_status (NoVacuum rows) e = cc
+other_status (Overflow site) e = cc
 
 -- what was planned is the status of what there was to say
 planned_is : (writing : Writing) (failed : Type 0) (why : Why) (outcome : Outcome) (text : List ℕ) (planned : ℕ) → Ends writing failed why outcome text → why ≡ whys.Write planned
@@ -58,11 +67,6 @@ drained_if_done writing failed why left (Err stop) says drained ends = absurd (l
 
 -- ---- how much was taken
 
--- nothing was taken
-pub none_taken : (most : ℕ) (left : Option (List ℕ)) → TakesUpTo most left left
-none_taken most None = ([], omega arith, tt)
-none_taken most (Some bytes) = ([], omega arith, refl)
-
 few_by_cause : (before after : Option (List ℕ)) (cause : Cause) → (cause ≡ TooLong → ⊥) → TakesUpTo INPUT_LIMIT before after → TakesFor before after (why_of_cause cause)
 few_by_cause before after Usage other few = few
 few_by_cause before after Read other few = few
@@ -74,6 +78,15 @@ few_by_cause before after (Order number) other few = few
 few_by_cause before after (Roots number) other few = few
 few_by_cause before after (Group fault) other few = few
 few_by_cause before after (Cocycle fault) other few = few
+few_by_cause before after (NoConductor multiple) other few = few
+few_by_cause before after (Conductor stated needed) other few = few
+few_by_cause before after (Simples ranks most) other few = few
+few_by_cause before after (Shape fault) other few = few
+few_by_cause before after (Count at rows rank) other few = few
+few_by_cause before after (Identity name at i j x left_side right_side) other few = few
+few_by_cause before after (NoTwist at row value) other few = few
+few_by_cause before after (NoVacuum rows) other few = few
+few_by_cause before after (Overflow site) other few = few
 
 -- no more than the limit
 few_by : (before after : Option (List ℕ)) (outcome : Outcome) → (outcome ≡ Refused TooLong → ⊥) → TakesUpTo INPUT_LIMIT before after → TakesFor before after (why_of outcome)
@@ -127,6 +140,15 @@ prepared_takes before after writing failed why (Err (stops.Refused (Order number
 prepared_takes before after writing failed why (Err (stops.Refused (Roots number))) says few = refused_takes before after writing failed why (Roots number) (λ e. cc) says few
 prepared_takes before after writing failed why (Err (stops.Refused (Group fault))) says few = refused_takes before after writing failed why (Group fault) (λ e. cc) says few
 prepared_takes before after writing failed why (Err (stops.Refused (Cocycle fault))) says few = refused_takes before after writing failed why (Cocycle fault) (λ e. cc) says few
+prepared_takes before after writing failed why (Err (stops.Refused (NoConductor multiple))) says few = refused_takes before after writing failed why (NoConductor multiple) (λ e. cc) says few
+prepared_takes before after writing failed why (Err (stops.Refused (Conductor stated needed))) says few = refused_takes before after writing failed why (Conductor stated needed) (λ e. cc) says few
+prepared_takes before after writing failed why (Err (stops.Refused (Simples ranks most))) says few = refused_takes before after writing failed why (Simples ranks most) (λ e. cc) says few
+prepared_takes before after writing failed why (Err (stops.Refused (Shape fault))) says few = refused_takes before after writing failed why (Shape fault) (λ e. cc) says few
+prepared_takes before after writing failed why (Err (stops.Refused (Count at rows rank))) says few = refused_takes before after writing failed why (Count at rows rank) (λ e. cc) says few
+prepared_takes before after writing failed why (Err (stops.Refused (Identity name at i j x left_side right_side))) says few = refused_takes before after writing failed why (Identity name at i j x left_side right_side) (λ e. cc) says few
+prepared_takes before after writing failed why (Err (stops.Refused (NoTwist at row value))) says few = refused_takes before after writing failed why (NoTwist at row value) (λ e. cc) says few
+prepared_takes before after writing failed why (Err (stops.Refused (NoVacuum rows))) says few = refused_takes before after writing failed why (NoVacuum rows) (λ e. cc) says few
+prepared_takes before after writing failed why (Err (stops.Refused (Overflow site))) says few = refused_takes before after writing failed why (Overflow site) (λ e. cc) says few
 
 -- the steps after the reading take no more
 pub answer_takes : (before after : Option (List ℕ)) (command : Command) (bytes : List ℕ) (result : Result (Vec ℕ) Stop) → length bytes ≤ INPUT_LIMIT
@@ -143,3 +165,12 @@ answer_takes before after command bytes (Err (stops.Refused (Order number))) sho
 answer_takes before after command bytes (Err (stops.Refused (Roots number))) short e few = few
 answer_takes before after command bytes (Err (stops.Refused (Group fault))) short e few = few
 answer_takes before after command bytes (Err (stops.Refused (Cocycle fault))) short e few = few
+answer_takes before after command bytes (Err (stops.Refused (NoConductor multiple))) short e few = few
+answer_takes before after command bytes (Err (stops.Refused (Conductor stated needed))) short e few = few
+answer_takes before after command bytes (Err (stops.Refused (Simples ranks most))) short e few = few
+answer_takes before after command bytes (Err (stops.Refused (Shape fault))) short e few = few
+answer_takes before after command bytes (Err (stops.Refused (Count at rows rank))) short e few = few
+answer_takes before after command bytes (Err (stops.Refused (Identity name at i j x left_side right_side))) short e few = few
+answer_takes before after command bytes (Err (stops.Refused (NoTwist at row value))) short e few = few
+answer_takes before after command bytes (Err (stops.Refused (NoVacuum rows))) short e few = few
+answer_takes before after command bytes (Err (stops.Refused (Overflow site))) short e few = few

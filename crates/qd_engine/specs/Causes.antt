@@ -16,7 +16,7 @@ use Rattle.qd_engine.specs.Plan.{table_of, exponents_of}
 use Rattle.qd_engine.specs.Report.{report_of}
 use Rattle.qd_engine.specs.declared.command.Command.{Command}
 use Rattle.qd_engine.specs.declared.answer.Why.{Why}
-use Rattle.qd_engine.specs.declared.answer.Why.TheVariants.{Done, Usage, Read, TooLong, Syntax, Wide, Section, Order, Roots, Group, Cocycle, Write, Memory}
+use Rattle.qd_engine.specs.declared.answer.Why.TheVariants.{Done, Usage, Read, TooLong, Syntax, Wide, Section, Order, Roots, Group, Cocycle, NoConductor, Conductor, Simples, Shape, Count, Identity, NoTwist, NoVacuum, Overflow, Write, Memory}
 
 -- the input is what the source had left, where it tells that
 abbrev pub Agrees : Option (List ℕ) → List ℕ → Type 0
@@ -42,7 +42,8 @@ pub record Stops (refusal : DocRefusal) (bytes : List ℕ) : Type 0 where
   pub stop : stop_of Bare bytes ≡ Some refusal
 
 -- What holds where an answer comes, by the words, by what the source had left, and by whether the source failed in
--- this call. Want of memory says nothing; an answer that could not be written is that of what was to be written.
+-- this call. Want of memory says nothing; an answer that could not be written is that of what was to be written. No command
+-- gives the refusals after those of the cocycle yet.
 abbrev pub Comes : List (List ℕ) → Option (List ℕ) → Type 0 → Why → Type 0
 Comes words left failed Usage = command_of words ≡ None
 Comes words left failed Read = IsSome (command_of words) × failed
@@ -58,6 +59,15 @@ Comes words left failed (Group fault) =
 Comes words left failed (Cocycle fault) =
     IsSome (command_of words)
     × OfInput left (λ bytes. IsDocument bytes × (group_fault (table_of (document_in bytes)) ≡ None) × (cocycle_fault (exponents_of (document_in bytes)) ≡ Some fault))
+Comes words left failed (NoConductor multiple) = ⊥
+Comes words left failed (Conductor stated needed) = ⊥
+Comes words left failed (Simples ranks most) = ⊥
+Comes words left failed (Shape fault) = ⊥
+Comes words left failed (Count at rows rank) = ⊥
+Comes words left failed (Identity name at i j x left_side right_side) = ⊥
+Comes words left failed (NoTwist at row value) = ⊥
+Comes words left failed (NoVacuum rows) = ⊥
+Comes words left failed (Overflow site) = ⊥
 Comes words left failed Done =
     IsSome (command_of words)
     × OfInput left (λ bytes. IsDocument bytes × IsGroup (table_of (document_in bytes)) × IsCocycle (exponents_of (document_in bytes)))

@@ -4,15 +4,15 @@ use Rattle.std.specs.Global.{Vec}
 use Rattle.std.specs.Io.KnownBytes.{Appends}
 use Rattle.qd_io.specs.Stream.{AppendsFront, HasRoom, TakesUpTo, TakesOver}
 use Rattle.qd_engine.specs.Plan.{plan}
-use Rattle.qd_engine.specs.Lines.{line_of, memory_line}
+use Rattle.data_print.specs.Lines.{line_of, memory_line}
 use Rattle.qd_engine.specs.Answers.{why_of, why_of_cause, status_of}
 use Rattle.qd_engine.specs.Causes.{Agrees, OfInput, Comes}
 use Rattle.qd_engine.specs.declared.answer.Why.{Why}
 use Rattle.qd_engine.specs.declared.answer.Why.TheVariants as whys
 use Rattle.qd_engine.specs.declared.answer.Outcome.{Outcome}
 use Rattle.qd_engine.specs.declared.answer.Outcome.TheVariants.{Report, Refused, Memory}
-use Rattle.qd_engine.specs.declared.cause.Cause.{Cause}
-use Rattle.qd_engine.specs.declared.cause.Cause.TheVariants.{Read, TooLong}
+use Rattle.data_print.specs.declared.cause.Cause.{Cause}
+use Rattle.data_print.specs.declared.cause.Cause.TheVariants.{Read, TooLong}
 use Rattle.qd_engine.specs.declared.stop.Stop.{Stop}
 use Rattle.qd_engine.specs.declared.stop.Stop.TheVariants as stops
 use Rattle.qd_io.specs.declared.reading.TheConstants.{INPUT_LIMIT}
@@ -62,7 +62,7 @@ TakesFor before after why = TakesUpTo INPUT_LIMIT before after
 
 -- what comes of all steps before the writing
 abbrev pub Prepares : List (List ℕ) → Option (List ℕ) → Type 0 → Result (Vec ℕ) Stop → Type 0
-Prepares words left failed (Ok text) = OfInput left (λ bytes. plan words bytes ≡ Ok (text.items))
+Prepares words left failed (Ok text) = OfInput left (λ bytes. plan words bytes ≡ Ok text.items)
 Prepares words left failed (Err (stops.Refused cause)) = IsCause words left failed cause
 Prepares words left failed (Err stops.Memory) = ⊤
 
@@ -78,6 +78,6 @@ Decides (Err cause) why = (why ≡ why_of_cause cause) ⊎ (why ≡ whys.Memory)
 
 -- what was prepared is said: the report, the line of the refusal, or that there was no memory
 abbrev pub SaysPrepared : Result (Vec ℕ) Stop → Writing → Type 0 → Why → Type 0
-SaysPrepared (Ok text) writing failed why = Ends writing failed why Report (text.items)
+SaysPrepared (Ok text) writing failed why = Ends writing failed why Report text.items
 SaysPrepared (Err (stops.Refused cause)) writing failed why = Ends writing failed why (Refused cause) (line_of cause) ⊎ Ends writing failed why Memory memory_line
 SaysPrepared (Err stops.Memory) writing failed why = Ends writing failed why Memory memory_line

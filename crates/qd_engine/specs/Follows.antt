@@ -1,6 +1,6 @@
 -- What a step of the code answers is what the step of the plan gives, unless memory ran out.
 use Rattle.std.specs.Prelude.{◌≡◌, Result, Ok, Err}
-use Rattle.qd_engine.specs.declared.cause.Cause.{Cause}
+use Rattle.data_print.specs.declared.cause.Cause.{Cause}
 use Rattle.qd_engine.specs.declared.stop.Stop.{Stop}
 use Rattle.qd_engine.specs.declared.stop.Stop.TheVariants.{Refused, Memory}
 

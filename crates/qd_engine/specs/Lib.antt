@@ -1,5 +1,4 @@
 pub mod Words
-pub mod Lines
 pub mod Report
 pub mod Plan
 pub mod Follows

@@ -13,8 +13,8 @@ use Rattle.cochain.specs.Cochain.{Cochain, cochain_of, cocycle_fault}
 use Rattle.qd_engine.specs.Words.{command_of}
 use Rattle.qd_engine.specs.Report.{report_of}
 use Rattle.qd_engine.specs.declared.command.Command.{Command}
-use Rattle.qd_engine.specs.declared.cause.Cause.{Cause}
-use Rattle.qd_engine.specs.declared.cause.Cause.TheVariants.{Usage, TooLong, Syntax, Wide, Section, Order, Roots, Group, Cocycle}
+use Rattle.data_print.specs.declared.cause.Cause.{Cause}
+use Rattle.data_print.specs.declared.cause.Cause.TheVariants.{Usage, TooLong, Syntax, Wide, Section, Order, Roots, Group, Cocycle}
 
 infixl 10 ◌>>=◌
 abbrev pub ◌>>=◌ : {A B : Type 0} → Result A Cause → (A → Result B Cause) → Result B Cause

@@ -1,10 +1,12 @@
 ghost use Rattle.std.specs.Prelude.{◌≡◌};
-ghost use Rattle.qd_engine.specs.Answers.{why_of, status_of};
+ghost use Rattle.qd_engine.specs.Answers.{why_of, why_of_cause, status_of};
 
-use crate::cause::Cause;
 use cochain::CocycleFault;
+use data_print::{Cause, ShapeFault};
 use group_table::GroupFault;
+use qd_ring::{Plain, Site};
 use qd_text::Expected;
+use table_check::IdentityName;
 
 /// How the program ended.
 #[derive(Clone, Copy, Debug, PartialEq, Eq)]
@@ -18,22 +20,81 @@ pub enum Why {
     /// More than 4,194,304 bytes came.
     TooLong,
     /// Another token, or none, stands where this was expected.
-    Syntax { offset: u32, expected: Expected },
-    /// A number is over 4,294,967,295.
-    Wide { offset: u32 },
+    Syntax {
+        offset: u32,
+        expected: Expected,
+    },
+    /// A number is over 4,294,967,295, or a coefficient over 2^120 - 1 in magnitude.
+    Wide {
+        offset: u32,
+    },
     /// A section stands that the command does not use.
-    Section { offset: u32 },
+    Section {
+        offset: u32,
+    },
     /// The order is not 1 to 60.
-    Order { number: u32 },
+    Order {
+        number: u32,
+    },
     /// The number of roots is not 1 to 64.
-    Roots { number: u32 },
+    Roots {
+        number: u32,
+    },
     /// The table is not a group.
     Group(GroupFault),
     /// The exponents are not a normalised 3-cocycle.
     Cocycle(CocycleFault),
+    /// No entry of the table of conductors is a multiple of this.
+    NoConductor {
+        multiple: u32,
+    },
+    /// The stated conductor is not the one that is needed.
+    Conductor {
+        stated: u32,
+        needed: u32,
+    },
+    /// The sum of the ranks is over the most that the command takes.
+    Simples {
+        ranks: u32,
+        most: u32,
+    },
+    /// The blocks of characters don't match the classes.
+    Shape(ShapeFault),
+    /// The table of the class of `at` has not as many rows as its rank says.
+    Count {
+        at: u32,
+        rows: u32,
+        rank: u32,
+    },
+    /// An equation of the check of the table of the class of `at` fails there, with these two sides.
+    Identity {
+        name: IdentityName,
+        at: u32,
+        i: u32,
+        j: u32,
+        x: u32,
+        left: Plain,
+        right: Plain,
+    },
+    /// The value of this row at the representative is no multiple of its degree by a power of the root.
+    NoTwist {
+        at: u32,
+        row: u32,
+        value: Plain,
+    },
+    /// No row of the table of the class of the identity has every value 1.
+    NoVacuum {
+        rows: u32,
+    },
+    /// A listed sum does not fit.
+    Overflow {
+        site: Site,
+    },
     /// The sink failed. But for that the answer had the status `planned`: 0 for a report, or the status of a
     /// refusal. A front of its text was written.
-    Write { planned: u8 },
+    Write {
+        planned: u8,
+    },
     /// There was no memory.
     Memory,
 }
@@ -58,6 +119,69 @@ pub enum Outcome {
     Memory,
 }
 
+/// The answer that stands for a cause.
+fn why_of_cause(cause: Cause) -> Why
+    ensures why { result ≡ why_of_cause cause }
+{
+    match cause {
+        Cause::Usage => Why::Usage,
+        Cause::Read => Why::Read,
+        Cause::TooLong => Why::TooLong,
+        Cause::Syntax { offset, expected } => Why::Syntax { offset, expected },
+        Cause::Wide { offset } => Why::Wide { offset },
+        Cause::Section { offset } => Why::Section { offset },
+        Cause::Order { number } => Why::Order { number },
+        Cause::Roots { number } => Why::Roots { number },
+        Cause::Group(fault) => Why::Group(fault),
+        Cause::Cocycle(fault) => Why::Cocycle(fault),
+        Cause::NoConductor { multiple } => Why::NoConductor { multiple },
+        Cause::Conductor { stated, needed } => Why::Conductor { stated, needed },
+        Cause::Simples { ranks, most } => Why::Simples { ranks, most },
+        Cause::Shape(fault) => Why::Shape(fault),
+        Cause::Count { at, rows, rank } => Why::Count { at, rows, rank },
+        Cause::Identity {
+            name,
+            at,
+            i,
+            j,
+            x,
+            left,
+            right,
+        } => {
+            Why::Identity {
+                name,
+                at,
+                i,
+                j,
+                x,
+                left,
+                right,
+            }
+        }
+        Cause::NoTwist { at, row, value } => Why::NoTwist { at, row, value },
+        Cause::NoVacuum { rows } => Why::NoVacuum { rows },
+        Cause::Overflow { site } => Why::Overflow { site },
+    }
+}
+
+/// The status of the answer that stands for a cause.
+fn status_of_cause(cause: &Cause) -> u8
+    ensures status { result ≡ status_of (why_of_cause cause.now) }
+{
+    match cause {
+        Cause::Usage => 2,
+        Cause::Syntax { .. } | Cause::Wide { .. } | Cause::Section { .. } => 3,
+        Cause::Group(_) => 4,
+        Cause::Cocycle(_) => 5,
+        Cause::TooLong | Cause::Order { .. } | Cause::Roots { .. } => 6,
+        Cause::NoConductor { .. } | Cause::Conductor { .. } | Cause::Simples { .. } => 6,
+        Cause::Shape(_) | Cause::Count { .. } | Cause::Identity { .. } => 9,
+        Cause::NoTwist { .. } | Cause::NoVacuum { .. } => 9,
+        Cause::Overflow { .. } => 11,
+        Cause::Read => 12,
+    }
+}
+
 impl Outcome {
     /// How the program ends where this is written whole.
     pub fn why(self) -> Why
@@ -66,19 +190,7 @@ impl Outcome {
         match self {
             Outcome::Report => Why::Done,
             Outcome::Memory => Why::Memory,
-            Outcome::Refused(Cause::Usage) => Why::Usage,
-            Outcome::Refused(Cause::Read) => Why::Read,
-            Outcome::Refused(Cause::TooLong) => Why::TooLong,
-            Outcome::Refused(Cause::Syntax { offset, expected }) => Why::Syntax {
-                offset,
-                expected,
-            },
-            Outcome::Refused(Cause::Wide { offset }) => Why::Wide { offset },
-            Outcome::Refused(Cause::Section { offset }) => Why::Section { offset },
-            Outcome::Refused(Cause::Order { number }) => Why::Order { number },
-            Outcome::Refused(Cause::Roots { number }) => Why::Roots { number },
-            Outcome::Refused(Cause::Group(fault)) => Why::Group(fault),
-            Outcome::Refused(Cause::Cocycle(fault)) => Why::Cocycle(fault),
+            Outcome::Refused(cause) => why_of_cause(cause),
         }
     }
 
@@ -89,7 +201,7 @@ impl Outcome {
         match self {
             Outcome::Report => 0,
             Outcome::Memory => 14,
-            Outcome::Refused(cause) => cause.status(),
+            Outcome::Refused(cause) => status_of_cause(&cause),
         }
     }
 }

@@ -4,8 +4,8 @@ ghost use Rattle.qd_io.specs.Stream.{Rises};
 ghost use Rattle.qd_io.specs.declared.reading.TheConstants.{INPUT_LIMIT};
 ghost use Rattle.qd_engine.specs.Endings.{Reads, Takes};
 
-use crate::cause::Cause;
 use crate::stop::Stop;
+use data_print::Cause;
 use qd_io::{ReadRefusal, Source, read_all};
 use std::alloc::Global;
 

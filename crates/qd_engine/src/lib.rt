@@ -2,11 +2,9 @@
 #![tactic(auto)]
 
 mod answer;
-mod cause;
 mod command;
 mod finish;
 mod input;
-mod lines;
 mod running;
 mod steps;
 mod stop;

@@ -1,6 +1,7 @@
-ghost use Rattle.std.specs.Prelude.{◌≡◌, ℕ, List, Some, None, Ok, OnOk, ◌⊎◌};
+ghost use Rattle.std.specs.Prelude.{◌≡◌, ℕ, List, Some, None, Ok, OnOk, IfOk, ◌⊎◌};
 ghost use Rattle.std.specs.Io.KnownBytes.{IsAtEnd};
 ghost use Rattle.qd_io.specs.Stream.{Rises, HasRoom};
+ghost use Rattle.data_print.specs.Lines.{line_of};
 ghost use Rattle.qd_engine.specs.Words.{texts, command_of};
 ghost use Rattle.qd_engine.specs.Plan.{plan};
 ghost use Rattle.qd_engine.specs.Answers.{status_of};
@@ -9,15 +10,14 @@ ghost use Rattle.qd_engine.specs.declared.answer.Why.{Why};
 ghost use Rattle.qd_engine.specs.Endings.{Prepares, Takes, TakesFor, SaysPrepared, EndsSaying, Decides};
 
 use crate::answer::{Answer, Outcome};
-use crate::cause::Cause;
 use crate::command::command_of;
 use crate::finish::finish;
 use crate::input::input;
-use crate::lines::line;
 use crate::steps::answer_to;
 use crate::stop::Stop;
+use data_print::{Cause, append_refusal};
 use qd_io::{Sink, Source};
-use std::alloc::Global;
+use std::alloc::{AllocError, Global};
 
 /// All steps before the writing: the text of the report, or why there is none.
 fn prepare<S: Source>(alloc: Global, words: &Vec<String>, source: &mut S) -> Result<Vec<u8>, Stop>
@@ -34,6 +34,15 @@ fn prepare<S: Source>(alloc: Global, words: &Vec<String>, source: &mut S) -> Res
     answer_to(alloc, command, &bytes)
 }
 
+/// The line of a refusal.
+fn line(alloc: Global, cause: &Cause) -> Result<Vec<u8>, AllocError>
+    ensures line { IfOk result (λ text. text.items ≡ line_of cause.now) }
+{
+    let mut text = Vec::new(alloc);
+    append_refusal(&mut text, cause)?;
+    Ok(text)
+}
+
 /// What is written where there was no memory. It takes none.
 const MEMORY_LINE: &str = "refused 14 memory\n";
 
@@ -47,8 +56,8 @@ fn say<W: Sink>(alloc: Global, prepared: Result<Vec<u8>, Stop>, sink: &mut W) ->
     match prepared {
         Ok(text) => finish(sink, Outcome::Report, &text),
         Err(Stop::Memory) => finish(sink, Outcome::Memory, MEMORY_LINE.as_bytes()),
-        Err(Stop::Refused(cause)) => match line(alloc, cause) {
-            Ok(text) => finish(sink, Outcome::Refused(cause), text.as_bytes()),
+        Err(Stop::Refused(cause)) => match line(alloc, &cause) {
+            Ok(text) => finish(sink, Outcome::Refused(cause), &text),
             Err(_) => finish(sink, Outcome::Memory, MEMORY_LINE.as_bytes()),
         },
     }

@@ -11,12 +11,11 @@ ghost use Rattle.qd_engine.specs.Report.{class_ranks, report_of};
 ghost use Rattle.qd_engine.specs.Plan.{document_step, group_step, cocycle_step, answer_to, table_of};
 ghost use Rattle.qd_engine.specs.Follows.{Follows};
 
-use crate::cause::Cause;
 use crate::command::Command;
 use crate::stop::Stop;
 use classes::Classes;
 use cochain::{Cocycle, CocycleRefusal};
-use data_print::{append_classes, append_head};
+use data_print::{Cause, append_classes, append_head};
 use group_table::{Group, GroupRefusal, Nats};
 use qd_doc::{DocRefusal, Document, Form, parse};
 use slant::twist_at;

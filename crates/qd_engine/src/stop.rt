@@ -1,7 +1,7 @@
 ghost use Rattle.std.specs.Prelude.{◌≡◌};
 ghost use Rattle.qd_engine.specs.declared.stop.Stop.TheVariants as stops;
 
-use crate::cause::Cause;
+use data_print::Cause;
 use std::alloc::AllocError;
 
 /// Why the program has no report to write.

@@ -1,4 +1,5 @@
 use Rattle.qd_engine.proofs.Meaning.{prepared_ends, answer_comes, done_means, room_decides}
+use Rattle.qd_engine.proofs.Taken.{prepared_takes}
 use Rattle.qd_engine.proofs.running.run.Goals as goal
 
 pub returns-clause-done : goal.returns-clause-done
@@ -9,6 +10,14 @@ pub returns-clause-cause : goal.returns-clause-cause
 returns-clause-cause g c =
     answer_comes _ _ _ _ _ c.say.result.why (prepared_ends _ _ _ _ _ c.say.result.why c.prepare-prepared.result c.prepare-prepared.ensures.prepares c.say.ensures.said)
 
+pub returns-clause-written : goal.returns-clause-written
+returns-clause-written g c =
+    prepared_ends _ _ _ _ _ c.say.result.why c.prepare-prepared.result c.prepare-prepared.ensures.prepares c.say.ensures.said
+
 pub returns-clause-roomy : goal.returns-clause-roomy
 returns-clause-roomy g c = λ bytes report.
     room_decides _ _ _ _ _ c.say.result.why bytes report (prepared_ends _ _ _ _ _ c.say.result.why c.prepare-prepared.result c.prepare-prepared.ensures.prepares c.say.ensures.said)
+
+pub returns-clause-taken : goal.returns-clause-taken
+returns-clause-taken g c =
+    prepared_takes _ _ _ _ c.say.result.why c.prepare-prepared.result c.say.ensures.said c.prepare-prepared.ensures.taken
