@@ -1,6 +1,20 @@
 //! The check of a table of projective characters of a twisted centraliser.
 #![tactic(auto)]
 
+mod candidate;
+mod algebra_clauses;
+mod compared;
+mod conjugated;
 mod identity_name;
 
+mod miss;
+mod refusal;
+mod refusals;
+mod row_clauses;
+mod sides;
+mod table;
+mod total;
+
 pub use identity_name::IdentityName;
+pub use refusal::TableRefusal;
+pub use table::Table;

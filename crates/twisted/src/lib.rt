@@ -16,7 +16,7 @@ mod twist;
 pub use elem::Elem;
 pub use product::{MulRefusal, mul};
 use qd_ring::Ring;
-pub use regular::{centre_rank, is_regular, kappa, regular_reps};
+pub use regular::{centre_rank, conjugate, is_regular, kappa, regular_reps};
 pub use sums::class_sum;
 pub use twist::Twist;
 

@@ -1,0 +1,33 @@
+use Rattle.std.proofs.Common.{◌≡◌, ◌<◌, ap, sym, ◌∙◌, subst, map, refl, arith, true, false, Some}
+use Rattle.std.proofs.lemmas.Bool.{false≢true}
+use Rattle.std.specs.List.{range_with_len}
+use Rattle.cyclotomic.specs.CyclotomicRing.{cyclotomic_value, conjugate}
+use Rattle.cyclotomic.specs.Fit.{value_fits}
+use Rattle.twisted.specs.Twist.{size}
+use Rattle.table_check.specs.Characters.{characters_of}
+use Rattle.table_check.specs.Conjugates.{values_of, conjugate_row}
+use Rattle.table_check.proofs.Conjugates.{conjugate_fits, values_more}
+use Rattle.table_check.proofs.conjugated.conjugate_row.Goals as goal
+
+pub loop-x-init : goal.loop-x-init
+loop-x-init g c = ap (values_of g.row.K) c.new-row.ensures.items
+
+pub unreachable-requires : goal.unreachable-requires
+unreachable-requires g c =
+    let table = characters_of g.row.K c.args.table.now.rows in
+    false≢true (c.in_default.ensures.fits ∙ ap (λ u. value_fits (conjugate g.row.K u)) c.value.ensures.value
+    ∙ conjugate_fits c.args.table.now.over table c.args.i c.loop-x.x c.requires.unitary c.requires.i_below
+    (omega (arith, c.loop-x-test.true, c.size-places.ensures.size, ap (λ t. size t) c.over.ensures.over)))
+
+pub loop-x-preserved : goal.loop-x-preserved
+loop-x-preserved g c =
+    let table = characters_of g.row.K c.args.table.now.rows in
+    ap (values_of g.row.K) c.in_ok-push.ensures.items
+    ∙ values_more c.args.table.now.over table (size c.args.table.now.over) c.args.i c.loop-x.x c.loop-x.row.items c.in-Some.conjugate c.loop-x.invariant
+    (c.in-Some.ensures.value ∙ ap (conjugate g.row.K) c.value.ensures.value)
+
+pub returns : goal.returns
+returns g c = record {
+  row = c.loop-x.invariant ∙ ap (λ n. map (λ y. conjugate g.row.K ((characters_of g.row.K c.args.table.now.rows).chi c.args.i y)) (range_with_len 0 n))
+      (omega (arith, c.loop-x-test.false, c.loop-x.auto, c.size-places.ensures.size, ap (λ t. size t) c.over.ensures.over));
+}

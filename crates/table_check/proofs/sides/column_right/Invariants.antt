@@ -1,0 +1,9 @@
+use Rattle.cyclotomic.specs.CyclotomicRing.{cyclotomic_value}
+use Rattle.table_check.specs.Characters.{characters_of}
+use Rattle.table_check.specs.Sides.{column_term}
+use Rattle.table_check.specs.Totals.{IsTotal}
+use Rattle.table_check.proofs.sides.column_right.Given as goal
+
+-- the terms before c
+abbrev pub invariant-loop-c : goal.invariant-loop-c
+invariant-loop-c g l = IsTotal (column_term l.table.over l.x l.y) l.c (cyclotomic_value g.row.K l.total.sum.coefficients) l.total.sizes

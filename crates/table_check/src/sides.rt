@@ -1,0 +1,324 @@
+//! The sides of the clauses, each as it is formed.
+
+ghost use Rattle.std.specs.Prelude.{◌≡◌, ◌<◌, ◌%◌, ℕ, length};
+ghost use Rattle.cyclotomic.specs.CyclotomicRing.{cyclotomic_value};
+ghost use Rattle.twisted.specs.Twist.{size};
+ghost use Rattle.twisted.specs.Algebra.{left_quotient, exponent};
+ghost use Rattle.table_check.specs.Characters.{characters_of, IsShaped};
+ghost use Rattle.table_check.specs.Formed.{Forms, given, whole};
+ghost use Rattle.table_check.specs.Sides.{degree_value, own_place, right_quotient, with_phase, unitary_left, unitary_right, twist_left, twist_right, central_left, central_right, product_sum, product_left, product_right, sum_left, sum_right, column_left, column_term, column_right, product_term, sum_term, row_term};
+
+use crate::candidate::Candidate;
+use crate::conjugated::Conjugated;
+
+use crate::total::Total;
+use qd_ring::{Cyc, Root};
+use twisted::{Twist, conjugate, kappa};
+
+/// The place of `y^-1 x`.
+fn left_quotient(twist: &Twist, y: u32, x: u32) -> u32
+    requires y_below { y < size twist.now }
+    requires x_below { x < size twist.now }
+    ensures quotient { result ≡ left_quotient twist.now y x }
+    ensures below { result < size twist.now }
+{
+    let group = twist.group();
+    group.product(group.inverse(y), x)
+}
+
+/// The place of `x y^-1`.
+fn right_quotient(twist: &Twist, x: u32, y: u32) -> u32
+    requires y_below { y < size twist.now }
+    requires x_below { x < size twist.now }
+    ensures quotient { result ≡ right_quotient twist.now x y }
+    ensures below { result < size twist.now }
+{
+    let group = twist.group();
+    group.product(x, group.inverse(y))
+}
+
+/// The place of the element that the twist belongs to.
+fn own_place(twist: &Twist) -> u32
+    ensures place { result ≡ own_place twist.now }
+    ensures below { result < size twist.now }
+{
+    twist.place(twist.at()).unwrap_or(0)
+}
+
+/// The root of an exponent modulo the modulus of the twist.
+fn root<const K: u32>(table: &Candidate<K>, v: u32) -> Root<K>
+    requires v_below { v < table.now.over.modulus }
+    ensures exponent { result.exponent ≡ exponent K table.now.over v % K }
+{
+    Root::new(v * (K / table.over().modulus()))
+}
+
+/// The multiple of a value by the root of the phase at the places `x` and `y`.
+fn with_phase<const K: u32>(table: &Candidate<K>, x: u32, y: u32, value: &Cyc<K>) -> Option<Cyc<K>>
+    requires x_below { x < size table.now.over }
+    requires y_below { y < size table.now.over }
+    ensures forms { Forms (with_phase table.now.over x y (given K (cyclotomic_value K value.now.coefficients))) result }
+{
+    let phase = table.over().phase(x, y);
+    value.try_times(root(table, phase))
+}
+
+/// The degree of row `i`: its value at the identity.
+pub fn degree<const K: u32>(table: &Candidate<K>, i: u32) -> Cyc<K>
+    requires i_below { i < length table.now.rows }
+    ensures degree { cyclotomic_value K result.coefficients ≡ (degree_value table.now.over (characters_of K table.now.rows) i).value }
+{
+    table.value(i, table.over().group().identity())
+}
+
+/// The order of the centraliser.
+fn order<const K: u32>(table: &Candidate<K>) -> Cyc<K>
+    ensures order { cyclotomic_value K result.coefficients ≡ whole K (size table.now.over) }
+{
+    let order = table.over().size();
+    Cyc::whole(i128::from(order))
+}
+
+/// The value of row `i` at the inverse of the place `x`.
+pub fn unitary_left<const K: u32>(table: &Candidate<K>, i: u32, x: u32) -> Option<Cyc<K>>
+    requires i_below { i < length table.now.rows }
+    requires x_below { x < size table.now.over }
+    ensures forms { Forms (unitary_left table.now.over (characters_of K table.now.rows) i x) result }
+{
+    Some(table.value(i, table.over().group().inverse(x)))
+}
+
+/// What the value of row `i` at the inverse of `x` should be: the conjugate of that at `x`, with the phase of the two.
+pub fn unitary_right<const K: u32>(table: &Candidate<K>, i: u32, x: u32) -> Option<Cyc<K>>
+    requires i_below { i < length table.now.rows }
+    requires x_below { x < size table.now.over }
+    ensures forms { Forms (unitary_right table.now.over (characters_of K table.now.rows) i x) result }
+{
+    let Some(conjugate) = table.value(i, x).try_conj() else {
+        return None;
+    };
+    with_phase(table, x, table.over().group().inverse(x), &conjugate)
+}
+
+/// The value of row `i` at the element that the centraliser belongs to.
+pub fn twist_left<const K: u32>(table: &Candidate<K>, i: u32) -> Cyc<K>
+    requires i_below { i < length table.now.rows }
+    ensures value { cyclotomic_value K result.coefficients ≡ (twist_left table.now.over (characters_of K table.now.rows) i).value }
+{
+    table.value(i, own_place(table.over()))
+}
+
+/// The degree times the root with exponent `t` modulo K.
+#[tactic(auto, using(cyclotomic::proofs::Inverses::root_modulo))]
+pub fn twist_right<const K: u32>(table: &Candidate<K>, i: u32, t: u32) -> Option<Cyc<K>>
+    requires i_below { i < length table.now.rows }
+    requires t_below { t < K }
+    ensures forms { Forms (twist_right table.now.over (characters_of K table.now.rows) i t) result }
+{
+    degree(table, i).try_times(Root::new(t))
+}
+
+/// The value of `u_y E_i` at the place `x`.
+pub fn central_left<const K: u32>(table: &Conjugated<K>, i: u32, y: u32, x: u32) -> Option<Cyc<K>>
+    requires i_below { i < length table.now.rows }
+    requires y_below { y < size table.now.over }
+    requires x_below { x < size table.now.over }
+    ensures forms { Forms (central_left table.now.over (characters_of K table.now.rows) i y x) result }
+{
+    let candidate = table.candidate();
+    let z = left_quotient(candidate.over(), y, x);
+    with_phase(candidate, y, z, &table.conjugate(i, z))
+}
+
+/// The value of `E_i u_y` at the place `x`.
+pub fn central_right<const K: u32>(table: &Conjugated<K>, i: u32, y: u32, x: u32) -> Option<Cyc<K>>
+    requires i_below { i < length table.now.rows }
+    requires y_below { y < size table.now.over }
+    requires x_below { x < size table.now.over }
+    ensures forms { Forms (central_right table.now.over (characters_of K table.now.rows) i y x) result }
+{
+    let candidate = table.candidate();
+    let z = right_quotient(candidate.over(), x, y);
+    with_phase(candidate, z, y, &table.conjugate(i, z))
+}
+
+/// The term at `y` of the value of `E_i E_j` at the place `x`.
+fn product_term<const K: u32>(
+    table: &Conjugated<K>,
+    i: u32,
+    j: u32,
+    x: u32,
+    y: u32,
+) -> Option<Cyc<K>>
+    requires i_below { i < length table.now.rows }
+    requires j_below { j < length table.now.rows }
+    requires y_below { y < size table.now.over }
+    requires x_below { x < size table.now.over }
+    ensures forms { Forms (product_term table.now.over (characters_of K table.now.rows) i j x y) result }
+{
+    let candidate = table.candidate();
+    let z = left_quotient(candidate.over(), y, x);
+    let Some(product) = table.conjugate(i, y).try_mul(&table.conjugate(j, z)) else {
+        return None;
+    };
+    with_phase(candidate, y, z, &product)
+}
+
+/// The value of `E_i E_j` at the place `x`.
+fn product_sum<const K: u32>(table: &Conjugated<K>, i: u32, j: u32, x: u32) -> Option<Cyc<K>>
+    requires i_below { i < length table.now.rows }
+    requires j_below { j < length table.now.rows }
+    requires x_below { x < size table.now.over }
+    ensures forms { Forms (product_sum table.now.over (characters_of K table.now.rows) i j x) result }
+{
+    let places = table.candidate().over().size();
+    let mut total = Total::zero();
+    for y in 0..places {
+        let Some(more) = total.with(product_term(table, i, j, x, y)) else {
+            return None;
+        };
+        total = more;
+    }
+    Some(total.sum())
+}
+
+/// The value of `d_i E_i E_i` at the place `x`, or of `E_i E_j` for two different rows.
+pub fn product_left<const K: u32>(
+    table: &Conjugated<K>,
+    i: u32,
+    j: u32,
+    x: u32,
+) -> Option<Cyc<K>>
+    requires i_below { i < length table.now.rows }
+    requires j_below { j < length table.now.rows }
+    requires x_below { x < size table.now.over }
+    ensures forms { Forms (product_left table.now.over (characters_of K table.now.rows) i j x) result }
+{
+    let Some(sum) = product_sum(table, i, j, x) else {
+        return None;
+    };
+    if i == j {
+        degree(table.candidate(), i).try_mul(&sum)
+    } else {
+        Some(sum)
+    }
+}
+
+/// The value of `m E_i` at the place `x`, or 0 for two different rows.
+pub fn product_right<const K: u32>(
+    table: &Conjugated<K>,
+    i: u32,
+    j: u32,
+    x: u32,
+) -> Option<Cyc<K>>
+    requires i_below { i < length table.now.rows }
+    requires j_below { j < length table.now.rows }
+    requires x_below { x < size table.now.over }
+    ensures forms { Forms (product_right table.now.over (characters_of K table.now.rows) i j x) result }
+{
+    let order = order(table.candidate());
+    if i == j {
+        order.try_mul(&table.conjugate(i, x))
+    } else {
+        Some(Cyc::zero())
+    }
+}
+
+/// The value of `d_i E_i` at the place `x`.
+fn sum_term<const K: u32>(table: &Conjugated<K>, x: u32, i: u32) -> Option<Cyc<K>>
+    requires x_below { x < size table.now.over }
+    requires i_below { i < length table.now.rows }
+    ensures forms { Forms (sum_term table.now.over (characters_of K table.now.rows) x i) result }
+{
+    degree(table.candidate(), i).try_mul(&table.conjugate(i, x))
+}
+
+/// The sum of the `d_i E_i`, at the place `x`.
+pub fn sum_left<const K: u32>(table: &Conjugated<K>, x: u32) -> Option<Cyc<K>>
+    requires x_below { x < size table.now.over }
+    ensures forms { Forms (sum_left table.now.over (characters_of K table.now.rows) x) result }
+{
+    let rows = table.candidate().rows();
+    let mut total = Total::zero();
+    for i in 0..rows {
+        let Some(more) = total.with(sum_term(table, x, i)) else {
+            return None;
+        };
+        total = more;
+    }
+    Some(total.sum())
+}
+
+/// The value of `m u_e` at the place `x`.
+pub fn sum_right<const K: u32>(table: &Conjugated<K>, x: u32) -> Option<Cyc<K>>
+    requires x_below { x < size table.now.over }
+    ensures forms { Forms (sum_right table.now.over (characters_of K table.now.rows) x) result }
+{
+    let order = order(table.candidate());
+    if x == table.candidate().over().group().identity() {
+        Some(order)
+    } else {
+        Some(Cyc::zero())
+    }
+}
+
+/// The conjugate of the value of row `i` at `x`, times its value at `y`.
+fn row_term<const K: u32>(table: &Conjugated<K>, x: u32, y: u32, i: u32) -> Option<Cyc<K>>
+    requires x_below { x < size table.now.over }
+    requires y_below { y < size table.now.over }
+    requires i_below { i < length table.now.rows }
+    ensures forms { Forms (row_term table.now.over (characters_of K table.now.rows) x y i) result }
+{
+    table.conjugate(i, x).try_mul(&table.candidate().value(i, y))
+}
+
+/// The sum over the rows of the conjugate of the value at `x` times the value at `y`.
+pub fn column_left<const K: u32>(table: &Conjugated<K>, x: u32, y: u32) -> Option<Cyc<K>>
+    requires x_below { x < size table.now.over }
+    requires y_below { y < size table.now.over }
+    ensures forms { Forms (column_left table.now.over (characters_of K table.now.rows) x y) result }
+{
+    let rows = table.candidate().rows();
+    let mut total = Total::zero();
+    for i in 0..rows {
+        let Some(more) = total.with(row_term(table, x, y, i)) else {
+            return None;
+        };
+        total = more;
+    }
+    Some(total.sum())
+}
+
+/// The conjugate of the root of the conjugation phase of `c` and `x` where `c` carries `x` to `y`, else 0.
+#[tactic(auto, using(cyclotomic::proofs::Inverses::root_modulo))]
+fn column_term<const K: u32>(table: &Candidate<K>, x: u32, y: u32, c: u32) -> Option<Cyc<K>>
+    requires x_below { x < size table.now.over }
+    requires y_below { y < size table.now.over }
+    requires c_below { c < size table.now.over }
+    ensures forms { Forms (column_term table.now.over x y c) result }
+{
+    let twist = table.over();
+    if conjugate(twist.group(), c, x) == y {
+        let phase = kappa(twist, c, x);
+        Cyc::from_root(root(table, phase)).try_conj()
+    } else {
+        Some(Cyc::zero())
+    }
+}
+
+/// The sum of these over all `c`.
+pub fn column_right<const K: u32>(table: &Candidate<K>, x: u32, y: u32) -> Option<Cyc<K>>
+    requires x_below { x < size table.now.over }
+    requires y_below { y < size table.now.over }
+    ensures forms { Forms (column_right table.now.over (characters_of K table.now.rows) x y) result }
+{
+    let places = table.over().size();
+    let mut total = Total::zero();
+    for c in 0..places {
+        let Some(more) = total.with(column_term(table, x, y, c)) else {
+            return None;
+        };
+        total = more;
+    }
+    Some(total.sum())
+}
