@@ -6,3 +6,4 @@ pub mod Places
 pub mod Lines
 pub mod RoundTrip
 pub mod Shapes
+pub mod BlockSteps
