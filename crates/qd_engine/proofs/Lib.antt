@@ -1,8 +1,12 @@
 pub mod Inputs
-pub mod Ranks
+pub mod RankLaws
 pub mod Chains
 pub mod Documents
 pub mod Shapes
+pub mod ConductorLaws
+pub mod TableRows
+pub mod TableCauses
+pub mod TableSteps
 pub mod Verified
 pub mod Planned
 pub mod Meaning

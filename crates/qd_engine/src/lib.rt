@@ -5,9 +5,13 @@ mod answer;
 mod command;
 mod finish;
 mod input;
+mod ranks;
 mod running;
+mod shape;
 mod steps;
 mod stop;
+mod tables;
+mod verify;
 
 pub use answer::{Answer, Why};
 pub use running::run;

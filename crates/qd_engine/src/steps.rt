@@ -1,33 +1,42 @@
 //! The steps from the input to the report, each as the plan says.
 
-ghost use Rattle.std.specs.Prelude.{◌≡◌, ◌*◌, ◌≤◌, length, ◌++◌, ℕ, All, vec_len, OnOk, IfOk};
+ghost use Rattle.std.specs.Prelude.{◌≡◌, ◌≤◌, length, ◌++◌, ℕ, vec_len, OnOk, IfOk};
 ghost use Rattle.std.specs.Global.{Vec};
-ghost use Rattle.group_table.specs.Group.{IsSmall};
-ghost use Rattle.cochain.specs.Cochain.{IsRoots};
 ghost use Rattle.qd_doc.specs.Contents.{IsInRange};
 ghost use Rattle.qd_io.specs.declared.reading.TheConstants.{INPUT_LIMIT};
 ghost use Rattle.data_print.specs.ClassLines.{classes_text};
-ghost use Rattle.qd_engine.specs.Report.{class_ranks, report_of};
-ghost use Rattle.qd_engine.specs.Plan.{document_step, group_step, cocycle_step, answer_to, table_of};
+ghost use Rattle.qd_engine.specs.Documents.{form_of, table_of, given_in};
+ghost use Rattle.qd_engine.specs.Report.{class_ranks, conductor_line, report_of};
+ghost use Rattle.qd_engine.specs.Plan.{document_step, group_step, cocycle_step, command_step, answer_to};
 ghost use Rattle.qd_engine.specs.Follows.{Follows};
 
 use crate::command::Command;
+use crate::ranks::class_ranks;
 use crate::stop::Stop;
+use crate::verify::verify;
 use classes::Classes;
 use cochain::{Cocycle, CocycleRefusal};
 use data_print::{Cause, append_classes, append_head};
-use group_table::{Group, GroupRefusal, Nats};
+use group_table::{Group, GroupRefusal};
 use qd_doc::{DocRefusal, Document, Form, parse};
-use slant::twist_at;
 use std::alloc::{AllocError, Global};
-use twisted::centre_rank;
 
-fn document(alloc: Global, bytes: &Vec<u8>) -> Result<Document, Stop>
+/// The form of document that a command reads.
+fn form_of(command: Command) -> Form
+    ensures form { result ≡ form_of command }
+{
+    match command {
+        Command::Check | Command::Classes => Form::Bare,
+        Command::Verify => Form::WithCharacters,
+    }
+}
+
+fn document(alloc: Global, bytes: &Vec<u8>, form: Form) -> Result<Document, Stop>
     requires limit { vec_len bytes.now ≤ INPUT_LIMIT }
-    ensures follows { Follows (λ d. d) result (document_step bytes.now.items) }
+    ensures follows { Follows (λ d. d) result (document_step form bytes.now.items) }
     ensures shaped { IfOk result IsInRange }
 {
-    match parse(alloc, bytes, Form::Bare) {
+    match parse(alloc, bytes, form) {
         Ok(document) => Ok(document),
         Err(DocRefusal::Syntax { offset, expected }) => Err(Stop::Refused(Cause::Syntax {
             offset,
@@ -64,19 +73,28 @@ fn cocycle(alloc: Global, group: Group, document: &Document) -> Result<Cocycle, 
     }
 }
 
-/// For each class the rank of the twisted centraliser of its representative.
-#[tactic(auto, using(crate::proofs::Ranks::ranks_all))]
-fn class_ranks(alloc: Global, w: &Cocycle, classes: &Classes) -> Result<Nats, AllocError>
-    requires group { classes.now ≡ w.now.group }
-    ensures ranks { IfOk result (λ ranks. ranks ≡ class_ranks w.now) }
-    ensures small { IfOk result (λ ranks. All (λ rank. rank ≤ 60) ranks) }
+/// What a command tests after the cocycle.
+fn test(alloc: Global, command: Command, document: &Document, w: &Cocycle) -> Result<(), Stop>
+    requires shaped { IsInRange document.now }
+    ensures follows { Follows (λ done. tt) result (command_step command document.now w.now) }
 {
-    let mut ranks = Nats::empty(alloc);
-    for c in 0..classes.count() {
-        let twist = twist_at(alloc, w, classes.representative(c))?;
-        ranks.push(centre_rank(&twist))?;
+    match command {
+        Command::Check | Command::Classes => Ok(()),
+        Command::Verify => match &document.characters {
+            None => Ok(()),
+            Some(given) => verify(alloc, w, given),
+        },
     }
-    Ok(ranks)
+}
+
+/// The conductor that a document states; 0 where it gives no rows.
+fn stated_conductor(document: &Document) -> u32
+    ensures stated { result ≡ (given_in document.now).conductor }
+{
+    match &document.characters {
+        None => 0,
+        Some(given) => given.conductor,
+    }
 }
 
 /// Adds the lines of the classes.
@@ -88,15 +106,33 @@ fn append_ranked_classes(alloc: Global, out: &mut Vec<u8>, w: &Cocycle) -> Resul
     append_classes(out, &classes, &ranks)
 }
 
-/// The report of a command on a cocycle.
-fn report(alloc: Global, command: Command, w: &Cocycle) -> Result<Vec<u8>, AllocError>
-    ensures report { IfOk result (λ text. text.items ≡ report_of command w.now) }
+/// Adds the line of a conductor.
+fn append_conductor(out: &mut Vec<u8>, k: u32) -> Result<(), AllocError>
+    ensures added { OnOk result (out.new.items ≡ out.old.items ++ conductor_line k) }
+{
+    let alloc = *out.allocator();
+    let text = format!(in alloc; "conductor {k}\n")?;
+    out.extend_from_slice(text.as_bytes())
+}
+
+/// The report of a command on a document and its cocycle.
+fn report(
+    alloc: Global,
+    command: Command,
+    document: &Document,
+    w: &Cocycle,
+) -> Result<Vec<u8>, AllocError>
+    ensures report { IfOk result (λ text. text.items ≡ report_of command document.now w.now) }
 {
     let mut text = Vec::new(alloc);
     append_head(&mut text, w)?;
     match command {
         Command::Check => {}
         Command::Classes => append_ranked_classes(alloc, &mut text, w)?,
+        Command::Verify => {
+            append_ranked_classes(alloc, &mut text, w)?;
+            append_conductor(&mut text, stated_conductor(document))?;
+        }
     }
     text.extend_from_slice(b"end\n")?;
     Ok(text)
@@ -108,8 +144,9 @@ pub fn answer_to(alloc: Global, command: Command, bytes: &Vec<u8>) -> Result<Vec
     requires limit { vec_len bytes.now ≤ INPUT_LIMIT }
     ensures follows { Follows (λ (text : Vec ℕ). text.items) result (answer_to command bytes.now.items) }
 {
-    let document = document(alloc, bytes)?;
+    let document = document(alloc, bytes, form_of(command))?;
     let group = group(alloc, &document)?;
     let w = cocycle(alloc, group, &document)?;
-    Ok(report(alloc, command, &w)?)
+    test(alloc, command, &document, &w)?;
+    Ok(report(alloc, command, &document, &w)?)
 }

@@ -1,8 +1,10 @@
 //! What `verify` tests after the cocycle, each step as the plan says.
 
-ghost use Rattle.std.specs.Prelude.{◌≡◌, ◌≤◌, ◌<◌, ◌^◌, sum, All};
+ghost use Rattle.std.specs.Prelude.{◌≡◌, ◌≤◌, ◌%◌, true, length, sum, All, OnOk, IfOk};
+ghost use Rattle.cyclotomic.specs.Conductors.{is_conductor};
 ghost use Rattle.qd_doc.specs.Contents.{IsGivenInRange};
 ghost use Rattle.qd_engine.specs.Report.{class_ranks};
+ghost use Rattle.qd_engine.specs.Shape.{IsMatched};
 ghost use Rattle.qd_engine.specs.Plan.{conductor_step, stated_step, simples_step, shape_step, tables_step, verify_step};
 ghost use Rattle.qd_engine.specs.Follows.{Follows};
 
@@ -24,6 +26,8 @@ const MOST_SIMPLES: u32 = 256;
 /// The least conductor that is a multiple of the number of roots times the exponent of the group.
 fn needed_conductor(w: &Cocycle) -> Result<u32, Stop>
     ensures follows { Follows (λ k. k) result (conductor_step w.now) }
+    ensures conductor { IfOk result (λ k. is_conductor k ≡ true) }
+    ensures multiple { IfOk result (λ k. k % w.now.roots ≡ 0) }
 {
     let exponent = w.group().exponent();
     match conductor(w.roots() * exponent) {
@@ -35,6 +39,7 @@ fn needed_conductor(w: &Cocycle) -> Result<u32, Stop>
 /// Whether the stated conductor is the one that is needed.
 fn stated_is(stated: u32, needed: u32) -> Result<(), Stop>
     ensures follows { Follows (λ done. tt) result (stated_step stated needed) }
+    ensures same { OnOk result (stated ≡ needed) }
 {
     if stated == needed {
         Ok(())
@@ -43,23 +48,19 @@ fn stated_is(stated: u32, needed: u32) -> Result<(), Stop>
     }
 }
 
-/// The sum of the ranks.
-fn total(ranks: &[u32]) -> u32
-    requires { sum ranks.now < 2 ^ 32 }
-    ensures { result ≡ sum ranks.now }
-{
-    ranks.iter().sum()
-}
-
 /// Whether there are no more simples than `verify` takes.
-fn few_simples(ranks: u32) -> Result<(), Stop>
-    ensures follows { Follows (λ done. tt) result (simples_step ranks) }
+#[tactic(auto, using(data_print::proofs::Ranks::sum_small))]
+fn few_simples(ranks: &Nats) -> Result<(), Stop>
+    requires few { length ranks.now ≤ 60 }
+    requires small { All (λ rank. rank ≤ 60) ranks.now }
+    ensures follows { Follows (λ done. tt) result (simples_step (sum ranks.now)) }
 {
-    if ranks <= MOST_SIMPLES {
+    let total = ranks.as_slice().iter().sum();
+    if total <= MOST_SIMPLES {
         Ok(())
     } else {
         Err(Stop::Refused(Cause::Simples {
-            ranks,
+            ranks: total,
             most: MOST_SIMPLES,
         }))
     }
@@ -68,6 +69,7 @@ fn few_simples(ranks: u32) -> Result<(), Stop>
 /// Whether the blocks match the classes.
 fn matching(classes: &Classes, blocks: &Blocks) -> Result<(), Stop>
     ensures follows { Follows (λ done. tt) result (shape_step classes.now blocks.now) }
+    ensures matched { OnOk result (IsMatched classes.now blocks.now) }
 {
     match shape_fault(classes, blocks) {
         None => Ok(()),
@@ -85,7 +87,7 @@ pub fn verify(alloc: Global, w: &Cocycle, given: &Given) -> Result<(), Stop>
     let ranks = class_ranks(alloc, w, &classes)?;
     let k = needed_conductor(w)?;
     stated_is(given.conductor, k)?;
-    few_simples(total(ranks.as_slice()))?;
+    few_simples(&ranks)?;
     matching(&classes, &given.blocks)?;
     check_tables(alloc, k, w, &classes, &given.blocks)
 }

@@ -1,7 +1,7 @@
 use Rattle.std.proofs.Common.{length, sym, ap, ◌∙◌}
 use Rattle.group_table.specs.Group.{Table}
 use Rattle.classes.specs.Conjugacy.{representatives}
-use Rattle.qd_engine.proofs.Ranks.{length-class_ranks}
+use Rattle.qd_engine.proofs.RankLaws.{length-class_ranks}
 use Rattle.qd_engine.proofs.steps.append_ranked_classes.Goals as goal
 
 pub append_classes-requires-clause-one_each : goal.append_classes-requires-clause-one_each

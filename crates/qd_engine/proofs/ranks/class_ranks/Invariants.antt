@@ -1,7 +1,7 @@
 use Rattle.std.proofs.Common.{◌≡◌, ◌≤◌, length, map, All}
 use Rattle.std.specs.List.{range_with_len}
 use Rattle.qd_engine.specs.Report.{class_rank}
-use Rattle.qd_engine.proofs.steps.class_ranks.Given as goal
+use Rattle.qd_engine.proofs.ranks.class_ranks.Given as goal
 
 -- the ranks of the classes before the one at c
 abbrev pub invariant-loop-c : goal.invariant-loop-c

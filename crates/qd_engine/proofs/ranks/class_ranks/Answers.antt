@@ -2,8 +2,8 @@ use Rattle.std.proofs.Common.{◌≡◌, ◌≤◌, length-append, ap, subst, �
 use Rattle.group_table.specs.Group.{Table}
 use Rattle.classes.specs.Conjugacy.{representative_at}
 use Rattle.twisted.specs.Twist.{IsTwist}
-use Rattle.qd_engine.proofs.Ranks.{rank_small, rank_found, ranks_more, small_more}
-use Rattle.qd_engine.proofs.steps.class_ranks.Goals as goal
+use Rattle.qd_engine.proofs.RankLaws.{rank_small, rank_found, ranks_more, small_more}
+use Rattle.qd_engine.proofs.ranks.class_ranks.Goals as goal
 
 pub loop-c-preserved : goal.loop-c-preserved
 loop-c-preserved c =
