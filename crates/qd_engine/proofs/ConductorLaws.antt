@@ -3,12 +3,9 @@ use Rattle.std.proofs.Common.{◌≡◌, ℕ, ◌+◌, ◌*◌, ◌%◌, ◌/◌
 use Rattle.std.specs.Prelude.{◌==◌, find}
 use Rattle.std.specs.List.{list_any}
 use Rattle.std.proofs.lemmas.Bool.{eqb-true}
-use Rattle.std.proofs.Math.Nat.{div-add-mod, mul-mod_right}
+use Rattle.std.proofs.Math.Nat.{div-add-mod, mul-mod_right, mul_assoc}
+use Rattle.std.proofs.Math.Bool.{or-true}
 use Rattle.cyclotomic.specs.Conductors.{conductors, is_conductor, least_conductor}
-
-or_true : (b : Bool) → (b || true) ≡ true
-or_true true = refl
-or_true false = refl
 
 -- the first number of a column that is a multiple stands in the column
 Found : ℕ → ℕ → List (ℕ × ℕ) → Type 0
@@ -25,7 +22,7 @@ found_at m k entry entries true others is rest e =
     found_here m k entry.0 (list_any (λ (entry : ℕ × ℕ). entry.0 == k) entries) is same
 found_at m k entry entries false others is rest e =
     let (any, multiple) = rest e in
-    (ap (λ b. (entry.0 == k) || b) any ∙ or_true (entry.0 == k), multiple)
+    (ap (λ b. (entry.0 == k) || b) any ∙ or-true (entry.0 == k), multiple)
 
 first_multiple : (m k : ℕ) (entries : List (ℕ × ℕ)) → find (λ n. n % m == 0) (map (λ (entry : ℕ × ℕ). entry.0) entries) ≡ Some k → Found m k entries
 first_multiple m k [] e = absurd cc
@@ -39,5 +36,5 @@ least_is_conductor m k e = first_multiple m k conductors e
 pub multiple_of_factor : (k m n : ℕ) → k % (m * n) ≡ 0 → k % m ≡ 0
 multiple_of_factor k m n e =
     let q = k / (m * n) in
-    let parts : k ≡ m * (n * q) = sym (div-add-mod k (m * n)) ∙ ap (λ r. m * n * q + r) e ∙ add-zero (m * n * q) ∙ mul-assoc m n q in
+    let parts : k ≡ m * (n * q) = omega (arith, div-add-mod k (m * n), e, mul_assoc m n q) in
     ap (λ i. i % m) parts ∙ mul-mod_right m (n * q)

@@ -4,7 +4,7 @@ use Rattle.std.specs.List.{range_with_len}
 use Rattle.std.proofs.lemmas.List.Elements.{All-append}
 use Rattle.std.proofs.lemmas.List.FromFn.{length-map-range_with_len, map-range_with_len_more}
 use Rattle.std.proofs.lemmas.List.Sums.{count_by-le-length}
-use Rattle.cochain.specs.Cochain.{Cochain}
+use Rattle.cochain.specs.Cochain.{Cochain, IsCocycle}
 use Rattle.classes.specs.Conjugacy.{representatives, representative_at}
 use Rattle.classes.proofs.Counting.{classes_at_most}
 use Rattle.twisted.specs.Twist.{TwistedSubgroup, IsTwist}
@@ -48,3 +48,11 @@ small_more found front all pushed small here = rw pushed (All-append (λ r. r �
 pub length-class_ranks : (w : Cochain) → length (class_ranks w) ≡ length (representatives w.group)
 unfolding class_ranks
 length-class_ranks w = length-map-range_with_len (class_rank w) 0 (length (representatives w.group))
+
+-- there are no more classes than elements
+pub class_ranks_few : (w : Cochain) → IsCocycle w → length (class_ranks w) ≤ 60
+class_ranks_few w cocycle =
+    let few : length (representatives w.group) ≤ w.group.order = classes_at_most w.group cocycle.cochain.group in
+    let count = length-class_ranks w in
+    let small = cocycle.cochain.small.to_sixty in
+    omega arith

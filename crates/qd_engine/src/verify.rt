@@ -1,6 +1,6 @@
 //! What `verify` tests after the cocycle, each step as the plan says.
 
-ghost use Rattle.std.specs.Prelude.{◌≡◌, ◌≤◌, ◌%◌, true, length, sum, All, OnOk, IfOk};
+ghost use Rattle.std.specs.Prelude.{◌≡◌, ◌≤◌, ◌<◌, ◌^◌, ◌%◌, true, length, sum, All, OnOk, IfOk};
 ghost use Rattle.cyclotomic.specs.Conductors.{is_conductor};
 ghost use Rattle.qd_doc.specs.Contents.{IsGivenInRange};
 ghost use Rattle.qd_engine.specs.Report.{class_ranks};
@@ -48,6 +48,14 @@ fn stated_is(stated: u32, needed: u32) -> Result<(), Stop>
     }
 }
 
+/// The sum of the ranks.
+fn total(ranks: &[u32]) -> u32
+    requires { sum ranks.now < 2 ^ 32 }
+    ensures { result ≡ sum ranks.now }
+{
+    ranks.iter().sum()
+}
+
 /// Whether there are no more simples than `verify` takes.
 #[tactic(auto, using(data_print::proofs::Ranks::sum_small))]
 fn few_simples(ranks: &Nats) -> Result<(), Stop>
@@ -55,12 +63,12 @@ fn few_simples(ranks: &Nats) -> Result<(), Stop>
     requires small { All (λ rank. rank ≤ 60) ranks.now }
     ensures follows { Follows (λ done. tt) result (simples_step (sum ranks.now)) }
 {
-    let total = ranks.as_slice().iter().sum();
-    if total <= MOST_SIMPLES {
+    let ranks = total(ranks.as_slice());
+    if ranks <= MOST_SIMPLES {
         Ok(())
     } else {
         Err(Stop::Refused(Cause::Simples {
-            ranks: total,
+            ranks,
             most: MOST_SIMPLES,
         }))
     }
