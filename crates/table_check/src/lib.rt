@@ -1,12 +1,11 @@
 //! The check of a table of projective characters of a twisted centraliser.
 #![tactic(auto)]
 
-mod candidate;
 mod algebra_clauses;
+mod candidate;
 mod compared;
 mod conjugated;
 mod identity_name;
-
 mod miss;
 mod refusal;
 mod refusals;
