@@ -1,0 +1,32 @@
+-- The full characters of the simples of a twisted quantum double, and the sum of its matrix S.
+use Rattle.std.specs.Prelude.{Bool}
+use Rattle.algebra.specs.Sums.{pick}
+use Rattle.algebra.specs.Totals.{equals, total}
+use Rattle.algebra.specs.Groups.{conj}
+use Rattle.phases.specs.Phases.{transport_phase}
+use Rattle.characters.specs.Setting.{Setting, Classes, commute}
+use Rattle.characters.specs.Simples.{Simples}
+
+module _ {A G : Type 0} (T : Setting A G) where
+  -- the root by which the value at x in the algebra of g is carried along k
+  unfoldable pub transport_root : G → G → G → A
+  transport_root g x k = T.roots.root (transport_phase T.group T.modulus T.cochain g x k)
+
+module _ {A G S : Type 0} (T : Setting A G) (C : Classes T.group) (X : Simples T C S) where
+  -- whether g is in the class of the simple i
+  unfoldable pub in_class : S → G → Bool
+  in_class i g = equals T.finite (C.representative g) (X.at i)
+
+  -- the full character of i at g = k a k^-1 and x with g x = x g: e(th_g(x,k) / th_g(k, k^-1 x k)) times the value of i at k^-1 x k. It is
+  -- nought elsewhere (Coste, Gannon, Ruelle 2000, as the character of an induced module)
+  unfoldable pub full_character : S → G → G → A
+  full_character i g x =
+      pick T.ring (in_class i g)
+      (pick T.ring (commute T g x) (T.ring.mul (transport_root T g x (C.carrier g)) (X.value i (conj T.group x (C.carrier g)))))
+
+  -- the order of the group times the entry of S at i and j: the sum over all g and h with g h = h g of the conjugate of the product of the
+  -- full characters of i at g and h and of j at h and g (Coste, Gannon, Ruelle 2000)
+  unfoldable pub s_sum : S → S → A
+  s_sum i j =
+      total T.ring T.finite (λ g. total T.ring T.finite (λ h. pick T.ring (commute T g h)
+      (T.ring.mul (T.involution.bar (full_character i g h)) (T.involution.bar (full_character j h g)))))

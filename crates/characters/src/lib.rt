@@ -1,0 +1,2 @@
+//! Full characters of a twisted quantum double.
+#![tactic(auto)]
