@@ -2,12 +2,12 @@
 use Rattle.std.proofs.Common.{◌≡◌, ℕ, ◌+◌, Bool, true, false, refl, sym, ◌∙◌, ap}
 use Rattle.algebra.specs.Groups.{conj}
 use Rattle.algebra.specs.Congruences.{Same}
-use Rattle.algebra.proofs.RingLaws.{product_rules, one_mul}
+use Rattle.algebra.proofs.RingLaws.{product_rules}
 use Rattle.algebra.proofs.GroupLaws.{conj_of_commuting, op_conj, conj_injective}
 use Rattle.algebra.proofs.TotalLaws.{equals_true, equals_of}
 use Rattle.phases.specs.Phases.{transport_phase}
 use Rattle.phases.proofs.PhaseLaws.{transport_phase_composes, transport_phases_inverse, transport_phase_along_one, transport_phase_of_one, transport_phase_at_one}
-use Rattle.characters.specs.Setting.{Setting, Classes, Commuting, commute}
+use Rattle.characters.specs.Setting.{Setting, Commuting, commute}
 use Rattle.characters.specs.FullCharacters.{transport_root}
 
 -- tests that imply each other are one

@@ -24,9 +24,15 @@ module _ {A G S : Type 0} (T : Setting A G) (C : Classes T.group) (X : Simples T
       pick T.ring (in_class i g)
       (pick T.ring (commute T g x) (T.ring.mul (transport_root T g x (C.carrier g)) (X.value i (conj T.group x (C.carrier g)))))
 
-  -- the order of the group times the entry of S at i and j: the sum over all g and h with g h = h g of the conjugate of the product of the
-  -- full characters of i at g and h and of j at h and g (Coste, Gannon, Ruelle 2000)
+  -- the term of S at g and h: the conjugate of the product of the full characters of i at g and h, and of j at h and g
+  unfoldable pub pair_term : S → S → G → G → A
+  pair_term i j g h = T.ring.mul (T.involution.bar (full_character i g h)) (T.involution.bar (full_character j h g))
+
+  -- the order of the group times the entry of S at i and j: the sum of these terms over all g and h with g h = h g
+  -- (Coste, Gannon, Ruelle 2000)
   unfoldable pub s_sum : S → S → A
-  s_sum i j =
-      total T.ring T.finite (λ g. total T.ring T.finite (λ h. pick T.ring (commute T g h)
-      (T.ring.mul (T.involution.bar (full_character i g h)) (T.involution.bar (full_character j h g)))))
+  s_sum i j = total T.ring T.finite (λ g. total T.ring T.finite (λ h. pick T.ring (commute T g h) (pair_term i j g h)))
+
+  -- the dimension: the size of the class times the degree, as an element of the ring (textbook)
+  unfoldable pub dimension : S → A
+  dimension i = total T.ring T.finite (λ g. pick T.ring (in_class i g) (X.value i T.group.one))
