@@ -55,8 +55,8 @@ module _ {A G S : Type 0} (T : Setting A G) (C : Classes T.group) (X : Simples T
       let back : T.group.op (T.group.op c y) (T.group.inv c) ≡ x = simp (conj_is, group_rules, T.group) in
       let v : ℕ = kappa T.group T.modulus T.cochain a c y in
       let opposite : T.involution.bar (T.roots.root v) ≡ transport_root T a x c =
-          root_opposite T v (transport_phase T.group T.modulus T.cochain a (T.group.op (T.group.op c y) (T.group.inv c)) c) (kappa_is_transport T.group T.modulus T.cochain T.cocycle a c y)
-          ∙ ap (λ z. T.roots.root (transport_phase T.group T.modulus T.cochain a z c)) back ∙ sym (transport_root_is T a x c) in
+      root_opposite T v (transport_phase T.group T.modulus T.cochain a (T.group.op (T.group.op c y) (T.group.inv c)) c) (kappa_is_transport T.group T.modulus T.cochain T.cocycle a c y)
+      ∙ ap (λ z. T.roots.root (transport_phase T.group T.modulus T.cochain a z c)) back ∙ sym (transport_root_is T a x c) in
       sym (T.involution.bar_bar (X.value i x))
       ∙ ap T.involution.bar (ap (λ z. T.involution.bar (X.value i z)) (sym back) ∙ X.central i c y commuting_c commuting_y)
       ∙ T.involution.bar_mul (T.roots.root v) (T.involution.bar (X.value i y))
@@ -72,8 +72,8 @@ module _ {A G S : Type 0} (T : Setting A G) (C : Classes T.group) (X : Simples T
       let fixed : conj T.group (X.at i) c ≡ X.at i = ap (λ b. conj T.group b c) (sym along_k) ∙ sym (conj_op T.group g k c) ∙ ap (conj T.group g) whole ∙ along_l in
       let commuting_y : Commuting T y (X.at i) = subst (λ b. Commuting T y b) along_k (commuting_conj T x g k (sym commuting)) in
       let further : transport_root T g x l ≡ T.ring.mul (transport_root T g x k) (transport_root T (X.at i) y c) =
-          ap (transport_root T g x) (sym whole) ∙ transport_root_composes T g x k c commuting
-          ∙ ap (λ b. T.ring.mul (transport_root T g x k) (transport_root T b y c)) along_k in
+      ap (transport_root T g x) (sym whole) ∙ transport_root_composes T g x k c commuting
+      ∙ ap (λ b. T.ring.mul (transport_root T g x k) (transport_root T b y c)) along_k in
       let end : conj T.group y c ≡ conj T.group x l = sym (conj_op T.group x k c) ∙ ap (conj T.group x) whole in
       ap (T.ring.mul (transport_root T g x k)) (value_carried i y c commuting_y (sym (commuting_of_conj T.group (X.at i) c fixed)) ∙ ap (λ z. T.ring.mul (transport_root T (X.at i) y c) (X.value i z)) end)
       ∙ sym (T.ring.mul_assoc (transport_root T g x k) (transport_root T (X.at i) y c) (X.value i (conj T.group x l)))

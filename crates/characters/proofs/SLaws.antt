@@ -112,15 +112,15 @@ module _ {A G S : Type 0} (T : Setting A G) (C : Classes T.group) (X : Simples T
           by true e =
               let at_one : g ≡ T.group.one = equals_true T.finite g T.group.one e in
               let first : T.involution.bar (full_character T C X v g h) ≡ T.ring.one =
-                  ap T.involution.bar (full_character_of_vacuum v V g h ∙ pick_of T.ring _ _ e) ∙ bar_one T.ring T.involution in
+              ap T.involution.bar (full_character_of_vacuum v V g h ∙ pick_of T.ring _ _ e) ∙ bar_one T.ring T.involution in
               let second : T.involution.bar (full_character T C X j h g) ≡ pick T.ring (in_class T C X j h) (X.value j T.group.one) =
-                  ap T.involution.bar (ap (full_character T C X j h) at_one ∙ full_character_at_one j h)
-                  ∙ pick_map T.ring T.ring T.involution.bar T.involution.bar_add (in_class T C X j h) (X.value j T.group.one)
-                  ∙ ap (pick T.ring (in_class T C X j h)) (degree_bar j) in
+              ap T.involution.bar (ap (full_character T C X j h) at_one ∙ full_character_at_one j h)
+              ∙ pick_map T.ring T.ring T.involution.bar T.involution.bar_add (in_class T C X j h) (X.value j T.group.one)
+              ∙ ap (pick T.ring (in_class T C X j h)) (degree_bar j) in
               pick_of T.ring _ _ (commute_of T g h (one_commutes g h at_one))
               ∙ pair_term_is v j g h ∙ ap₂ T.ring.mul first second ∙ one_mul T.ring _ ∙ sym (pick_true T.ring _)
           by false e =
               let first : T.involution.bar (full_character T C X v g h) ≡ T.ring.nought =
-                  ap T.involution.bar (full_character_of_vacuum v V g h ∙ pick_off T.ring _ _ e) ∙ bar_nought T.ring T.involution in
+              ap T.involution.bar (full_character_of_vacuum v V g h ∙ pick_off T.ring _ _ e) ∙ bar_nought T.ring T.involution in
               ap (pick T.ring (commute T g h)) (pair_term_is v j g h ∙ ap (λ z. T.ring.mul z (T.involution.bar (full_character T C X j h g))) first ∙ nought_mul T.ring _)
               ∙ pick_nought T.ring _ ∙ sym (pick_false T.ring _)

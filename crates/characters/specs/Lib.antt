@@ -1,3 +1,4 @@
 pub mod Setting
 pub mod Simples
 pub mod FullCharacters
+pub mod Theorems
