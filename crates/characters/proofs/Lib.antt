@@ -1,3 +1,4 @@
 pub mod SettingLaws
 pub mod CharacterLaws
 pub mod SLaws
+pub mod SubgroupLaws
