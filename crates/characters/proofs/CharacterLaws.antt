@@ -1,5 +1,5 @@
 -- Full characters do not depend on the carrier, and are covariant.
-use Rattle.std.proofs.Common.{◌≡◌, ℕ, Bool, true, false, refl, sym, ◌∙◌, ap, subst}
+use Rattle.std.proofs.Common.{◌≡◌, Bool, true, false, refl, sym, ◌∙◌, ap, subst}
 use mathlib.Core.Path.{ap₂}
 use Rattle.algebra.specs.Sums.{pick}
 use Rattle.algebra.specs.Groups.{conj}
@@ -7,12 +7,11 @@ use Rattle.algebra.proofs.RingLaws.{mul_nought}
 use Rattle.algebra.proofs.SumLaws.{pick_of, pick_off, pick_nought}
 use Rattle.algebra.proofs.GroupLaws.{group_rules, conj_is, conj_op, conj_of_commuting, commuting_of_conj, op_inv_op}
 use Rattle.algebra.proofs.TotalLaws.{equals_true, equals_of}
-use Rattle.phases.specs.Phases.{transport_phase, kappa}
-use Rattle.phases.proofs.PhaseLaws.{kappa_is_transport}
 use Rattle.characters.specs.Setting.{Setting, Classes, Commuting, commute}
+use Rattle.characters.specs.PhaseRoots.{transport_root, conjugation_root}
 use Rattle.characters.specs.Simples.{Simples}
-use Rattle.characters.specs.FullCharacters.{transport_root, in_class, full_character}
-use Rattle.characters.proofs.SettingLaws.{commute_of, commuting_conj, root_opposite, transport_root_is, transport_root_composes}
+use Rattle.characters.specs.FullCharacters.{in_class, full_character}
+use Rattle.characters.proofs.SettingLaws.{commute_of, commuting_conj, conjugation_root_bar, transport_root_composes}
 
 module _ {A G S : Type 0} (T : Setting A G) (C : Classes T.group) (X : Simples T C S) where
   pub full_character_is : (i : S) (g x : G) →
@@ -53,13 +52,11 @@ module _ {A G S : Type 0} (T : Setting A G) (C : Classes T.group) (X : Simples T
       let fixed : conj T.group a c ≡ a = conj_of_commuting T.group a c (sym commuting_c) in
       let commuting_y : Commuting T y a = subst (λ b. Commuting T y b) fixed (commuting_conj T x a c commuting_x) in
       let back : T.group.op (T.group.op c y) (T.group.inv c) ≡ x = simp (conj_is, group_rules, T.group) in
-      let v : ℕ = kappa T.group T.modulus T.cochain a c y in
-      let opposite : T.involution.bar (T.roots.root v) ≡ transport_root T a x c =
-      root_opposite T v (transport_phase T.group T.modulus T.cochain a (T.group.op (T.group.op c y) (T.group.inv c)) c) (kappa_is_transport T.group T.modulus T.cochain T.cocycle a c y)
-      ∙ ap (λ z. T.roots.root (transport_phase T.group T.modulus T.cochain a z c)) back ∙ sym (transport_root_is T a x c) in
+      let opposite : T.involution.bar (conjugation_root T a c y) ≡ transport_root T a x c =
+      conjugation_root_bar T a c y ∙ ap (λ z. transport_root T a z c) back in
       sym (T.involution.bar_bar (X.value i x))
       ∙ ap T.involution.bar (ap (λ z. T.involution.bar (X.value i z)) (sym back) ∙ X.central i c y commuting_c commuting_y)
-      ∙ T.involution.bar_mul (T.roots.root v) (T.involution.bar (X.value i y))
+      ∙ T.involution.bar_mul (conjugation_root T a c y) (T.involution.bar (X.value i y))
       ∙ ap₂ T.ring.mul opposite (T.involution.bar_bar (X.value i y))
 
   -- along two elements that carry g to the representative

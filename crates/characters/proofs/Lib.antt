@@ -1,4 +1,5 @@
 pub mod SettingLaws
 pub mod CharacterLaws
 pub mod SLaws
-pub mod SubgroupLaws
+pub mod PartLaws
+pub mod AlgebraLaws

@@ -10,8 +10,9 @@ use Rattle.algebra.proofs.GroupLaws.{conj_inv, one_conj}
 use Rattle.algebra.proofs.InvolutionLaws.{bar_one, bar_nought}
 use Rattle.algebra.proofs.TotalLaws.{total_ext, total_exchange, total_pick, equals_true, equals_of}
 use Rattle.characters.specs.Setting.{Setting, Classes, Commuting, commute}
+use Rattle.characters.specs.PhaseRoots.{transport_root}
 use Rattle.characters.specs.Simples.{Simples, IsVacuum}
-use Rattle.characters.specs.FullCharacters.{transport_root, in_class, full_character, pair_term, s_sum, dimension}
+use Rattle.characters.specs.FullCharacters.{in_class, full_character, pair_term, s_sum, dimension}
 use Rattle.characters.proofs.SettingLaws.{same_test, commute_of, commute_symmetric, transport_roots_inverse, transport_root_of_one, transport_root_at_one}
 use Rattle.characters.proofs.CharacterLaws.{full_character_is, covariance, in_class_true, in_class_of}
 

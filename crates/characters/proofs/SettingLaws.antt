@@ -2,13 +2,13 @@
 use Rattle.std.proofs.Common.{◌≡◌, ℕ, ◌+◌, Bool, true, false, refl, sym, ◌∙◌, ap}
 use Rattle.algebra.specs.Groups.{conj}
 use Rattle.algebra.specs.Congruences.{Same}
-use Rattle.algebra.proofs.RingLaws.{product_rules}
+use Rattle.algebra.proofs.RingLaws.{product_rules, one_mul}
 use Rattle.algebra.proofs.GroupLaws.{conj_of_commuting, op_conj, conj_injective}
 use Rattle.algebra.proofs.TotalLaws.{equals_true, equals_of}
 use Rattle.phases.specs.Phases.{transport_phase}
-use Rattle.phases.proofs.PhaseLaws.{transport_phase_composes, transport_phases_inverse, transport_phase_along_one, transport_phase_of_one, transport_phase_at_one}
+use Rattle.phases.proofs.PhaseLaws.{kappa_is, kappa_is_transport, transport_phase_back, transport_phase_composes, transport_phases_inverse, transport_phase_along_one, transport_phase_of_one, transport_phase_at_one}
 use Rattle.characters.specs.Setting.{Setting, Commuting, commute}
-use Rattle.characters.specs.FullCharacters.{transport_root}
+use Rattle.characters.specs.PhaseRoots.{slant_root, transport_root, conjugation_root}
 
 -- tests that imply each other are one
 pub same_test : (b c : Bool) → (b ≡ true → c ≡ true) → (c ≡ true → b ≡ true) → b ≡ c
@@ -40,6 +40,17 @@ module _ {A G : Type 0} (T : Setting A G) where
       same_test (commute T (conj T.group g c) (conj T.group x c)) (commute T g x)
       (λ h. commute_of g x (commuting_back g x c (commute_true (conj T.group g c) (conj T.group x c) h)))
       (λ h. commute_of (conj T.group g c) (conj T.group x c) (commuting_conj g x c (commute_true g x h)))
+
+  -- what commutes with an element is closed under products
+  pub commuting_product : (x y a : G) → Commuting T x a → Commuting T y a → Commuting T (T.group.op x y) a
+  commuting_product x y a p q =
+      T.group.op_assoc x y a ∙ ap (T.group.op x) q ∙ sym (T.group.op_assoc x a y) ∙ ap (λ z. T.group.op z y) p ∙ T.group.op_assoc a x y
+
+  -- a factor with an inverse may be cancelled
+  pub cancel_unit : (r s x y : A) → T.ring.mul r s ≡ T.ring.one → T.ring.mul r x ≡ T.ring.mul r y → x ≡ y
+  cancel_unit r s x y unit e =
+      let back : (z : A) → T.ring.mul s (T.ring.mul r z) ≡ z = λ z. sym (T.ring.mul_assoc s r z) ∙ ap (λ b. T.ring.mul b z) (T.ring.mul_comm s r ∙ unit) ∙ one_mul T.ring z in
+      sym (back x) ∙ ap (T.ring.mul s) e ∙ back y
 
   -- an element has one inverse
   pub inverse_unique : (u v z : A) → T.ring.mul u v ≡ T.ring.one → T.ring.mul u z ≡ T.ring.one → v ≡ z
@@ -92,3 +103,29 @@ module _ {A G : Type 0} (T : Setting A G) where
   pub transport_root_at_one : (x k : G) → transport_root T T.group.one x k ≡ T.ring.one
   unfolding transport_root
   transport_root_at_one x k = ap T.roots.root (transport_phase_at_one T.group T.modulus T.cochain T.cocycle x k) ∙ T.roots.root_zero
+
+  pub transport_root_back : (g x k : G) → Commuting T g x →
+      transport_root T (conj T.group g k) (conj T.group x k) (T.group.inv k) ≡ T.involution.bar (transport_root T g x k)
+  unfolding transport_root
+  transport_root_back g x k commuting =
+      inverse_unique _ _ _
+      (T.ring.mul_comm _ _ ∙ sym (T.roots.root_add _ _)
+      ∙ T.roots.root_same _ _ (transport_phase_back T.group T.modulus T.cochain T.cocycle g x k (conj_of_commuting T.group x g (sym commuting))) ∙ T.roots.root_zero)
+      (transport_root_bar g x k)
+
+  -- the roots of the twisted group algebra of a
+
+  pub slant_root_bar : (a x y : G) → T.ring.mul (slant_root T a x y) (T.involution.bar (slant_root T a x y)) ≡ T.ring.one
+  unfolding slant_root
+  slant_root_bar a x y = T.root_bar _
+
+  -- e(ka(c,x)) e(th_a(c x c^-1, c)) = e(th_a(c,x))
+  pub conjugation_root_is : (a c x : G) →
+      T.ring.mul (conjugation_root T a c x) (slant_root T a (T.group.op (T.group.op c x) (T.group.inv c)) c) ≡ slant_root T a c x
+  unfolding slant_root conjugation_root
+  conjugation_root_is a c x = sym (T.roots.root_add _ _) ∙ T.roots.root_same _ _ (kappa_is T.group T.modulus T.cochain T.cocycle a c x)
+
+  -- conjugation by c undoes transport along c
+  pub conjugation_root_bar : (a c x : G) → T.involution.bar (conjugation_root T a c x) ≡ transport_root T a (T.group.op (T.group.op c x) (T.group.inv c)) c
+  unfolding conjugation_root transport_root
+  conjugation_root_bar a c x = root_opposite _ _ (kappa_is_transport T.group T.modulus T.cochain T.cocycle a c x)

@@ -3,14 +3,9 @@ use Rattle.std.specs.Prelude.{Bool}
 use Rattle.algebra.specs.Sums.{pick}
 use Rattle.algebra.specs.Totals.{equals, total}
 use Rattle.algebra.specs.Groups.{conj}
-use Rattle.phases.specs.Phases.{transport_phase}
 use Rattle.characters.specs.Setting.{Setting, Classes, commute}
+use Rattle.characters.specs.PhaseRoots.{transport_root}
 use Rattle.characters.specs.Simples.{Simples}
-
-module _ {A G : Type 0} (T : Setting A G) where
-  -- the root by which the value at x in the algebra of g is carried along k
-  unfoldable pub transport_root : G → G → G → A
-  transport_root g x k = T.roots.root (transport_phase T.group T.modulus T.cochain g x k)
 
 module _ {A G S : Type 0} (T : Setting A G) (C : Classes T.group) (X : Simples T C S) where
   -- whether g is in the class of the simple i

@@ -1,6 +1,7 @@
 pub mod Setting
+pub mod PhaseRoots
 pub mod Simples
 pub mod FullCharacters
 pub mod Tables
-pub mod Subgroups
+pub mod Parts
 pub mod Theorems

@@ -1,8 +1,8 @@
 -- The simples of a twisted quantum double, by their projective characters.
 use Rattle.std.specs.Prelude.{◌≡◌, ℕ, ◌≤◌}
 use Rattle.algebra.specs.Sums.{multiple}
-use Rattle.phases.specs.Phases.{kappa}
 use Rattle.characters.specs.Setting.{Setting, Classes, Commuting}
+use Rattle.characters.specs.PhaseRoots.{conjugation_root}
 
 -- simples, numbered by a type: each has the representative a of a class, and a row of values at the elements that commute with a, of
 -- which the conjugates are the coefficients of a central element of the twisted group algebra of a (Coste, Gannon, Ruelle 2000)
@@ -17,7 +17,7 @@ pub record Simples {A G : Type 0} (T : Setting A G) (C : Classes T.group) (S : T
   -- the conjugate of the value at c x c^-1 is e(ka(c,x)) times that of the value at x
   pub central : (i : S) (c x : G) → Commuting T c (at i) → Commuting T x (at i)
       → T.involution.bar (value i (T.group.op (T.group.op c x) (T.group.inv c)))
-      ≡ T.ring.mul (T.roots.root (kappa T.group T.modulus T.cochain (at i) c x)) (T.involution.bar (value i x))
+      ≡ T.ring.mul (conjugation_root T (at i) c x) (T.involution.bar (value i x))
 
 -- the vacuum: all values 1, over the class of the identity (Coste, Gannon, Ruelle 2000)
 pub record IsVacuum {A G S : Type 0} {T : Setting A G} {C : Classes T.group} (X : Simples T C S) (v : S) : Type 0 where

@@ -3,8 +3,8 @@ use Rattle.std.specs.Prelude.{◌≡◌, ℕ, ◌≤◌}
 use Rattle.algebra.specs.Structures.{CommRing}
 use Rattle.algebra.specs.Sums.{pick, multiple}
 use Rattle.algebra.specs.Totals.{Finite, equals, total}
-use Rattle.phases.specs.Phases.{theta, kappa}
 use Rattle.characters.specs.Setting.{Setting, Classes, Commuting, commute}
+use Rattle.characters.specs.PhaseRoots.{slant_root, conjugation_root}
 use Rattle.characters.specs.Simples.{Simples}
 
 -- only nought has a multiple by a whole number from 1 on that is nought (textbook)
@@ -20,19 +20,11 @@ module _ {A G : Type 0} (T : Setting A G) where
   unfoldable pub centraliser_order : G → A
   centraliser_order a = total T.ring T.finite (λ x. pick T.ring (commute T x a) T.ring.one)
 
-  -- the root of th_a(x,y)
-  unfoldable pub slant_root : G → G → G → A
-  slant_root a x y = T.roots.root (theta T.group T.modulus T.cochain a x y)
-
-  -- the root of ka(c,x) in the algebra of a
-  unfoldable pub conjugation_root : G → G → G → A
-  conjugation_root a c x = T.roots.root (kappa T.group T.modulus T.cochain a c x)
-
   -- the product in the twisted group algebra of a at x: the sum over y of e(th_a(y, y^-1 x)) p(y) r(y^-1 x) (textbook)
   unfoldable pub centraliser_product : G → (G → A) → (G → A) → G → A
   centraliser_product a p r x =
       total T.ring T.finite (λ y. pick T.ring (commute T y a)
-      (T.ring.mul (slant_root a y (T.group.op (T.group.inv y) x)) (T.ring.mul (p y) (r (T.group.op (T.group.inv y) x)))))
+      (T.ring.mul (slant_root T a y (T.group.op (T.group.inv y) x)) (T.ring.mul (p y) (r (T.group.op (T.group.inv y) x)))))
 
 -- the rows over each representative a are the characters of the simple modules of its twisted group algebra: with E_i for the element whose
 -- coefficients are the conjugates of the values of i, and m for the order of the centraliser (Coste, Gannon, Ruelle 2000, and textbook)

@@ -1,38 +1,17 @@
--- From the places of a subgroup to the elements of the whole group.
+-- From places to elements.
 use Rattle.std.proofs.Common.{◌≡◌, Bool, true, false, refl, sym, ◌∙◌, ap, subst}
 use mathlib.Core.Path.{ap₂}
 use Rattle.algebra.specs.Structures.{CommRing}
 use Rattle.algebra.specs.Sums.{pick}
 use Rattle.algebra.specs.Totals.{Finite, equals, total}
-use Rattle.algebra.specs.Groups.{Group, conj}
-use Rattle.algebra.proofs.RingLaws.{product_rules}
-use Rattle.algebra.proofs.SumLaws.{pick_of, pick_off, pick_true, pick_false, pick_nought, pick_same}
-use Rattle.algebra.proofs.GroupLaws.{inv_unique, op_cancel_left, inv_op_op, op_op_inv}
+use Rattle.algebra.specs.Groups.{Group}
+use Rattle.algebra.proofs.SumLaws.{pick_off, pick_true, pick_false, pick_same}
+use Rattle.algebra.proofs.GroupLaws.{inv_unique, op_cancel_left}
 use Rattle.algebra.proofs.TotalLaws.{total_ext, total_exchange, total_pick, total_nought, equals_true, equals_of}
-use Rattle.phases.proofs.PhaseLaws.{kappa_is}
-use Rattle.characters.specs.Setting.{Setting, Classes, Commuting, commute}
-use Rattle.characters.specs.Simples.{Simples}
-use Rattle.characters.specs.Tables.{slant_root, conjugation_root, centraliser_order, centraliser_product}
-use Rattle.characters.specs.Subgroups.{IsSubgroup}
-use Rattle.characters.proofs.SettingLaws.{same_test, commute_of, commute_true}
+use Rattle.characters.specs.Parts.{IsPart, IsSubgroup}
+use Rattle.characters.proofs.SettingLaws.{same_test}
 
-module _ {G K : Type 0} (P : Group G) (inside : G → Bool) (Q : Group K) (element : K → G) (I : IsSubgroup P inside Q element) where
-  pub element_one : element Q.one ≡ P.one
-  element_one =
-      op_cancel_left P (element Q.one) (element Q.one) P.one
-      (sym (I.respects Q.one Q.one) ∙ ap element (Q.op_one Q.one) ∙ sym (P.op_one (element Q.one)))
-
-  pub element_inv : (p : K) → element (Q.inv p) ≡ P.inv (element p)
-  element_inv p = inv_unique P (element p) (element (Q.inv p)) (sym (I.respects p (Q.inv p)) ∙ ap element (Q.op_inv p) ∙ element_one)
-
-  -- the place of p^-1 r
-  pub element_quotient : (p r : K) → element (Q.op (Q.inv p) r) ≡ P.op (P.inv (element p)) (element r)
-  element_quotient p r = I.respects (Q.inv p) r ∙ ap (λ x. P.op x (element r)) (element_inv p)
-
-  -- the place of c p c^-1
-  pub element_conjugate : (c p : K) → element (Q.op (Q.op c p) (Q.inv c)) ≡ P.op (P.op (element c) (element p)) (P.inv (element c))
-  element_conjugate c p = I.respects (Q.op c p) (Q.inv c) ∙ ap₂ P.op (I.respects c p) (element_inv c)
-
+module _ {G K : Type 0} (inside : G → Bool) (element : K → G) (I : IsPart inside element) where
   -- what holds at every place holds at every element within
   pub at_elements : (holds : G → Type 0) → ((p : K) → holds (element p)) → (x : G) → inside x ≡ true → holds x
   at_elements holds at x h = let found = I.found x h in subst holds found.1 (at found.0)
@@ -67,3 +46,20 @@ module _ {G K : Type 0} (P : Group G) (inside : G → Bool) (Q : Group K) (eleme
           apart : (p : K) (b : Bool) → equals F x (element p) ≡ b → b ≡ false
           apart p true e = absurd (let wrong : true ≡ false = sym (I.within p) ∙ ap inside (sym (equals_true F x (element p) e)) ∙ h in cc)
           apart p false e = refl
+
+module _ {G K : Type 0} (P : Group G) (inside : G → Bool) (Q : Group K) (element : K → G) (I : IsSubgroup P inside Q element) where
+  pub element_one : element Q.one ≡ P.one
+  element_one =
+      op_cancel_left P (element Q.one) (element Q.one) P.one
+      (sym (I.respects Q.one Q.one) ∙ ap element (Q.op_one Q.one) ∙ sym (P.op_one (element Q.one)))
+
+  pub element_inv : (p : K) → element (Q.inv p) ≡ P.inv (element p)
+  element_inv p = inv_unique P (element p) (element (Q.inv p)) (sym (I.respects p (Q.inv p)) ∙ ap element (Q.op_inv p) ∙ element_one)
+
+  -- the place of p^-1 r
+  pub element_quotient : (p r : K) → element (Q.op (Q.inv p) r) ≡ P.op (P.inv (element p)) (element r)
+  element_quotient p r = I.respects (Q.inv p) r ∙ ap (λ x. P.op x (element r)) (element_inv p)
+
+  -- the place of c p c^-1
+  pub element_conjugate : (c p : K) → element (Q.op (Q.op c p) (Q.inv c)) ≡ P.op (P.op (element c) (element p)) (P.inv (element c))
+  element_conjugate c p = I.respects (Q.op c p) (Q.inv c) ∙ ap₂ P.op (I.respects c p) (element_inv c)
