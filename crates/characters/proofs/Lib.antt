@@ -3,3 +3,4 @@ pub mod CharacterLaws
 pub mod SLaws
 pub mod PartLaws
 pub mod AlgebraLaws
+pub mod OrthogonalityLaws

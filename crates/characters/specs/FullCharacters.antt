@@ -7,6 +7,11 @@ use Rattle.characters.specs.Setting.{Setting, Classes, commute}
 use Rattle.characters.specs.PhaseRoots.{transport_root}
 use Rattle.characters.specs.Simples.{Simples}
 
+module _ {A G : Type 0} (T : Setting A G) where
+  -- the inner product of two functions of pairs that commute: the sum of p with the conjugate of r (textbook)
+  unfoldable pub inner_product : (G → G → A) → (G → G → A) → A
+  inner_product p r = total T.ring T.finite (λ g. total T.ring T.finite (λ x. pick T.ring (commute T g x) (T.ring.mul (p g x) (T.involution.bar (r g x)))))
+
 module _ {A G S : Type 0} (T : Setting A G) (C : Classes T.group) (X : Simples T C S) where
   -- whether g is in the class of the simple i
   unfoldable pub in_class : S → G → Bool
