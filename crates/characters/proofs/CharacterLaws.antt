@@ -2,6 +2,7 @@
 use Rattle.std.proofs.Common.{◌≡◌, Bool, true, false, refl, sym, ◌∙◌, ap, subst}
 use mathlib.Core.Path.{ap₂}
 use Rattle.algebra.specs.Sums.{pick}
+use Rattle.algebra.specs.Totals.{equals}
 use Rattle.algebra.specs.Groups.{conj}
 use Rattle.algebra.proofs.RingLaws.{mul_nought}
 use Rattle.algebra.proofs.SumLaws.{pick_of, pick_off, pick_nought}
@@ -19,6 +20,15 @@ module _ {A G S : Type 0} (T : Setting A G) (C : Classes T.group) (X : Simples T
       ≡ pick T.ring (in_class T C X i g) (pick T.ring (commute T g x) (T.ring.mul (transport_root T g x (C.carrier g)) (X.value i (conj T.group x (C.carrier g)))))
   unfolding full_character
   full_character_is i g x = refl
+
+  pub in_class_is : (i : S) (g : G) → in_class T C X i g ≡ equals T.finite (C.representative g) (X.at i)
+  unfolding in_class
+  in_class_is i g = refl
+
+  -- at a pair that commutes
+  pub full_character_at : (i : S) (g x : G) → Commuting T g x →
+      full_character T C X i g x ≡ pick T.ring (in_class T C X i g) (T.ring.mul (transport_root T g x (C.carrier g)) (X.value i (conj T.group x (C.carrier g))))
+  full_character_at i g x commuting = full_character_is i g x ∙ ap (pick T.ring (in_class T C X i g)) (pick_of T.ring _ _ (commute_of T g x commuting))
 
   pub in_class_true : (i : S) (g : G) → in_class T C X i g ≡ true → C.representative g ≡ X.at i
   unfolding in_class

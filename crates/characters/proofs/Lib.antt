@@ -4,3 +4,5 @@ pub mod SLaws
 pub mod PartLaws
 pub mod AlgebraLaws
 pub mod OrthogonalityLaws
+pub mod SecondOrthogonality
+pub mod Expansion

@@ -16,7 +16,8 @@ use Rattle.characters.specs.Tables.{IsTorsionFree, group_order, centraliser_orde
 use Rattle.characters.specs.FullCharacters.{in_class, full_character, inner_product}
 use Rattle.characters.proofs.SettingLaws.{same_test, commute_of, commute_true, commute_symmetric, commute_conj, commuting_conj, slant_root_bar, transport_root_bar}
 use Rattle.characters.proofs.AlgebraLaws.{centraliser_order_is, centraliser_product_is}
-use Rattle.characters.proofs.CharacterLaws.{full_character_is, full_character_off, in_class_true, in_class_of}
+use Rattle.characters.proofs.CharacterLaws.{full_character_is, full_character_off, in_class_is, in_class_true}
+use Rattle.algebra.proofs.InvolutionLaws.{bar_nought}
 use Rattle.characters.proofs.SLaws.{degree_bar}
 
 -- equal multiples by a whole number from 1 on are those of equal elements
@@ -138,6 +139,11 @@ module _ {A G S : Type 0} (T : Setting A G) (C : Classes T.group) (X : Simples T
       total T.ring T.finite (λ y. pick T.ring (commute T y (X.at i)) (T.ring.mul (T.involution.bar (X.value i y)) (X.value j y))) ≡ T.ring.nought
   row_orthogonality_other i j same apart = sym (product_at_one i j same) ∙ good.product_other i j T.group.one same apart (one_commutes (X.at i))
 
+  nought_at : (i j : S) (g : G) → ((x : G) → T.ring.mul (full_character T C X i g x) (T.involution.bar (full_character T C X j g x)) ≡ T.ring.nought) →
+      total T.ring T.finite (λ x. pick T.ring (commute T g x) (T.ring.mul (full_character T C X i g x) (T.involution.bar (full_character T C X j g x)))) ≡ T.ring.nought
+  nought_at i j g none =
+      total_ext T.ring T.finite _ (λ x. T.ring.nought) (λ x. ap (pick T.ring (commute T g x)) (none x) ∙ pick_nought T.ring (commute T g x)) ∙ total_nought T.ring T.finite
+
   -- the pairs with one first element add up to what the rows do
   pairs_at : (i j : S) (g : G) → in_class T C X i g ≡ true → in_class T C X j g ≡ true →
       total T.ring T.finite (λ x. pick T.ring (commute T g x) (T.ring.mul (full_character T C X i g x) (T.involution.bar (full_character T C X j g x))))
@@ -163,3 +169,42 @@ module _ {A G S : Type 0} (T : Setting A G) (C : Classes T.group) (X : Simples T
           let r : A = transport_root T g x (C.carrier g) in
           ap₂ T.ring.mul (value_here i x inside_i commutes) (ap T.involution.bar (value_here j x inside_j commutes) ∙ T.involution.bar_mul r (X.value j (conj T.group x (C.carrier g))))
           ∙ unit_between T r (T.involution.bar r) _ _ (transport_root_bar T g x (C.carrier g))
+
+  -- the full character of i with itself
+  pub first_orthogonality_self : (i : S) → inner_product T (full_character T C X i) (full_character T C X i) ≡ group_order T
+  first_orthogonality_self i =
+      inner_product_is T (full_character T C X i) (full_character T C X i)
+      ∙ total_ext T.ring T.finite _ _ (λ g. by g (in_class T C X i g) refl ∙ ap (λ b. pick T.ring b (centraliser_order T (X.at i))) (in_class_is T C X i g))
+      ∙ class_equation T C (X.at i) (X.at_representative i)
+    where
+      by : (g : G) (b : Bool) → in_class T C X i g ≡ b →
+          total T.ring T.finite (λ x. pick T.ring (commute T g x) (T.ring.mul (full_character T C X i g x) (T.involution.bar (full_character T C X i g x)))) ≡ pick T.ring (in_class T C X i g) (centraliser_order T (X.at i))
+      by g true e = pairs_at i i g e e ∙ row_orthogonality_self i ∙ sym (pick_of T.ring _ _ e)
+      by g false e = nought_at i i g (λ x. ap (λ z. T.ring.mul z (T.involution.bar (full_character T C X i g x))) (full_character_off T C X i g x e) ∙ nought_mul T.ring _) ∙ sym (pick_off T.ring _ _ e)
+
+  -- and with that of another
+  pub first_orthogonality_other : (i j : S) → (i ≡ j → ⊥) → inner_product T (full_character T C X i) (full_character T C X j) ≡ T.ring.nought
+  first_orthogonality_other i j apart =
+      inner_product_is T (full_character T C X i) (full_character T C X j)
+      ∙ total_ext T.ring T.finite _ (λ g. T.ring.nought) (λ g. by g (in_class T C X i g) (in_class T C X j g) refl refl)
+      ∙ total_nought T.ring T.finite
+    where
+      by : (g : G) (b c : Bool) → in_class T C X i g ≡ b → in_class T C X j g ≡ c →
+          total T.ring T.finite (λ x. pick T.ring (commute T g x) (T.ring.mul (full_character T C X i g x) (T.involution.bar (full_character T C X j g x)))) ≡ T.ring.nought
+      by g true true e f =
+          pairs_at i j g e f
+          ∙ row_orthogonality_other j i (sym (in_class_true T C X j g f) ∙ in_class_true T C X i g e) (λ h. apart (sym h))
+      by g false c e f = nought_at i j g (λ x. ap (λ z. T.ring.mul z (T.involution.bar (full_character T C X j g x))) (full_character_off T C X i g x e) ∙ nought_mul T.ring _)
+      by g true false e f =
+          nought_at i j g
+          (λ x. ap (λ z. T.ring.mul (full_character T C X i g x) (T.involution.bar z)) (full_character_off T C X j g x f)
+          ∙ ap (T.ring.mul (full_character T C X i g x)) (bar_nought T.ring T.involution) ∙ mul_nought T.ring _)
+
+  pub first_orthogonality : (i j : S) → inner_product T (full_character T C X i) (full_character T C X j) ≡ pick T.ring (equals E i j) (group_order T)
+  first_orthogonality i j = by (equals E i j) refl
+    where
+      by : (b : Bool) → equals E i j ≡ b → inner_product T (full_character T C X i) (full_character T C X j) ≡ pick T.ring b (group_order T)
+      by true e =
+          ap (λ l. inner_product T (full_character T C X i) (full_character T C X l)) (sym (equals_true E i j e)) ∙ first_orthogonality_self i ∙ sym (pick_true T.ring _)
+      by false e =
+          first_orthogonality_other i j (λ h. absurd (let wrong : true ≡ false = sym (equals_of E i j h) ∙ e in cc)) ∙ sym (pick_false T.ring _)

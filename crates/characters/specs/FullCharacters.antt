@@ -1,9 +1,9 @@
 -- The full characters of the simples of a twisted quantum double, and the sum of its matrix S.
-use Rattle.std.specs.Prelude.{Bool}
+use Rattle.std.specs.Prelude.{◌≡◌, Bool}
 use Rattle.algebra.specs.Sums.{pick}
 use Rattle.algebra.specs.Totals.{equals, total}
 use Rattle.algebra.specs.Groups.{conj}
-use Rattle.characters.specs.Setting.{Setting, Classes, commute}
+use Rattle.characters.specs.Setting.{Setting, Classes, Commuting, commute}
 use Rattle.characters.specs.PhaseRoots.{transport_root}
 use Rattle.characters.specs.Simples.{Simples}
 
@@ -11,6 +11,10 @@ module _ {A G : Type 0} (T : Setting A G) where
   -- the inner product of two functions of pairs that commute: the sum of p with the conjugate of r (textbook)
   unfoldable pub inner_product : (G → G → A) → (G → G → A) → A
   inner_product p r = total T.ring T.finite (λ g. total T.ring T.finite (λ x. pick T.ring (commute T g x) (T.ring.mul (p g x) (T.involution.bar (r g x)))))
+
+  -- a function of pairs that commute which is carried by conjugation as full characters are (textbook)
+  pub record IsCovariant (f : G → G → A) : Type 0 where
+    pub covariant : (g x c : G) → Commuting T g x → f g x ≡ T.ring.mul (transport_root T g x c) (f (conj T.group g c) (conj T.group x c))
 
 module _ {A G S : Type 0} (T : Setting A G) (C : Classes T.group) (X : Simples T C S) where
   -- whether g is in the class of the simple i

@@ -1,0 +1,1 @@
+-- Covariant functions of pairs that commute are combinations of full characters.
