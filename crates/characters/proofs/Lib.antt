@@ -1,4 +1,5 @@
 pub mod SettingLaws
+pub mod PairLaws
 pub mod CharacterLaws
 pub mod SLaws
 pub mod PartLaws
@@ -6,3 +7,4 @@ pub mod AlgebraLaws
 pub mod OrthogonalityLaws
 pub mod SecondOrthogonality
 pub mod Expansion
+pub mod Unitarity

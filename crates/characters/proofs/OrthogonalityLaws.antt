@@ -7,14 +7,16 @@ use Rattle.algebra.specs.Totals.{Finite, equals, total}
 use Rattle.algebra.specs.Groups.{conj}
 use Rattle.algebra.proofs.RingLaws.{product_rules, one_mul, mul_nought, nought_mul, neg_unique, neg_neg}
 use Rattle.algebra.proofs.SumLaws.{pick_of, pick_off, pick_nought, pick_cong, pick_true, pick_false, multiple_of_add, multiple_neg, mul_multiple}
-use Rattle.algebra.proofs.GroupLaws.{conj_op, conj_inv, conj_of_inv, inv_op_op, op_inv_op, inv_inv, conj_of_commuting, commuting_of_conj}
+use Rattle.algebra.proofs.GroupLaws.{conj_op, conj_inv, conj_of_inv, inv_op_op, op_inv_op, conj_of_commuting, commuting_of_conj}
 use Rattle.algebra.proofs.TotalLaws.{total_ext, total_exchange, total_pick, total_reindex, total_nought, equals_true, equals_of, equals_false}
 use Rattle.characters.specs.Setting.{Setting, Classes, Commuting, commute}
-use Rattle.characters.specs.PhaseRoots.{slant_root, transport_root, conjugation_root}
+use Rattle.characters.specs.PhaseRoots.{slant_root, transport_root}
 use Rattle.characters.specs.Simples.{Simples}
 use Rattle.characters.specs.Tables.{IsTorsionFree, group_order, centraliser_order, centraliser_product, GoodTables}
-use Rattle.characters.specs.FullCharacters.{in_class, full_character, inner_product}
-use Rattle.characters.proofs.SettingLaws.{same_test, commute_of, commute_true, commute_symmetric, commute_conj, commuting_conj, slant_root_bar, transport_root_bar}
+use Rattle.characters.specs.Pairs.{inner_product}
+use Rattle.characters.specs.FullCharacters.{in_class, full_character}
+use Rattle.characters.proofs.SettingLaws.{same_test, commute_of, commute_true, commute_symmetric, commute_conj, slant_root_bar, transport_root_bar}
+use Rattle.characters.proofs.PairLaws.{pair_sum_is, inner_product_is}
 use Rattle.characters.proofs.AlgebraLaws.{centraliser_order_is, centraliser_product_is}
 use Rattle.characters.proofs.CharacterLaws.{full_character_is, full_character_off, in_class_is, in_class_true}
 use Rattle.algebra.proofs.InvolutionLaws.{bar_nought}
@@ -36,12 +38,6 @@ module _ {A G : Type 0} (T : Setting A G) where
   pub group_order_is : group_order T ≡ total T.ring T.finite (λ g. T.ring.one)
   unfolding group_order
   group_order_is = refl
-
-  pub inner_product_is : (p r : G → G → A) →
-      inner_product T p r
-      ≡ total T.ring T.finite (λ g. total T.ring T.finite (λ x. pick T.ring (commute T g x) (T.ring.mul (p g x) (T.involution.bar (r g x)))))
-  unfolding inner_product
-  inner_product_is p r = refl
 
   -- factors that are inverse to each other
   unit_outside : (r s x y : A) → T.ring.mul r s ≡ T.ring.one → T.ring.mul r (T.ring.mul x (T.ring.mul s y)) ≡ T.ring.mul x y
@@ -173,7 +169,7 @@ module _ {A G S : Type 0} (T : Setting A G) (C : Classes T.group) (X : Simples T
   -- the full character of i with itself
   pub first_orthogonality_self : (i : S) → inner_product T (full_character T C X i) (full_character T C X i) ≡ group_order T
   first_orthogonality_self i =
-      inner_product_is T (full_character T C X i) (full_character T C X i)
+      inner_product_is T (full_character T C X i) (full_character T C X i) ∙ pair_sum_is T _
       ∙ total_ext T.ring T.finite _ _ (λ g. by g (in_class T C X i g) refl ∙ ap (λ b. pick T.ring b (centraliser_order T (X.at i))) (in_class_is T C X i g))
       ∙ class_equation T C (X.at i) (X.at_representative i)
     where
@@ -185,7 +181,7 @@ module _ {A G S : Type 0} (T : Setting A G) (C : Classes T.group) (X : Simples T
   -- and with that of another
   pub first_orthogonality_other : (i j : S) → (i ≡ j → ⊥) → inner_product T (full_character T C X i) (full_character T C X j) ≡ T.ring.nought
   first_orthogonality_other i j apart =
-      inner_product_is T (full_character T C X i) (full_character T C X j)
+      inner_product_is T (full_character T C X i) (full_character T C X j) ∙ pair_sum_is T _
       ∙ total_ext T.ring T.finite _ (λ g. T.ring.nought) (λ g. by g (in_class T C X i g) (in_class T C X j g) refl refl)
       ∙ total_nought T.ring T.finite
     where

@@ -12,8 +12,11 @@ use Rattle.algebra.proofs.TotalLaws.{total_ext, total_exchange, total_pick, equa
 use Rattle.characters.specs.Setting.{Setting, Classes, Commuting, commute}
 use Rattle.characters.specs.PhaseRoots.{transport_root}
 use Rattle.characters.specs.Simples.{Simples, IsVacuum}
-use Rattle.characters.specs.FullCharacters.{in_class, full_character, pair_term, s_sum, dimension}
-use Rattle.characters.proofs.SettingLaws.{same_test, commute_of, commute_symmetric, transport_roots_inverse, transport_root_of_one, transport_root_at_one}
+use Rattle.characters.specs.Pairs.{pair_sum}
+use Rattle.characters.specs.FullCharacters.{in_class, full_character}
+use Rattle.characters.specs.SMatrix.{pair_term, s_sum, dimension}
+use Rattle.characters.proofs.SettingLaws.{same_test, commute_of, transport_roots_inverse, transport_root_of_one, transport_root_at_one}
+use Rattle.characters.proofs.PairLaws.{pair_sum_is, pair_sum_ext, pair_sum_swap}
 use Rattle.characters.proofs.CharacterLaws.{full_character_is, covariance, in_class_true, in_class_of}
 
 module _ {A G S : Type 0} (T : Setting A G) (C : Classes T.group) (X : Simples T C S) where
@@ -22,8 +25,7 @@ module _ {A G S : Type 0} (T : Setting A G) (C : Classes T.group) (X : Simples T
   unfolding pair_term
   pair_term_is i j g h = refl
 
-  pub s_sum_is : (i j : S) →
-      s_sum T C X i j ≡ total T.ring T.finite (λ g. total T.ring T.finite (λ h. pick T.ring (commute T g h) (pair_term T C X i j g h)))
+  pub s_sum_is : (i j : S) → s_sum T C X i j ≡ pair_sum T (pair_term T C X i j)
   unfolding s_sum
   s_sum_is i j = refl
 
@@ -49,13 +51,10 @@ module _ {A G S : Type 0} (T : Setting A G) (C : Classes T.group) (X : Simples T
       ∙ cancel_pair (transport_root T g h c) (transport_root T h g c) _ _ (transport_roots_inverse T g h c commuting)))
       ∙ sym (pair_term_bar i j g h)
 
-  pair_term_symmetric : (i j : S) (g h : G) → pick T.ring (commute T g h) (pair_term T C X i j g h) ≡ pick T.ring (commute T h g) (pair_term T C X j i h g)
-  pair_term_symmetric i j g h = ap₂ (pick T.ring) (commute_symmetric T g h) (pair_term_is i j g h ∙ T.ring.mul_comm _ _ ∙ sym (pair_term_is j i h g))
-
   pub s_sum_symmetric : (i j : S) → s_sum T C X i j ≡ s_sum T C X j i
   s_sum_symmetric i j =
-      s_sum_is i j ∙ total_exchange T.ring T.finite T.finite (λ g h. pick T.ring (commute T g h) (pair_term T C X i j g h))
-      ∙ total_ext T.ring T.finite _ _ (λ h. total_ext T.ring T.finite _ _ (λ g. pair_term_symmetric i j g h))
+      s_sum_is i j ∙ pair_sum_swap T (pair_term T C X i j)
+      ∙ pair_sum_ext T _ _ (λ h g commuting. pair_term_is i j g h ∙ T.ring.mul_comm _ _ ∙ sym (pair_term_is j i h g))
       ∙ sym (s_sum_is j i)
 
   -- the full character at the identity: the degree on the class
@@ -99,7 +98,7 @@ module _ {A G S : Type 0} (T : Setting A G) (C : Classes T.group) (X : Simples T
   -- the row of the vacuum: dimensions
   pub s_sum_of_vacuum : (v j : S) → IsVacuum X v → s_sum T C X v j ≡ dimension T C X j
   s_sum_of_vacuum v j V =
-      s_sum_is v j
+      s_sum_is v j ∙ pair_sum_is T _
       ∙ total_exchange T.ring T.finite T.finite (λ g h. pick T.ring (commute T g h) (pair_term T C X v j g h))
       ∙ total_ext T.ring T.finite _ _ (λ h.
       total_ext T.ring T.finite _ _ (λ g. term g h)

@@ -5,7 +5,7 @@ use Rattle.algebra.specs.Sums.{pick}
 use Rattle.algebra.specs.Totals.{Finite, equals, total}
 use Rattle.algebra.specs.Groups.{conj}
 use Rattle.algebra.proofs.RingLaws.{product_rules, mul_nought, nought_mul}
-use Rattle.algebra.proofs.SumLaws.{pick_of, pick_off, pick_nought, pick_cong, pick_true, pick_false, mul_pick}
+use Rattle.algebra.proofs.SumLaws.{pick_off, pick_true, pick_false, mul_pick}
 use Rattle.algebra.proofs.GroupLaws.{group_rules, conj_is, conj_op, conj_inv, conj_of_inv, conj_of_commuting, commuting_of_conj}
 use Rattle.algebra.proofs.InvolutionLaws.{bar_nought}
 use Rattle.algebra.proofs.TotalLaws.{total_ext, total_reindex, total_nought, mul_total, equals_true, equals_of, equals_false}

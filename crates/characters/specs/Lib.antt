@@ -1,7 +1,9 @@
 pub mod Setting
 pub mod PhaseRoots
+pub mod Pairs
 pub mod Simples
-pub mod FullCharacters
 pub mod Tables
+pub mod FullCharacters
+pub mod SMatrix
 pub mod Parts
 pub mod Theorems

@@ -6,7 +6,8 @@ use Rattle.algebra.specs.Below.{Below}
 use Rattle.characters.specs.Setting.{Setting, Classes, Commuting}
 use Rattle.characters.specs.PhaseRoots.{transport_root}
 use Rattle.characters.specs.Simples.{Simples, IsVacuum}
-use Rattle.characters.specs.FullCharacters.{full_character, pair_term, s_sum, dimension}
+use Rattle.characters.specs.FullCharacters.{full_character}
+use Rattle.characters.specs.SMatrix.{pair_term, s_sum, dimension}
 
 -- the full character at g and x is the same by every k that carries g to the representative
 abbrev pub TransporterIndependent : Type 0
