@@ -1,10 +1,10 @@
 -- The twisted group algebra of an element: by elements, and by the places of its centraliser.
 use Rattle.std.proofs.Common.{◌≡◌, refl, sym, ◌∙◌, ap}
-use Rattle.algebra.specs.Sums.{pick}
+use Rattle.algebra.specs.Sums.{pick, multiple}
 use Rattle.algebra.specs.Totals.{Finite, equals, total}
 use Rattle.algebra.specs.Groups.{Group}
 use Rattle.algebra.proofs.GroupLaws.{inv_op_op}
-use Rattle.algebra.proofs.TotalLaws.{total_ext}
+use Rattle.algebra.proofs.TotalLaws.{total_ext, total_constant}
 use Rattle.characters.specs.Setting.{Setting, Commuting, commute}
 use Rattle.characters.specs.PhaseRoots.{slant_root, conjugation_root}
 use Rattle.characters.specs.Tables.{centraliser_order, centraliser_product}
@@ -53,6 +53,10 @@ module _ {A G K : Type 0} (T : Setting A G) (a : G) (Q : Group K) (E : Finite K)
   -- the order of the centraliser counts places
   pub order_at_places : centraliser_order T a ≡ total T.ring E (λ p. T.ring.one)
   order_at_places = centraliser_order_is T a ∙ sym (total_places (λ x. commute T x a) element I.part T.ring T.finite E (λ x. T.ring.one))
+
+  -- and is a whole number
+  pub order_of_places : centraliser_order T a ≡ multiple T.ring E.size T.ring.one
+  order_of_places = order_at_places ∙ total_constant T.ring E T.ring.one
 
   -- the product is taken over places
   pub product_at_places : (p r : G → A) (x : K) →

@@ -8,7 +8,7 @@ use Rattle.algebra.specs.Groups.{conj}
 use Rattle.algebra.proofs.RingLaws.{product_rules, one_mul, mul_nought, nought_mul, neg_unique, neg_neg}
 use Rattle.algebra.proofs.SumLaws.{pick_of, pick_off, pick_nought, pick_cong, pick_true, pick_false, multiple_of_add, multiple_neg, mul_multiple}
 use Rattle.algebra.proofs.GroupLaws.{conj_op, conj_inv, conj_of_inv, inv_op_op, op_inv_op, conj_of_commuting, commuting_of_conj}
-use Rattle.algebra.proofs.TotalLaws.{total_ext, total_exchange, total_pick, total_reindex, total_nought, equals_true, equals_of, equals_false}
+use Rattle.algebra.proofs.TotalLaws.{total_ext, total_exchange, total_pick, total_reindex, total_nought, total_constant, equals_true, equals_of, equals_false}
 use Rattle.characters.specs.Setting.{Setting, Classes, Commuting, commute}
 use Rattle.characters.specs.PhaseRoots.{slant_root, transport_root}
 use Rattle.characters.specs.Simples.{Simples}
@@ -26,8 +26,8 @@ use Rattle.characters.proofs.SLaws.{degree_bar}
 pub cancel_multiple : {A : Type 0} (R : CommRing A) → IsTorsionFree R → (n : ℕ) (x y : A) → 1 ≤ n → multiple R n x ≡ multiple R n y → x ≡ y
 cancel_multiple R free n x y from_one e =
     let none : R.add x (R.neg y) ≡ R.nought =
-        free.cancel n (R.add x (R.neg y)) from_one
-        (multiple_of_add R n x (R.neg y) ∙ ap₂ R.add e (multiple_neg R n y) ∙ R.add_neg (multiple R n y)) in
+    free.cancel n (R.add x (R.neg y)) from_one
+    (multiple_of_add R n x (R.neg y) ∙ ap₂ R.add e (multiple_neg R n y) ∙ R.add_neg (multiple R n y)) in
     sym (neg_neg R x) ∙ ap R.neg (sym (neg_unique R x (R.neg y) none)) ∙ neg_neg R y
 
 -- picks by equal tests of elements that are equal where the tests hold
@@ -38,6 +38,10 @@ module _ {A G : Type 0} (T : Setting A G) where
   pub group_order_is : group_order T ≡ total T.ring T.finite (λ g. T.ring.one)
   unfolding group_order
   group_order_is = refl
+
+  -- the order of the group is a whole number
+  pub group_order_multiple : group_order T ≡ multiple T.ring T.finite.size T.ring.one
+  group_order_multiple = group_order_is ∙ total_constant T.ring T.finite T.ring.one
 
   -- factors that are inverse to each other
   unit_outside : (r s x y : A) → T.ring.mul r s ≡ T.ring.one → T.ring.mul r (T.ring.mul x (T.ring.mul s y)) ≡ T.ring.mul x y
@@ -110,8 +114,8 @@ module _ {A G S : Type 0} (T : Setting A G) (C : Classes T.group) (X : Simples T
       (λ h.
       let r : A = slant_root T (X.at i) y (T.group.inv y) in
       let last : T.involution.bar (X.value j (T.group.inv y)) ≡ T.ring.mul (T.involution.bar r) (X.value j y) =
-          ap T.involution.bar (good.unitary j y (subst (λ a. Commuting T y a) same (commute_true T y (X.at i) h)) ∙ ap (λ a. T.ring.mul (slant_root T a y (T.group.inv y)) (T.involution.bar (X.value j y))) (sym same))
-          ∙ T.involution.bar_mul r (T.involution.bar (X.value j y)) ∙ ap (T.ring.mul (T.involution.bar r)) (T.involution.bar_bar (X.value j y)) in
+      ap T.involution.bar (good.unitary j y (subst (λ a. Commuting T y a) same (commute_true T y (X.at i) h)) ∙ ap (λ a. T.ring.mul (slant_root T a y (T.group.inv y)) (T.involution.bar (X.value j y))) (sym same))
+      ∙ T.involution.bar_mul r (T.involution.bar (X.value j y)) ∙ ap (T.ring.mul (T.involution.bar r)) (T.involution.bar_bar (X.value j y)) in
       ap (λ z. T.ring.mul (slant_root T (X.at i) y z) (T.ring.mul (T.involution.bar (X.value i y)) (T.involution.bar (X.value j z)))) (T.group.op_one (T.group.inv y))
       ∙ ap (λ z. T.ring.mul r (T.ring.mul (T.involution.bar (X.value i y)) z)) last
       ∙ unit_outside T r (T.involution.bar r) (T.involution.bar (X.value i y)) (X.value j y) (slant_root_bar T (X.at i) y (T.group.inv y))))
@@ -135,6 +139,20 @@ module _ {A G S : Type 0} (T : Setting A G) (C : Classes T.group) (X : Simples T
       total T.ring T.finite (λ y. pick T.ring (commute T y (X.at i)) (T.ring.mul (T.involution.bar (X.value i y)) (X.value j y))) ≡ T.ring.nought
   row_orthogonality_other i j same apart = sym (product_at_one i j same) ∙ good.product_other i j T.group.one same apart (one_commutes (X.at i))
 
+  -- both at once
+  pub row_orthogonality : (i j : S) → X.at i ≡ X.at j →
+      total T.ring T.finite (λ y. pick T.ring (commute T y (X.at i)) (T.ring.mul (T.involution.bar (X.value i y)) (X.value j y)))
+      ≡ pick T.ring (equals E i j) (centraliser_order T (X.at i))
+  row_orthogonality i j same = by (equals E i j) refl
+    where
+      by : (b : Bool) → equals E i j ≡ b →
+          total T.ring T.finite (λ y. pick T.ring (commute T y (X.at i)) (T.ring.mul (T.involution.bar (X.value i y)) (X.value j y))) ≡ pick T.ring b (centraliser_order T (X.at i))
+      by true e =
+          total_ext T.ring T.finite _ _ (λ y. ap (λ l. pick T.ring (commute T y (X.at i)) (T.ring.mul (T.involution.bar (X.value i y)) (X.value l y))) (sym (equals_true E i j e)))
+          ∙ row_orthogonality_self i ∙ sym (pick_true T.ring _)
+      by false e =
+          row_orthogonality_other i j same (λ h. absurd (let wrong : true ≡ false = sym (equals_of E i j h) ∙ e in cc)) ∙ sym (pick_false T.ring _)
+
   nought_at : (i j : S) (g : G) → ((x : G) → T.ring.mul (full_character T C X i g x) (T.involution.bar (full_character T C X j g x)) ≡ T.ring.nought) →
       total T.ring T.finite (λ x. pick T.ring (commute T g x) (T.ring.mul (full_character T C X i g x) (T.involution.bar (full_character T C X j g x)))) ≡ T.ring.nought
   nought_at i j g none =
@@ -150,14 +168,18 @@ module _ {A G S : Type 0} (T : Setting A G) (C : Classes T.group) (X : Simples T
     where
       k : G
       k = C.carrier g
+
       f : G → A
       f y = pick T.ring (commute T y (X.at j)) (T.ring.mul (T.involution.bar (X.value j y)) (X.value i y))
+
       test : (x : G) → commute T g x ≡ commute T (conj T.group x (C.carrier g)) (X.at j)
       test x =
           commute_symmetric T g x ∙ sym (commute_conj T x g (C.carrier g))
           ∙ ap (λ a. commute T (conj T.group x (C.carrier g)) a) (C.carries g ∙ in_class_true T C X j g inside_j)
+
       value_here : (l : S) (x : G) → in_class T C X l g ≡ true → commute T g x ≡ true → full_character T C X l g x ≡ T.ring.mul (transport_root T g x (C.carrier g)) (X.value l (conj T.group x (C.carrier g)))
       value_here l x inside commutes = full_character_is T C X l g x ∙ pick_of T.ring _ _ inside ∙ pick_of T.ring _ _ commutes
+
       term : (x : G) → commute T g x ≡ true →
           T.ring.mul (full_character T C X i g x) (T.involution.bar (full_character T C X j g x))
           ≡ T.ring.mul (T.involution.bar (X.value j (conj T.group x (C.carrier g)))) (X.value i (conj T.group x (C.carrier g)))

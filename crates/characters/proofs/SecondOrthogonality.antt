@@ -35,7 +35,7 @@ module _ {A G : Type 0} (T : Setting A G) where
       ∙ sym (ap (T.ring.mul (T.ring.mul r (T.involution.bar q))) (pick_false T.ring (T.ring.mul (T.involution.bar v) u)) ∙ mul_nought T.ring _)
 
 module _ {A G S : Type 0} (T : Setting A G) (C : Classes T.group) (X : Simples T C S) (E : Finite S) (good : GoodTables X E)
-  (g x h y : G) (commuting_x : Commuting T g x) (commuting_y : Commuting T h y) where
+    (g x h y : G) (commuting_x : Commuting T g x) (commuting_y : Commuting T h y) where
   -- the representative of g, and the second elements carried along with the first
   abbrev a : G
   a = C.representative g
@@ -114,7 +114,7 @@ module _ {A G S : Type 0} (T : Setting A G) (C : Classes T.group) (X : Simples T
     first_test : (c : G) → equals T.finite h (conj T.group g (through c)) ≡ commute T c a
     first_test c =
         let path : conj T.group g (through c) ≡ conj T.group (conj T.group a c) (T.group.inv (C.carrier h)) =
-            conj_through g c ∙ ap (λ b. conj T.group (conj T.group b c) (T.group.inv (C.carrier h))) carried_g in
+        conj_through g c ∙ ap (λ b. conj T.group (conj T.group b c) (T.group.inv (C.carrier h))) carried_g in
         same_test (equals T.finite h (conj T.group g (through c))) (commute T c a)
         (λ e. commute_of T c a (sym (commuting_of_conj T.group a c
         (sym (carried_from h (conj T.group a c) (equals_true T.finite h (conj T.group g (through c)) e ∙ path)) ∙ carried_h))))
@@ -144,9 +144,9 @@ module _ {A G S : Type 0} (T : Setting A G) (C : Classes T.group) (X : Simples T
     root c commuting_c conjugates =
         let fixed : conj T.group a c ≡ a = conj_of_commuting T.group a c (sym commuting_c) in
         let rest : transport_root T a x0 (T.group.op c (T.group.inv (C.carrier h))) ≡ T.ring.mul (transport_root T a x0 c) (T.involution.bar (transport_root T h y (C.carrier h))) =
-            transport_root_composes T a x0 c (T.group.inv (C.carrier h)) commuting_x0
-            ∙ ap (T.ring.mul (transport_root T a x0 c))
-            (ap₂ (λ b z. transport_root T b z (T.group.inv (C.carrier h))) (fixed ∙ sym carried_h) (sym (conjugate_forth c conjugates)) ∙ transport_root_back T h y (C.carrier h) commuting_y) in
+        transport_root_composes T a x0 c (T.group.inv (C.carrier h)) commuting_x0
+        ∙ ap (T.ring.mul (transport_root T a x0 c))
+        (ap₂ (λ b z. transport_root T b z (T.group.inv (C.carrier h))) (fixed ∙ sym carried_h) (sym (conjugate_forth c conjugates)) ∙ transport_root_back T h y (C.carrier h) commuting_y) in
         let inner : T.involution.bar (conjugation_root T a c y0) ≡ transport_root T a x0 c = conjugation_root_bar T a c y0 ∙ ap (λ z. transport_root T a z c) conjugates in
         ap (transport_root T g x) (T.group.op_assoc (C.carrier g) c (T.group.inv (C.carrier h)))
         ∙ transport_root_composes T g x (C.carrier g) (T.group.op c (T.group.inv (C.carrier h))) commuting_x

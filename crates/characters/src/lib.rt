@@ -5,7 +5,8 @@
 //! crates above import. The functions below carry the main ones as contracts of their own; they do nothing when called.
 #![tactic(auto)]
 
-ghost use Rattle.characters.specs.Theorems.{TransporterIndependent, Covariant, TermsInvariant, SSymmetric, VacuumRow};
+ghost use Rattle.characters.specs.Theorems.{TransporterIndependent, Covariant, TermsInvariant, SSymmetric, VacuumRow, SUnitary};
+ghost use Rattle.characters.specs.Theorems.{RowsOrthogonal, CharactersOrthogonal, PairsOrthogonal, CharactersSpan};
 
 /// A full character does not depend on the element by which it is carried from the representative, and it is covariant.
 pub fn full_character_laws()
@@ -13,9 +14,18 @@ pub fn full_character_laws()
     ensures covariant { Covariant }
 {}
 
-/// The terms of S are the same at conjugate pairs; S is symmetric, and its row at the vacuum holds the dimensions.
+/// Rows and full characters are orthogonal, and full characters span the covariant functions.
+pub fn orthogonality_laws()
+    ensures rows { RowsOrthogonal }
+    ensures characters { CharactersOrthogonal }
+    ensures pairs { PairsOrthogonal }
+    ensures span { CharactersSpan }
+{}
+
+/// The terms of S are the same at conjugate pairs; S is symmetric and unitary, and its row at the vacuum holds the dimensions.
 pub fn s_laws()
     ensures invariant { TermsInvariant }
     ensures symmetric { SSymmetric }
     ensures vacuum { VacuumRow }
+    ensures unitary { SUnitary }
 {}
