@@ -12,7 +12,7 @@ use Rattle.algebra.proofs.TotalLaws.{total_ext, total_exchange, total_pick, tota
 use Rattle.characters.specs.Setting.{Setting, Classes, Commuting, commute}
 use Rattle.characters.specs.PhaseRoots.{slant_root, transport_root}
 use Rattle.characters.specs.Simples.{Simples}
-use Rattle.characters.specs.Tables.{IsTorsionFree, group_order, centraliser_order, centraliser_product, GoodTables}
+use Rattle.characters.specs.Tables.{IsTorsionFree, group_order, centraliser_order, centraliser_product, GoodTable, GoodTables}
 use Rattle.characters.specs.Pairs.{inner_product}
 use Rattle.characters.specs.FullCharacters.{in_class, full_character}
 use Rattle.characters.proofs.SettingLaws.{same_test, commute_of, commute_true, commute_symmetric, commute_conj, slant_root_bar, transport_root_bar}
@@ -108,14 +108,15 @@ module _ {A G S : Type 0} (T : Setting A G) (C : Classes T.group) (X : Simples T
       centraliser_product T (X.at i) (λ y. T.involution.bar (X.value i y)) (λ y. T.involution.bar (X.value j y)) T.group.one
       ≡ total T.ring T.finite (λ y. pick T.ring (commute T y (X.at i)) (T.ring.mul (T.involution.bar (X.value i y)) (X.value j y)))
   product_at_one i j same =
+      let table : GoodTable X E (X.at i) = good.table (X.at i) (X.at_representative i) in
       centraliser_product_is T (X.at i) _ _ T.group.one
       ∙ total_ext T.ring T.finite _ _
       (λ y. pick_cong T.ring (commute T y (X.at i)) _ _
       (λ h.
       let r : A = slant_root T (X.at i) y (T.group.inv y) in
       let last : T.involution.bar (X.value j (T.group.inv y)) ≡ T.ring.mul (T.involution.bar r) (X.value j y) =
-      ap T.involution.bar (good.unitary j y (subst (λ a. Commuting T y a) same (commute_true T y (X.at i) h)) ∙ ap (λ a. T.ring.mul (slant_root T a y (T.group.inv y)) (T.involution.bar (X.value j y))) (sym same))
-      ∙ T.involution.bar_mul r (T.involution.bar (X.value j y)) ∙ ap (T.ring.mul (T.involution.bar r)) (T.involution.bar_bar (X.value j y)) in
+          ap T.involution.bar (table.unitary j y (sym same) (commute_true T y (X.at i) h))
+          ∙ T.involution.bar_mul r (T.involution.bar (X.value j y)) ∙ ap (T.ring.mul (T.involution.bar r)) (T.involution.bar_bar (X.value j y)) in
       ap (λ z. T.ring.mul (slant_root T (X.at i) y z) (T.ring.mul (T.involution.bar (X.value i y)) (T.involution.bar (X.value j z)))) (T.group.op_one (T.group.inv y))
       ∙ ap (λ z. T.ring.mul r (T.ring.mul (T.involution.bar (X.value i y)) z)) last
       ∙ unit_outside T r (T.involution.bar r) (T.involution.bar (X.value i y)) (X.value j y) (slant_root_bar T (X.at i) y (T.group.inv y))))
@@ -129,7 +130,7 @@ module _ {A G S : Type 0} (T : Setting A G) (C : Classes T.group) (X : Simples T
   row_orthogonality_self i =
       cancel_multiple T.ring free (X.degree i) _ _ (X.degree_from_one i)
       (ap (multiple T.ring (X.degree i)) (sym (product_at_one i i refl))
-      ∙ good.product_self i T.group.one (one_commutes (X.at i))
+      ∙ (good.table (X.at i) (X.at_representative i)).product_self i T.group.one refl (one_commutes (X.at i))
       ∙ ap (T.ring.mul (centraliser_order T (X.at i))) (degree_bar T C X i ∙ X.degree_is i)
       ∙ mul_multiple T.ring (X.degree i) (centraliser_order T (X.at i)) T.ring.one
       ∙ ap (multiple T.ring (X.degree i)) (T.ring.mul_one (centraliser_order T (X.at i))))
@@ -137,7 +138,7 @@ module _ {A G S : Type 0} (T : Setting A G) (C : Classes T.group) (X : Simples T
   -- and that of i with another
   pub row_orthogonality_other : (i j : S) → X.at i ≡ X.at j → (i ≡ j → ⊥) →
       total T.ring T.finite (λ y. pick T.ring (commute T y (X.at i)) (T.ring.mul (T.involution.bar (X.value i y)) (X.value j y))) ≡ T.ring.nought
-  row_orthogonality_other i j same apart = sym (product_at_one i j same) ∙ good.product_other i j T.group.one same apart (one_commutes (X.at i))
+  row_orthogonality_other i j same apart = sym (product_at_one i j same) ∙ (good.table (X.at i) (X.at_representative i)).product_other i j T.group.one refl (sym same) apart (one_commutes (X.at i))
 
   -- both at once
   pub row_orthogonality : (i j : S) → X.at i ≡ X.at j →

@@ -169,7 +169,7 @@ module _ {A G S : Type 0} (T : Setting A G) (C : Classes T.group) (X : Simples T
     in_one_class =
         total_ext T.ring E _ _ term
         ∙ sym (mul_total T.ring E outer _)
-        ∙ ap (T.ring.mul outer) (good.column a y0 x0 (representative_of_itself T C g) commuting_y0 (sym commuting_x0))
+        ∙ ap (T.ring.mul outer) ((good.table a (representative_of_itself T C g)).column y0 x0 commuting_y0 (sym commuting_x0))
         ∙ mul_total T.ring T.finite outer within
         ∙ total_ext T.ring T.finite _ _ (λ c. sym (along_through c))
         ∙ total_reindex T.ring T.finite T.finite through back (λ c. simp (group_rules, T.group)) (λ s. simp (group_rules, T.group)) along
