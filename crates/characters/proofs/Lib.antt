@@ -4,6 +4,7 @@ pub mod CharacterLaws
 pub mod SLaws
 pub mod PartLaws
 pub mod AlgebraLaws
+pub mod PlaceTableLaws
 pub mod OrthogonalityLaws
 pub mod SecondOrthogonality
 pub mod Expansion

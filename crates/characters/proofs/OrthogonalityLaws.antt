@@ -1,5 +1,5 @@
 -- The orthogonality of rows and of full characters.
-use Rattle.std.proofs.Common.{◌≡◌, ℕ, ◌≤◌, Bool, true, false, refl, sym, ◌∙◌, ap, subst}
+use Rattle.std.proofs.Common.{◌≡◌, ℕ, ◌≤◌, Bool, true, false, refl, sym, ◌∙◌, ap}
 use mathlib.Core.Path.{ap₂}
 use Rattle.algebra.specs.Structures.{CommRing}
 use Rattle.algebra.specs.Sums.{pick, multiple}
@@ -115,8 +115,8 @@ module _ {A G S : Type 0} (T : Setting A G) (C : Classes T.group) (X : Simples T
       (λ h.
       let r : A = slant_root T (X.at i) y (T.group.inv y) in
       let last : T.involution.bar (X.value j (T.group.inv y)) ≡ T.ring.mul (T.involution.bar r) (X.value j y) =
-          ap T.involution.bar (table.unitary j y (sym same) (commute_true T y (X.at i) h))
-          ∙ T.involution.bar_mul r (T.involution.bar (X.value j y)) ∙ ap (T.ring.mul (T.involution.bar r)) (T.involution.bar_bar (X.value j y)) in
+      ap T.involution.bar (table.unitary j y (sym same) (commute_true T y (X.at i) h))
+      ∙ T.involution.bar_mul r (T.involution.bar (X.value j y)) ∙ ap (T.ring.mul (T.involution.bar r)) (T.involution.bar_bar (X.value j y)) in
       ap (λ z. T.ring.mul (slant_root T (X.at i) y z) (T.ring.mul (T.involution.bar (X.value i y)) (T.involution.bar (X.value j z)))) (T.group.op_one (T.group.inv y))
       ∙ ap (λ z. T.ring.mul r (T.ring.mul (T.involution.bar (X.value i y)) z)) last
       ∙ unit_outside T r (T.involution.bar r) (T.involution.bar (X.value i y)) (X.value j y) (slant_root_bar T (X.at i) y (T.group.inv y))))

@@ -3,6 +3,7 @@ pub mod PhaseRoots
 pub mod Pairs
 pub mod Simples
 pub mod Tables
+pub mod PlaceTables
 pub mod FullCharacters
 pub mod SMatrix
 pub mod Parts
