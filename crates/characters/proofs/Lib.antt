@@ -9,3 +9,4 @@ pub mod OrthogonalityLaws
 pub mod SecondOrthogonality
 pub mod Expansion
 pub mod Unitarity
+pub mod FusionLaws

@@ -1,14 +1,15 @@
 -- Commuting elements, roots and carriers in the setting of full characters.
 use Rattle.std.proofs.Common.{◌≡◌, ℕ, ◌+◌, Bool, true, false, refl, sym, ◌∙◌, ap}
+use mathlib.Core.Path.{ap₂}
 use Rattle.algebra.specs.Groups.{conj}
 use Rattle.algebra.specs.Congruences.{Same}
 use Rattle.algebra.proofs.RingLaws.{product_rules, one_mul}
 use Rattle.algebra.proofs.GroupLaws.{conj_of_commuting, op_conj, conj_injective}
 use Rattle.algebra.proofs.TotalLaws.{equals_true, equals_of}
 use Rattle.phases.specs.Phases.{transport_phase}
-use Rattle.phases.proofs.PhaseLaws.{kappa_is, kappa_is_transport, transport_phase_back, transport_phase_composes, transport_phases_inverse, transport_phase_along_one, transport_phase_of_one, transport_phase_at_one}
+use Rattle.phases.proofs.PhaseLaws.{gamma_transport, gamma_is_theta, gamma_of_one, kappa_is, kappa_is_transport, transport_phase_back, transport_phase_composes, transport_phases_inverse, transport_phase_along_one, transport_phase_of_one, transport_phase_at_one}
 use Rattle.characters.specs.Setting.{Setting, Commuting, commute}
-use Rattle.characters.specs.PhaseRoots.{slant_root, transport_root, conjugation_root}
+use Rattle.characters.specs.PhaseRoots.{slant_root, transport_root, conjugation_root, coproduct_root}
 
 -- tests that imply each other are one
 pub same_test : (b c : Bool) → (b ≡ true → c ≡ true) → (c ≡ true → b ≡ true) → b ≡ c
@@ -129,3 +130,25 @@ module _ {A G : Type 0} (T : Setting A G) where
   pub conjugation_root_bar : (a c x : G) → T.involution.bar (conjugation_root T a c x) ≡ transport_root T a (T.group.op (T.group.op c x) (T.group.inv c)) c
   unfolding conjugation_root transport_root
   conjugation_root_bar a c x = root_opposite _ _ (kappa_is_transport T.group T.modulus T.cochain T.cocycle a c x)
+
+  -- the coproduct roots
+
+  pub coproduct_root_at_one : (g h : G) → coproduct_root T T.group.one g h ≡ T.ring.one
+  unfolding coproduct_root
+  coproduct_root_at_one g h = ap T.roots.root (gamma_of_one T.group T.modulus T.cochain T.cocycle g h) ∙ T.roots.root_zero
+
+  -- those of elements that commute with b are the slant roots of b
+  pub coproduct_root_is_slant : (b g h : G) → Commuting T g b → Commuting T h b → coproduct_root T b g h ≡ slant_root T b g h
+  unfolding coproduct_root slant_root
+  coproduct_root_is_slant b g h p q =
+      ap T.roots.root (gamma_is_theta T.group T.modulus T.cochain T.cocycle b g h (conj_of_commuting T.group g b p) (conj_of_commuting T.group h b q))
+
+  -- they are carried along c
+  pub coproduct_root_carried : (x h k c : G) → Commuting T h x → Commuting T k x →
+      T.ring.mul (coproduct_root T x h k) (T.ring.mul (transport_root T h x c) (transport_root T k x c))
+      ≡ T.ring.mul (transport_root T (T.group.op h k) x c) (coproduct_root T (conj T.group x c) (conj T.group h c) (conj T.group k c))
+  unfolding coproduct_root transport_root
+  coproduct_root_carried x h k c p q =
+      sym (T.ring.mul_assoc _ _ _) ∙ ap₂ T.ring.mul (sym (T.roots.root_add _ _)) refl ∙ sym (T.roots.root_add _ _)
+      ∙ T.roots.root_same _ _ (gamma_transport T.group T.modulus T.cochain T.cocycle x h k c (conj_of_commuting T.group h x p) (conj_of_commuting T.group k x q))
+      ∙ T.roots.root_add _ _

@@ -6,5 +6,6 @@ pub mod Tables
 pub mod PlaceTables
 pub mod FullCharacters
 pub mod SMatrix
+pub mod Fusion
 pub mod Parts
 pub mod Theorems

@@ -1,5 +1,5 @@
 -- The roots of the phases of the cocycle (Dijkgraaf, Pasquier, Roche 1990).
-use Rattle.phases.specs.Phases.{theta, transport_phase, kappa}
+use Rattle.phases.specs.Phases.{theta, gamma, transport_phase, kappa}
 use Rattle.characters.specs.Setting.{Setting}
 
 module _ {A G : Type 0} (T : Setting A G) where
@@ -14,3 +14,7 @@ module _ {A G : Type 0} (T : Setting A G) where
   -- th_a(c,x) / th_a(c x c^-1, c), by which u_c carries u_x in the algebra of a
   unfoldable pub conjugation_root : G → G → G → A
   conjugation_root a c x = T.roots.root (kappa T.group T.modulus T.cochain a c x)
+
+  -- the coproduct phase ga_x(g,h), by which the parts at g and h of u_x come together
+  unfoldable pub coproduct_root : G → G → G → A
+  coproduct_root x g h = T.roots.root (gamma T.group T.modulus T.cochain x g h)
