@@ -5,8 +5,10 @@ pub mod SLaws
 pub mod PartLaws
 pub mod AlgebraLaws
 pub mod PlaceTableLaws
+pub mod CentraliserSums
 pub mod OrthogonalityLaws
 pub mod SecondOrthogonality
 pub mod Expansion
 pub mod Unitarity
 pub mod FusionLaws
+pub mod VerlindeLaws

@@ -16,15 +16,18 @@ module _ {A G : Type 0} (T : Setting A G) where
   unfoldable pub group_order : A
   group_order = total T.ring T.finite (λ g. T.ring.one)
 
+  -- the sum of f over the centraliser of a
+  abbrev pub centraliser_sum : G → (G → A) → A
+  centraliser_sum a f = total T.ring T.finite (λ x. pick T.ring (commute T x a) (f x))
+
   -- the order of the centraliser of a, as an element of the ring
   unfoldable pub centraliser_order : G → A
-  centraliser_order a = total T.ring T.finite (λ x. pick T.ring (commute T x a) T.ring.one)
+  centraliser_order a = centraliser_sum a (λ x. T.ring.one)
 
   -- the product in the twisted group algebra of a at x: the sum over y of e(th_a(y, y^-1 x)) p(y) r(y^-1 x) (textbook)
   unfoldable pub centraliser_product : G → (G → A) → (G → A) → G → A
   centraliser_product a p r x =
-      total T.ring T.finite (λ y. pick T.ring (commute T y a)
-      (T.ring.mul (slant_root T a y (T.group.op (T.group.inv y) x)) (T.ring.mul (p y) (r (T.group.op (T.group.inv y) x)))))
+      centraliser_sum a (λ y. T.ring.mul (slant_root T a y (T.group.op (T.group.inv y) x)) (T.ring.mul (p y) (r (T.group.op (T.group.inv y) x))))
 
 -- the rows over a representative a are the characters of the simple modules of its twisted group algebra: with E_i for the element whose
 -- coefficients are the conjugates of the values of i, and m for the order of the centraliser (Coste, Gannon, Ruelle 2000, and textbook)
@@ -46,8 +49,7 @@ pub record GoodTable {A G S : Type 0} {T : Setting A G} {C : Classes T.group} (X
   -- the sum over i of the conjugate of the value at x with the value at y is that of the conjugates of e(ka(c,x)) over the c with c x c^-1 = y
   pub column : (x y : G) → Commuting T x a → Commuting T y a
       → total T.ring E (λ i. pick T.ring (equals T.finite a (X.at i)) (T.ring.mul (T.involution.bar (X.value i x)) (X.value i y)))
-      ≡ total T.ring T.finite (λ c. pick T.ring (commute T c a)
-      (pick T.ring (equals T.finite (T.group.op (T.group.op c x) (T.group.inv c)) y) (T.involution.bar (conjugation_root T a c x))))
+      ≡ centraliser_sum T a (λ c. pick T.ring (equals T.finite (T.group.op (T.group.op c x) (T.group.inv c)) y) (T.involution.bar (conjugation_root T a c x)))
 
 -- a good table for each class
 pub record GoodTables {A G S : Type 0} {T : Setting A G} {C : Classes T.group} (X : Simples T C S) (E : Finite S) : Type 0 where

@@ -5,11 +5,11 @@ use Rattle.algebra.specs.Sums.{pick}
 use Rattle.algebra.specs.Totals.{Finite, equals, total}
 use Rattle.algebra.specs.Groups.{conj}
 use Rattle.algebra.specs.Below.{Below}
-use Rattle.characters.specs.Setting.{Setting, Classes, Commuting, commute}
+use Rattle.characters.specs.Setting.{Setting, Classes, Commuting}
 use Rattle.characters.specs.PhaseRoots.{transport_root}
 use Rattle.characters.specs.Simples.{Simples, IsVacuum}
 use Rattle.characters.specs.Pairs.{inner_product, IsCovariant}
-use Rattle.characters.specs.Tables.{IsTorsionFree, group_order, centraliser_order, GoodTables}
+use Rattle.characters.specs.Tables.{IsTorsionFree, group_order, centraliser_sum, centraliser_order, GoodTables}
 use Rattle.characters.specs.FullCharacters.{full_character}
 use Rattle.characters.specs.SMatrix.{pair_term, s_sum, dimension}
 
@@ -46,7 +46,7 @@ abbrev pub RowsOrthogonal : Type 0
 RowsOrthogonal =
     (n s : ℕ) (T : Setting ℕ (Below n)) (C : Classes T.group) (X : Simples T C (Below s)) (E : Finite (Below s)) → GoodTables X E → IsTorsionFree T.ring
     → (i j : Below s) → X.at i ≡ X.at j
-    → total T.ring T.finite (λ y. pick T.ring (commute T y (X.at i)) (T.ring.mul (T.involution.bar (X.value i y)) (X.value j y)))
+    → centraliser_sum T (X.at i) (λ y. T.ring.mul (T.involution.bar (X.value i y)) (X.value j y))
     ≡ pick T.ring (equals E i j) (centraliser_order T (X.at i))
 
 -- the inner product of the full characters of i and j: the order of the group for j = i, else nought

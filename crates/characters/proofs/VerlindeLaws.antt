@@ -1,0 +1,1 @@
+-- Verlinde's formula.
