@@ -107,3 +107,183 @@ module _ {A G S : Type 0} (T : Setting A G) (C : Classes T.group) (X : Simples T
             ∙ centraliser_sum_ext T a _ _ (λ y h. sort (z y) (X.value i y) (T.involution.bar (X.value i x))))
             ∙ pick_total T.ring T.finite (equals T.finite a (X.at i)) _
             ∙ total_ext T.ring T.finite _ _ (λ y. pick_swap T.ring (equals T.finite a (X.at i)) (commute T y a) _)
+
+  -- the form of two functions on the centraliser of a row l: the trace of their product
+  module _ (E : Finite S) (good : GoodTables X E) (free : IsTorsionFree T.ring) (l : S) where
+    abbrev pub form : (G → A) → (G → A) → A
+    form p r = centraliser_sum T (X.at l) (λ x. centraliser_sum T (X.at l) (λ y. T.ring.mul (T.ring.mul (slant_root T (X.at l) x y) (T.ring.mul (p x) (r y))) (X.value l (T.group.op x y))))
+
+    abbrev order : A
+    order = centraliser_order T (X.at l)
+
+    abbrev degree : A
+    degree = multiple T.ring (X.degree l) T.ring.one
+
+    form_is_trace : (p r : G → A) → form p r ≡ trace l (centraliser_product T (X.at l) p r)
+    form_is_trace p r =
+        sym (centraliser_sum_ext T (X.at l) _ _
+        (λ z h. ap (λ u. T.ring.mul u (X.value l z)) (centraliser_product_is T (X.at l) p r z) ∙ centraliser_sum_mul T (X.at l) _ (X.value l z))
+        ∙ centraliser_sum_exchange T (X.at l) _
+        ∙ centraliser_sum_ext T (X.at l) _ _
+        (λ y h. sym (centraliser_sum_shift T (X.at l) y _ h)
+        ∙ centraliser_sum_ext T (X.at l) _ _
+        (λ x k. ap (λ u. T.ring.mul (T.ring.mul (slant_root T (X.at l) y u) (T.ring.mul (p y) (r u))) (X.value l (T.group.op y x))) (inv_op_op T.group y x))))
+
+    form_ext : (p q r s : G → A) → ((x : G) → Commuting T x (X.at l) → p x ≡ q x) → ((x : G) → Commuting T x (X.at l) → r x ≡ s x) → form p r ≡ form q s
+    form_ext p q r s e f =
+        centraliser_sum_ext T (X.at l) _ _
+        (λ x h. centraliser_sum_ext T (X.at l) _ _
+        (λ y k. ap₂ (λ u v. T.ring.mul (T.ring.mul (slant_root T (X.at l) x y) (T.ring.mul u v)) (X.value l (T.group.op x y))) (e x h) (f y k)))
+
+    -- a sum in either argument is taken outside
+    form_left : (c : S → A) (p : S → G → A) (r : G → A) → form (λ x. total T.ring E (λ i. T.ring.mul (c i) (p i x))) r ≡ total T.ring E (λ i. T.ring.mul (c i) (form (p i) r))
+    form_left c p r =
+        sym (total_ext T.ring E _ _
+        (λ i. mul_centraliser_sum T (X.at l) (c i) _ ∙ centraliser_sum_ext T (X.at l) _ _ (λ x h. mul_centraliser_sum T (X.at l) (c i) _))
+        ∙ total_centraliser_sum T (X.at l) E _
+        ∙ centraliser_sum_ext T (X.at l) _ _
+        (λ x h. total_centraliser_sum T (X.at l) E _
+        ∙ centraliser_sum_ext T (X.at l) _ _
+        (λ y k. total_ext T.ring E _ _ (λ i. sort (c i) (slant_root T (X.at l) x y) (p i x) (r y) (X.value l (T.group.op x y)))
+        ∙ sym (total_mul T.ring E _ _)
+        ∙ sorted _ (slant_root T (X.at l) x y) (r y) (X.value l (T.group.op x y)))))
+      where
+        sort : (c s p r v : A) → T.ring.mul c (T.ring.mul (T.ring.mul s (T.ring.mul p r)) v) ≡ T.ring.mul (T.ring.mul c p) (T.ring.mul (T.ring.mul s r) v)
+        sort c s p r v = simp (product_rules, T.ring)
+        sorted : (u s r v : A) → T.ring.mul u (T.ring.mul (T.ring.mul s r) v) ≡ T.ring.mul (T.ring.mul s (T.ring.mul u r)) v
+        sorted u s r v = simp (product_rules, T.ring)
+
+    form_right : (c : S → A) (p : G → A) (r : S → G → A) → form p (λ x. total T.ring E (λ i. T.ring.mul (c i) (r i x))) ≡ total T.ring E (λ i. T.ring.mul (c i) (form p (r i)))
+    form_right c p r =
+        sym (total_ext T.ring E _ _
+        (λ i. mul_centraliser_sum T (X.at l) (c i) _ ∙ centraliser_sum_ext T (X.at l) _ _ (λ x h. mul_centraliser_sum T (X.at l) (c i) _))
+        ∙ total_centraliser_sum T (X.at l) E _
+        ∙ centraliser_sum_ext T (X.at l) _ _
+        (λ x h. total_centraliser_sum T (X.at l) E _
+        ∙ centraliser_sum_ext T (X.at l) _ _
+        (λ y k. total_ext T.ring E _ _ (λ i. sort (c i) (slant_root T (X.at l) x y) (p x) (r i y) (X.value l (T.group.op x y)))
+        ∙ sym (total_mul T.ring E _ _)
+        ∙ sorted _ (slant_root T (X.at l) x y) (p x) (X.value l (T.group.op x y)))))
+      where
+        sort : (c s p r v : A) → T.ring.mul c (T.ring.mul (T.ring.mul s (T.ring.mul p r)) v) ≡ T.ring.mul (T.ring.mul c r) (T.ring.mul (T.ring.mul s p) v)
+        sort c s p r v = simp (product_rules, T.ring)
+        sorted : (u s p v : A) → T.ring.mul u (T.ring.mul (T.ring.mul s p) v) ≡ T.ring.mul (T.ring.mul s (T.ring.mul p u)) v
+        sorted u s p v = simp (product_rules, T.ring)
+
+    form_scaled : (m : A) (p r : G → A) → form (λ x. T.ring.mul m (p x)) (λ x. T.ring.mul m (r x)) ≡ T.ring.mul (T.ring.mul m m) (form p r)
+    form_scaled m p r =
+        sym (mul_centraliser_sum T (X.at l) (T.ring.mul m m) _
+        ∙ centraliser_sum_ext T (X.at l) _ _
+        (λ x h. mul_centraliser_sum T (X.at l) (T.ring.mul m m) _
+        ∙ centraliser_sum_ext T (X.at l) _ _ (λ y k. sort m (slant_root T (X.at l) x y) (p x) (r y) (X.value l (T.group.op x y)))))
+      where
+        sort : (m s p r v : A) → T.ring.mul (T.ring.mul m m) (T.ring.mul (T.ring.mul s (T.ring.mul p r)) v) ≡ T.ring.mul (T.ring.mul s (T.ring.mul (T.ring.mul m p) (T.ring.mul m r))) v
+        sort m s p r v = simp (product_rules, T.ring)
+
+    -- the conjugates of the values of a row
+    abbrev conjugates : S → G → A
+    conjugates i x = T.involution.bar (X.value i x)
+
+    as_mul : (n : ℕ) (u : A) → T.ring.mul (multiple T.ring n T.ring.one) u ≡ multiple T.ring n u
+    as_mul n u = multiple_mul T.ring n T.ring.one u ∙ ap (multiple T.ring n) (one_mul T.ring u)
+
+    -- d_i times the form of a row with itself
+    form_of_row : (i : S) → X.at i ≡ X.at l → multiple T.ring (X.degree i) (form (conjugates i) (conjugates i)) ≡ T.ring.mul order (pick T.ring (equals E i l) order)
+    form_of_row i same =
+        ap (multiple T.ring (X.degree i)) (form_is_trace (conjugates i) (conjugates i))
+        ∙ sym (as_mul (X.degree i) _)
+        ∙ mul_centraliser_sum T (X.at l) _ _
+        ∙ centraliser_sum_ext T (X.at l) _ _
+        (λ z h. sym (T.ring.mul_assoc _ _ _)
+        ∙ ap (λ u. T.ring.mul u (X.value l z)) (as_mul (X.degree i) _ ∙ (good.table (X.at l) (X.at_representative l)).product_self i z same h)
+        ∙ T.ring.mul_assoc _ _ _)
+        ∙ sym (mul_centraliser_sum T (X.at l) (centraliser_order T (X.at l)) _)
+        ∙ ap (T.ring.mul (centraliser_order T (X.at l)))
+        (subst (λ a. centraliser_sum T a (λ y. T.ring.mul (conjugates i y) (X.value l y)) ≡ pick T.ring (equals E i l) (centraliser_order T a)) same (row_orthogonality T C X E good free i l same))
+
+    -- the form of two rows other than those of l is nought
+    form_of_other : (i j : S) → X.at i ≡ X.at l → X.at j ≡ X.at l → (i ≡ j → ⊥) → form (conjugates i) (conjugates j) ≡ T.ring.nought
+    form_of_other i j same_i same_j apart =
+        form_is_trace (conjugates i) (conjugates j)
+        ∙ centraliser_sum_ext T (X.at l) _ (λ z. T.ring.nought)
+        (λ z h. ap (λ u. T.ring.mul u (X.value l z)) ((good.table (X.at l) (X.at_representative l)).product_other i j z same_i same_j apart h) ∙ nought_mul T.ring (X.value l z))
+        ∙ centraliser_sum_same T (X.at l) T.ring.nought ∙ mul_nought T.ring _
+
+    -- the degree of l times the form of two rows
+    form_of_rows : (i j : S) → X.at i ≡ X.at l → X.at j ≡ X.at l →
+        T.ring.mul degree (form (conjugates i) (conjugates j)) ≡ pick T.ring (equals E i l) (pick T.ring (equals E j l) (T.ring.mul order order))
+    form_of_rows i j same_i same_j = by (equals E i j) (equals E i l) (equals E j l) refl refl refl
+      where
+        by : (b c d : Bool) → equals E i j ≡ b → equals E i l ≡ c → equals E j l ≡ d →
+            T.ring.mul degree (form (conjugates i) (conjugates j)) ≡ pick T.ring c (pick T.ring d (T.ring.mul order order))
+        by true true d e f g =
+            let at_l : i ≡ l = equals_true E i l f in
+            let other : equals E j l ≡ true = equals_of E j l (sym (equals_true E i j e) ∙ at_l) in
+            as_mul (X.degree l) _
+            ∙ ap₂ (λ k r. multiple T.ring (X.degree k) (form (conjugates i) (conjugates r))) (sym at_l) (sym (equals_true E i j e))
+            ∙ form_of_row i same_i ∙ ap (T.ring.mul order) (pick_of T.ring _ _ f)
+            ∙ sym (pick_true T.ring _ ∙ pick_of T.ring d _ (sym g ∙ other))
+        by true false d e f g =
+            let none : form (conjugates i) (conjugates i) ≡ T.ring.nought =
+                free.cancel (X.degree i) _ (X.degree_from_one i) (form_of_row i same_i ∙ ap (T.ring.mul order) (pick_off T.ring _ _ f) ∙ mul_nought T.ring order) in
+            ap (λ r. T.ring.mul degree (form (conjugates i) (conjugates r))) (sym (equals_true E i j e))
+            ∙ ap (T.ring.mul degree) none ∙ mul_nought T.ring degree ∙ sym (pick_false T.ring _)
+        by false true true e f g = absurd (let wrong : true ≡ false = sym (equals_of E i j (equals_true E i l f ∙ sym (equals_true E j l g))) ∙ e in cc)
+        by false false d e f g = nothing e ∙ sym (pick_false T.ring _)
+          where
+            nothing : equals E i j ≡ false → T.ring.mul degree (form (conjugates i) (conjugates j)) ≡ T.ring.nought
+            nothing e = ap (T.ring.mul degree) (form_of_other i j same_i same_j (λ h. absurd (let wrong : true ≡ false = sym (equals_of E i j h) ∙ e in cc))) ∙ mul_nought T.ring degree
+        by false true false e f g = ap (T.ring.mul degree) (form_of_other i j same_i same_j (λ h. absurd (let wrong : true ≡ false = sym (equals_of E i j h) ∙ e in cc))) ∙ mul_nought T.ring degree ∙ sym (pick_true T.ring _ ∙ pick_false T.ring _)
+
+    -- a factor that is picked may be used under the test
+    pick_factor : (b : Bool) (u v w : A) → (b ≡ true → v ≡ w) → T.ring.mul (pick T.ring b u) v ≡ T.ring.mul (pick T.ring b u) w
+    pick_factor b u v w h = pick_mul T.ring b u v ∙ pick_cong T.ring b _ _ (λ e. ap (T.ring.mul u) (h e)) ∙ sym (pick_mul T.ring b u w)
+
+    -- the part of a function that a row makes
+    abbrev part : (G → A) → S → A
+    part z i = pick T.ring (equals T.finite (X.at l) (X.at i)) (trace i z)
+
+    part_at : (z : G → A) → part z l ≡ trace l z
+    part_at z = pick_of T.ring _ _ (equals_of T.finite (X.at l) (X.at l) refl)
+
+    by_parts : (z : G → A) → IsCarried (X.at l) z → (x : G) → Commuting T x (X.at l) → T.ring.mul order (z x) ≡ total T.ring E (λ i. T.ring.mul (part z i) (conjugates i x))
+    by_parts z central x h =
+        sym (total_ext T.ring E _ _ (λ i. pick_mul T.ring (equals T.finite (X.at l) (X.at i)) (trace i z) (conjugates i x))
+        ∙ carried_by_rows E good (X.at l) (X.at_representative l) z central x h)
+
+    -- the degree times the form of two carried functions is the product of their traces
+    pub form_of_carried : (z w : G → A) → IsCarried (X.at l) z → IsCarried (X.at l) w → T.ring.mul degree (form z w) ≡ T.ring.mul (trace l z) (trace l w)
+    form_of_carried z w central_z central_w =
+        cancel_centraliser_order T C free (X.at l) (X.at_representative l) _ _
+        (cancel_centraliser_order T C free (X.at l) (X.at_representative l) _ _
+        (sort order degree (form z w)
+        ∙ ap (T.ring.mul degree)
+        (sym (form_scaled order z w)
+        ∙ form_ext _ _ _ _ (by_parts z central_z) (by_parts w central_w)
+        ∙ form_left (part z) conjugates _
+        ∙ total_ext T.ring E _ _ (λ i. ap (T.ring.mul (part z i)) (form_right (part w) (conjugates i) conjugates)))
+        ∙ mul_total T.ring E degree _
+        ∙ total_ext T.ring E _ _
+        (λ i. outside degree (part z i) _
+        ∙ pick_factor (equals T.finite (X.at l) (X.at i)) (trace i z) _ _
+        (λ e. mul_total T.ring E degree _
+        ∙ total_ext T.ring E _ _
+        (λ j. outside degree (part w j) _
+        ∙ pick_factor (equals T.finite (X.at l) (X.at j)) (trace j w) _ _
+        (λ f. form_of_rows i j (sym (equals_true T.finite (X.at l) (X.at i) e)) (sym (equals_true T.finite (X.at l) (X.at j) f)))
+        ∙ mul_pick T.ring (equals E i l) (part w j) _)
+        ∙ sym (pick_total T.ring E (equals E i l) _)
+        ∙ ap (pick T.ring (equals E i l))
+        (total_ext T.ring E _ _ (λ j. mul_pick T.ring (equals E j l) (part w j) _)
+        ∙ total_pick T.ring E l (λ j. T.ring.mul (part w j) (T.ring.mul order order))))
+        ∙ mul_pick T.ring (equals E i l) (part z i) _)
+        ∙ total_pick T.ring E l (λ i. T.ring.mul (part z i) (T.ring.mul (part w l) (T.ring.mul order order)))
+        ∙ ap₂ (λ u v. T.ring.mul u (T.ring.mul v (T.ring.mul order order))) (part_at z) (part_at w)
+        ∙ sorted (trace l z) (trace l w) order))
+      where
+        sort : (m d f : A) → T.ring.mul m (T.ring.mul m (T.ring.mul d f)) ≡ T.ring.mul d (T.ring.mul (T.ring.mul m m) f)
+        sort m d f = simp (product_rules, T.ring)
+        outside : (d c f : A) → T.ring.mul d (T.ring.mul c f) ≡ T.ring.mul c (T.ring.mul d f)
+        outside d c f = simp (product_rules, T.ring)
+        sorted : (u v m : A) → T.ring.mul u (T.ring.mul v (T.ring.mul m m)) ≡ T.ring.mul m (T.ring.mul m (T.ring.mul u v))
+        sorted u v m = simp (product_rules, T.ring)
