@@ -1,5 +1,5 @@
 -- Laws of sums over the centraliser of an element.
-use Rattle.std.proofs.Common.{◌≡◌, Bool, true, false, refl, sym, ◌∙◌, ap}
+use Rattle.std.proofs.Common.{◌≡◌, sym, ◌∙◌, ap}
 use Rattle.algebra.specs.Sums.{pick}
 use Rattle.algebra.specs.Totals.{Finite, equals, total}
 use Rattle.algebra.proofs.RingLaws.{one_mul}

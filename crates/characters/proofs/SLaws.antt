@@ -42,14 +42,18 @@ module _ {A G S : Type 0} (T : Setting A G) (C : Classes T.group) (X : Simples T
       let sorted : T.ring.mul (T.ring.mul r x) (T.ring.mul s y) ≡ T.ring.mul (T.ring.mul r s) (T.ring.mul x y) = simp (product_rules, T.ring) in
       sorted ∙ ap (λ z. T.ring.mul z (T.ring.mul x y)) e ∙ one_mul T.ring (T.ring.mul x y)
 
-  -- the terms of S at conjugate pairs are the same
+  -- the products of full characters of which S is made are the same at conjugate pairs
+  pub pair_product_invariant : (i j : S) (g h c : G) → Commuting T g h →
+      T.ring.mul (full_character T C X i g h) (full_character T C X j h g)
+      ≡ T.ring.mul (full_character T C X i (conj T.group g c) (conj T.group h c)) (full_character T C X j (conj T.group h c) (conj T.group g c))
+  pair_product_invariant i j g h c commuting =
+      ap₂ T.ring.mul (covariance T C X i g h c commuting) (covariance T C X j h g c (sym commuting))
+      ∙ cancel_pair (transport_root T g h c) (transport_root T h g c) _ _ (transport_roots_inverse T g h c commuting)
+
+  -- so are the terms of S
   pub pair_term_invariant : (i j : S) (g h c : G) → Commuting T g h → pair_term T C X i j (conj T.group g c) (conj T.group h c) ≡ pair_term T C X i j g h
   pair_term_invariant i j g h c commuting =
-      pair_term_bar i j (conj T.group g c) (conj T.group h c)
-      ∙ ap T.involution.bar
-      (sym (ap₂ T.ring.mul (covariance T C X i g h c commuting) (covariance T C X j h g c (sym commuting))
-      ∙ cancel_pair (transport_root T g h c) (transport_root T h g c) _ _ (transport_roots_inverse T g h c commuting)))
-      ∙ sym (pair_term_bar i j g h)
+      pair_term_bar i j (conj T.group g c) (conj T.group h c) ∙ ap T.involution.bar (sym (pair_product_invariant i j g h c commuting)) ∙ sym (pair_term_bar i j g h)
 
   pub s_sum_symmetric : (i j : S) → s_sum T C X i j ≡ s_sum T C X j i
   s_sum_symmetric i j =

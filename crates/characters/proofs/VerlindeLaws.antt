@@ -5,25 +5,24 @@ use Rattle.algebra.specs.Sums.{pick, multiple}
 use Rattle.algebra.specs.Totals.{Finite, equals, total}
 use Rattle.algebra.specs.Groups.{conj}
 use Rattle.algebra.proofs.RingLaws.{product_rules, one_mul, mul_nought, nought_mul}
-use Rattle.algebra.proofs.SumLaws.{pick_of, pick_off, pick_nought, pick_cong, pick_true, pick_false, mul_pick, pick_mul, pick_swap, mul_multiple, multiple_mul, multiple_nought}
+use Rattle.algebra.proofs.SumLaws.{pick_of, pick_off, pick_nought, pick_cong, pick_true, pick_false, mul_pick, pick_mul, pick_swap, multiple_mul}
 use Rattle.algebra.proofs.GroupLaws.{group_rules, conj_is, conj_one, conj_inv, conj_of_inv, conj_of_commuting, inv_op_op}
 use Rattle.algebra.proofs.TotalLaws.{total_ext, total_exchange, total_pick, total_reindex, total_nought, mul_total, total_mul, pick_total, equals_true, equals_of}
 use Rattle.characters.specs.Setting.{Setting, Classes, Commuting, commute}
-use Rattle.characters.specs.PhaseRoots.{slant_root, transport_root, conjugation_root, coproduct_root}
+use Rattle.characters.specs.PhaseRoots.{slant_root, transport_root, conjugation_root}
 use Rattle.characters.specs.Simples.{Simples}
-use Rattle.characters.specs.Tables.{IsTorsionFree, group_order, centraliser_sum, centraliser_order, centraliser_product, GoodTable, GoodTables}
-use Rattle.characters.specs.Pairs.{pair_sum, inner_product}
+use Rattle.characters.specs.Tables.{IsTorsionFree, group_order, centraliser_sum, centraliser_order, centraliser_product, GoodTables}
 use Rattle.characters.specs.FullCharacters.{in_class, full_character}
 use Rattle.characters.specs.SMatrix.{pair_term, s_sum, dimension}
 use Rattle.characters.specs.Fusion.{tensor_character, fusion_sum}
-use Rattle.characters.proofs.SettingLaws.{same_test, commute_of, commute_true, commute_symmetric, commuting_conj, commute_conj, commuting_product, cancel_unit, inverse_unique, conjugation_root_bar, transport_roots_inverse, transport_root_along_one, coproduct_root_is_slant}
+use Rattle.characters.proofs.SettingLaws.{commute_of, commute_true, commuting_conj, commute_conj, commuting_product, inverse_unique, conjugation_root_bar, transport_roots_inverse, transport_root_along_one, coproduct_root_is_slant}
 use Rattle.characters.proofs.PairLaws.{pair_sum_is, pair_sum_ext, bar_pair_sum}
 use Rattle.characters.proofs.AlgebraLaws.{centraliser_product_is}
 use Rattle.characters.proofs.CentraliserSums.{centraliser_sum_ext, mul_centraliser_sum, centraliser_sum_mul, total_centraliser_sum, centraliser_sum_exchange, centraliser_sum_pick, centraliser_sum_shift, centraliser_sum_same}
-use Rattle.characters.proofs.CharacterLaws.{transporter_independent, covariance, full_character_off, in_class_is, in_class_true}
-use Rattle.characters.proofs.SLaws.{pair_term_bar, pair_term_invariant, s_sum_is, dimension_is}
+use Rattle.characters.proofs.CharacterLaws.{transporter_independent, covariance, full_character_off, in_class_true}
+use Rattle.characters.proofs.SLaws.{pair_term_bar, pair_product_invariant, s_sum_is, dimension_is}
 use Rattle.characters.proofs.OrthogonalityLaws.{cancel_multiple, class_equation, group_order_multiple, row_orthogonality, pick_both}
-use Rattle.characters.proofs.Unitarity.{equals_symmetric, s_unitary}
+use Rattle.characters.proofs.Unitarity.{equals_symmetric}
 use Rattle.characters.proofs.FusionLaws.{tensor_total, decomposition}
 
 -- the order of the group, and of a centraliser, may be cancelled
@@ -287,3 +286,126 @@ module _ {A G S : Type 0} (T : Setting A G) (C : Classes T.group) (X : Simples T
         outside d c f = simp (product_rules, T.ring)
         sorted : (u v m : A) → T.ring.mul u (T.ring.mul v (T.ring.mul m m)) ≡ T.ring.mul m (T.ring.mul m (T.ring.mul u v))
         sorted u v m = simp (product_rules, T.ring)
+
+  -- the full character of i at x and the representative of l, as a function of x
+  abbrev pub slice : S → S → G → A
+  slice l i x = full_character T C X i x (X.at l)
+
+  pub slice_carried : (l i : S) → IsCarried (X.at l) (slice l i)
+  slice_carried l i = record {
+    carried = λ c x p q.
+        let a : G = X.at l in
+        let y : G = T.group.op (T.group.op c x) (T.group.inv c) in
+        let commuting_y : Commuting T y a = conjugate_commutes a c x p q in
+        let back : conj T.group y c ≡ x = simp (conj_is, group_rules, T.group) in
+        let fixed : conj T.group a c ≡ a = conj_of_commuting T.group a c (sym p) in
+        let inverse : transport_root T y a c ≡ conjugation_root T a c x =
+            inverse_unique T (transport_root T a y c) _ _ (transport_roots_inverse T a y c (sym commuting_y))
+            (ap (λ r. T.ring.mul r (conjugation_root T a c x)) (sym (conjugation_root_bar T a c x)) ∙ T.ring.mul_comm _ _ ∙ conjugation_root_unit a c x) in
+        covariance T C X i y a c commuting_y ∙ ap₂ T.ring.mul inverse (ap₂ (full_character T C X i) back fixed);
+  }
+
+  -- the size of the class of l, as an element of the ring
+  abbrev class_size : S → A
+  class_size l = total T.ring T.finite (λ g. pick T.ring (in_class T C X l g) T.ring.one)
+
+  -- with the carrier e a full character at the representative is the row
+  value_at_representative : (l : S) (x : G) → Commuting T (X.at l) x → full_character T C X l (X.at l) x ≡ X.value l x
+  value_at_representative l x h =
+      transporter_independent T C X l (X.at l) x T.group.one (conj_one T.group (X.at l)) h
+      ∙ ap₂ T.ring.mul (transport_root_along_one T (X.at l) x) (ap (X.value l) (conj_one T.group x)) ∙ one_mul T.ring (X.value l x)
+
+  -- the conjugate of the sum of S at i and l is the size of the class of l times a trace
+  s_sum_is_trace : (i l : S) → T.involution.bar (s_sum T C X i l) ≡ T.ring.mul (class_size l) (trace l (slice l i))
+  s_sum_is_trace i l =
+      ap T.involution.bar (s_sum_is T C X i l) ∙ bar_pair_sum T (pair_term T C X i l)
+      ∙ pair_sum_ext T _ _ (λ g h c. ap T.involution.bar (pair_term_bar T C X i l g h) ∙ T.involution.bar_bar _)
+      ∙ pair_sum_is T _
+      ∙ total_exchange T.ring T.finite T.finite _
+      ∙ total_ext T.ring T.finite _ _ (λ h. by h (in_class T C X l h) refl)
+      ∙ sym (total_mul T.ring T.finite _ (trace l (slice l i)) ∙ total_ext T.ring T.finite _ _ (λ h. pick_mul T.ring (in_class T C X l h) T.ring.one _ ∙ ap (pick T.ring (in_class T C X l h)) (one_mul T.ring _)))
+    where
+      by : (h : G) (b : Bool) → in_class T C X l h ≡ b →
+          total T.ring T.finite (λ g. pick T.ring (commute T g h) (T.ring.mul (full_character T C X i g h) (full_character T C X l h g))) ≡ pick T.ring (in_class T C X l h) (trace l (slice l i))
+      by h true e =
+          total_ext T.ring T.finite _ (λ g. at_a (conj T.group g (C.carrier h))) (λ g. pick_both T.ring _ _ _ _ (test g) (λ p. term g (commute_true T g h p)))
+          ∙ total_reindex T.ring T.finite T.finite (λ g. conj T.group g (C.carrier h)) (λ g. conj T.group g (T.group.inv (C.carrier h))) (λ g. conj_inv T.group g (C.carrier h)) (λ g. conj_of_inv T.group g (C.carrier h)) at_a
+          ∙ sym (pick_of T.ring _ _ e)
+        where
+          at_a : G → A
+          at_a g = pick T.ring (commute T g (X.at l)) (T.ring.mul (full_character T C X i g (X.at l)) (X.value l g))
+          carried : conj T.group h (C.carrier h) ≡ X.at l
+          carried = C.carries h ∙ in_class_true T C X l h e
+          test : (g : G) → commute T g h ≡ commute T (conj T.group g (C.carrier h)) (X.at l)
+          test g = sym (commute_conj T g h (C.carrier h)) ∙ ap (commute T (conj T.group g (C.carrier h))) carried
+          term : (g : G) → Commuting T g h →
+              T.ring.mul (full_character T C X i g h) (full_character T C X l h g)
+              ≡ T.ring.mul (full_character T C X i (conj T.group g (C.carrier h)) (X.at l)) (X.value l (conj T.group g (C.carrier h)))
+          term g p =
+              let k : G = C.carrier h in
+              let moved : Commuting T (conj T.group g k) (X.at l) = subst (λ a. Commuting T (conj T.group g k) a) carried (commuting_conj T g h k p) in
+              pair_product_invariant T C X i l g h k p
+              ∙ ap (λ a. T.ring.mul (full_character T C X i (conj T.group g k) a) (full_character T C X l a (conj T.group g k))) carried
+              ∙ ap (T.ring.mul (full_character T C X i (conj T.group g k) (X.at l))) (value_at_representative l (conj T.group g k) (sym moved))
+      by h false e =
+          total_ext T.ring T.finite _ (λ g. T.ring.nought)
+          (λ g. ap (pick T.ring (commute T g h)) (ap (T.ring.mul (full_character T C X i g h)) (full_character_off T C X l h g e) ∙ mul_nought T.ring _) ∙ pick_nought T.ring _)
+          ∙ total_nought T.ring T.finite ∙ sym (pick_off T.ring _ _ e)
+
+  dimension_of_size : (l : S) → dimension T C X l ≡ T.ring.mul (class_size l) (multiple T.ring (X.degree l) T.ring.one)
+  dimension_of_size l =
+      dimension_is T C X l
+      ∙ sym (total_mul T.ring T.finite _ (multiple T.ring (X.degree l) T.ring.one)
+      ∙ total_ext T.ring T.finite _ _ (λ g. pick_mul T.ring (in_class T C X l g) T.ring.one _ ∙ ap (pick T.ring (in_class T C X l g)) (one_mul T.ring _ ∙ sym (X.degree_is l))))
+
+  module _ (E : Finite S) (good : GoodTables X E) (free : IsTorsionFree T.ring) where
+    -- the form of two slices is the trace of the tensor product
+    form_is_tensor : (i j l : S) → form E good free l (slice l i) (slice l j) ≡ trace l (λ g. tensor_character T C X i j g (X.at l))
+    form_is_tensor i j l =
+        total_ext T.ring T.finite _ _
+        (λ h. pick_total T.ring T.finite (commute T h (X.at l)) _
+        ∙ total_ext T.ring T.finite _ _
+        (λ k. pick_cong T.ring (commute T h (X.at l)) _ _
+        (λ p. pick_cong T.ring (commute T k (X.at l)) _ _
+        (λ q.
+        let commuting_h : Commuting T h (X.at l) = commute_true T h (X.at l) p in
+        let commuting_k : Commuting T k (X.at l) = commute_true T k (X.at l) q in
+        ap₂ (λ r v. T.ring.mul (T.ring.mul r (T.ring.mul (slice l i h) (slice l j k))) v)
+        (sym (coproduct_root_is_slant T (X.at l) h k commuting_h commuting_k))
+        (sym (pick_of T.ring _ _ (commute_of T (T.group.op h k) (X.at l) (commuting_product T h k (X.at l) commuting_h commuting_k))))))))
+        ∙ sym (tensor_total T C X i j (X.at l) (λ g. pick T.ring (commute T g (X.at l)) (X.value l g)))
+        ∙ total_ext T.ring T.finite _ _ (λ g. mul_pick T.ring (commute T g (X.at l)) (tensor_character T C X i j g (X.at l)) (X.value l g))
+
+    -- the order of the group times the form of two slices: the fusion sums with the traces
+    fusion_of_traces : (i j l : S) →
+        T.ring.mul (group_order T) (form E good free l (slice l i) (slice l j)) ≡ total T.ring E (λ k. T.ring.mul (fusion_sum T C X i j k) (trace l (slice l k)))
+    fusion_of_traces i j l =
+        ap (T.ring.mul (group_order T)) (form_is_tensor i j l)
+        ∙ mul_centraliser_sum T (X.at l) (group_order T) _
+        ∙ centraliser_sum_ext T (X.at l) _ _
+        (λ g h. sym (T.ring.mul_assoc _ _ _)
+        ∙ ap (λ u. T.ring.mul u (X.value l g)) (sym (decomposition T C X E good i j g (X.at l) h))
+        ∙ total_mul T.ring E _ (X.value l g)
+        ∙ total_ext T.ring E _ _ (λ k. T.ring.mul_assoc _ _ _))
+        ∙ sym (total_centraliser_sum T (X.at l) E _)
+        ∙ total_ext T.ring E _ _ (λ k. sym (mul_centraliser_sum T (X.at l) (fusion_sum T C X i j k) _))
+
+    pub verlinde : (i j l : S) →
+        T.ring.mul (group_order T) (T.ring.mul (T.involution.bar (s_sum T C X i l)) (T.involution.bar (s_sum T C X j l)))
+        ≡ T.ring.mul (dimension T C X l) (total T.ring E (λ k. T.ring.mul (fusion_sum T C X i j k) (T.involution.bar (s_sum T C X k l))))
+    verlinde i j l =
+        ap (T.ring.mul (group_order T)) (ap₂ T.ring.mul (s_sum_is_trace i l) (s_sum_is_trace j l))
+        ∙ sort (group_order T) (class_size l) (trace l (slice l i)) (trace l (slice l j))
+        ∙ ap (λ u. T.ring.mul (T.ring.mul (class_size l) (class_size l)) (T.ring.mul (group_order T) u)) (sym (form_of_carried E good free l (slice l i) (slice l j) (slice_carried l i) (slice_carried l j)))
+        ∙ sorted (class_size l) (group_order T) (multiple T.ring (X.degree l) T.ring.one) _
+        ∙ ap₂ (λ u v. T.ring.mul u (T.ring.mul (class_size l) v)) (sym (dimension_of_size l)) (fusion_of_traces i j l)
+        ∙ ap (T.ring.mul (dimension T C X l))
+        (mul_total T.ring E (class_size l) _
+        ∙ total_ext T.ring E _ _ (λ k. outside (class_size l) (fusion_sum T C X i j k) _ ∙ ap (T.ring.mul (fusion_sum T C X i j k)) (sym (s_sum_is_trace k l))))
+      where
+        sort : (n s u v : A) → T.ring.mul n (T.ring.mul (T.ring.mul s u) (T.ring.mul s v)) ≡ T.ring.mul (T.ring.mul s s) (T.ring.mul n (T.ring.mul u v))
+        sort n s u v = simp (product_rules, T.ring)
+        sorted : (s n d f : A) → T.ring.mul (T.ring.mul s s) (T.ring.mul n (T.ring.mul d f)) ≡ T.ring.mul (T.ring.mul s d) (T.ring.mul s (T.ring.mul n f))
+        sorted s n d f = simp (product_rules, T.ring)
+        outside : (d c f : A) → T.ring.mul d (T.ring.mul c f) ≡ T.ring.mul c (T.ring.mul d f)
+        outside d c f = simp (product_rules, T.ring)
