@@ -12,3 +12,4 @@ pub mod Expansion
 pub mod Unitarity
 pub mod FusionLaws
 pub mod VerlindeLaws
+pub mod FusionNumbers

@@ -1,9 +1,11 @@
 -- Tensor products of the simples of a twisted quantum double.
-use Rattle.algebra.specs.Sums.{pick}
+use Rattle.std.specs.Prelude.{◌≡◌, ℕ}
+use Rattle.algebra.specs.Sums.{pick, multiple}
 use Rattle.algebra.specs.Totals.{equals, total}
 use Rattle.characters.specs.Setting.{Setting, Classes, commute}
 use Rattle.characters.specs.PhaseRoots.{coproduct_root}
 use Rattle.characters.specs.Simples.{Simples}
+use Rattle.characters.specs.Tables.{group_order}
 use Rattle.characters.specs.Pairs.{inner_product}
 use Rattle.characters.specs.FullCharacters.{full_character}
 
@@ -18,3 +20,7 @@ module _ {A G S : Type 0} (T : Setting A G) (C : Classes T.group) (X : Simples T
   -- the order of the group times the fusion number of i, j and k: the inner product of the tensor product with k (textbook)
   unfoldable pub fusion_sum : S → S → S → A
   fusion_sum i j k = inner_product T (tensor_character i j) (full_character T C X k)
+
+  -- the fusion numbers: whole numbers, whose products with the order of the group are the fusion sums (textbook)
+  pub record AreFusionNumbers (number : S → S → S → ℕ) : Type 0 where
+    pub whole : (i j k : S) → fusion_sum i j k ≡ multiple T.ring (number i j k) (group_order T)
