@@ -42,7 +42,7 @@ module _ {A G : Type 0} (T : Setting A G) (a : G) where
   centraliser_product_is p r x = refl
 
 -- the centraliser of a by its places
-module _ {A G K : Type 0} (T : Setting A G) (a : G) (Q : Group K) (E : Finite K) (element : K → G) (I : IsSubgroup T.group (λ x. commute T x a) Q element) where
+module _ {A G K : Type 0} (T : Setting A G) (a : G) (Q : Group K) (element : K → G) (I : IsSubgroup T.group (λ x. commute T x a) Q element) where
   pub place_commutes : (p : K) → Commuting T (element p) a
   place_commutes p = commute_true T (element p) a (I.part.within p)
 
@@ -50,6 +50,30 @@ module _ {A G K : Type 0} (T : Setting A G) (a : G) (Q : Group K) (E : Finite K)
   pub at_commuting : (holds : G → Type 0) → ((p : K) → holds (element p)) → (x : G) → Commuting T x a → holds x
   at_commuting holds at x h = at_elements (λ y. commute T y a) element I.part holds at x (commute_of T x a h)
 
+  -- an element that commutes with each u_y, as an equation of places, is carried by conjugation
+  pub central_at_places : (z : G → A)
+      → ((y x : K)
+      → T.ring.mul (slant_root T a (element y) (element (Q.op (Q.inv y) x))) (z (element (Q.op (Q.inv y) x)))
+      ≡ T.ring.mul (slant_root T a (element (Q.op x (Q.inv y))) (element y)) (z (element (Q.op x (Q.inv y)))))
+      → (c x : G) → Commuting T c a → Commuting T x a
+      → z (T.group.op (T.group.op c x) (T.group.inv c)) ≡ T.ring.mul (conjugation_root T a c x) (z x)
+  central_at_places z at_places =
+      central_of_commuting T a z
+      (λ y x commuting_y commuting_x. at_commuting
+      (λ u. T.ring.mul (slant_root T a u (T.group.op (T.group.inv u) x)) (z (T.group.op (T.group.inv u) x)) ≡ T.ring.mul (slant_root T a (T.group.op x (T.group.inv u)) u) (z (T.group.op x (T.group.inv u))))
+      (λ p. at_commuting
+      (λ v. T.ring.mul (slant_root T a (element p) (T.group.op (T.group.inv (element p)) v)) (z (T.group.op (T.group.inv (element p)) v))
+      ≡ T.ring.mul (slant_root T a (T.group.op v (T.group.inv (element p))) (element p)) (z (T.group.op v (T.group.inv (element p)))))
+      (λ q.
+      let left : element (Q.op (Q.inv p) q) ≡ T.group.op (T.group.inv (element p)) (element q) = element_quotient T.group (λ y. commute T y a) Q element I p q in
+      let right : element (Q.op q (Q.inv p)) ≡ T.group.op (element q) (T.group.inv (element p)) =
+      I.respects q (Q.inv p) ∙ ap (T.group.op (element q)) (element_inv T.group (λ y. commute T y a) Q element I p) in
+      sym (ap (λ u. T.ring.mul (slant_root T a (element p) u) (z u)) left) ∙ at_places p q ∙ ap (λ u. T.ring.mul (slant_root T a u (element p)) (z u)) right)
+      x commuting_x)
+      y commuting_y)
+
+-- sums over its places
+module _ {A G K : Type 0} (T : Setting A G) (a : G) (Q : Group K) (E : Finite K) (element : K → G) (I : IsSubgroup T.group (λ x. commute T x a) Q element) where
   -- the order of the centraliser counts places
   pub order_at_places : centraliser_order T a ≡ total T.ring E (λ p. T.ring.one)
   order_at_places = centraliser_order_is T a ∙ sym (total_places (λ x. commute T x a) element I.part T.ring T.finite E (λ x. T.ring.one))
@@ -79,25 +103,3 @@ module _ {A G K : Type 0} (T : Setting A G) (a : G) (Q : Group K) (E : Finite K)
       (λ c. ap (λ b. pick T.ring b (T.involution.bar (conjugation_root T a (element c) (element x))))
       (ap (λ z. equals T.finite z (element y)) (sym (element_conjugate T.group (λ z. commute T z a) Q element I c x))
       ∙ sym (equals_at_places (λ z. commute T z a) element I.part T.finite E (Q.op (Q.op c x) (Q.inv c)) y)))
-
-  -- an element that commutes with each u_y, as an equation of places, is carried by conjugation
-  pub central_at_places : (z : G → A)
-      → ((y x : K)
-      → T.ring.mul (slant_root T a (element y) (element (Q.op (Q.inv y) x))) (z (element (Q.op (Q.inv y) x)))
-      ≡ T.ring.mul (slant_root T a (element (Q.op x (Q.inv y))) (element y)) (z (element (Q.op x (Q.inv y)))))
-      → (c x : G) → Commuting T c a → Commuting T x a
-      → z (T.group.op (T.group.op c x) (T.group.inv c)) ≡ T.ring.mul (conjugation_root T a c x) (z x)
-  central_at_places z at_places =
-      central_of_commuting T a z
-      (λ y x commuting_y commuting_x. at_commuting
-      (λ u. T.ring.mul (slant_root T a u (T.group.op (T.group.inv u) x)) (z (T.group.op (T.group.inv u) x)) ≡ T.ring.mul (slant_root T a (T.group.op x (T.group.inv u)) u) (z (T.group.op x (T.group.inv u))))
-      (λ p. at_commuting
-      (λ v. T.ring.mul (slant_root T a (element p) (T.group.op (T.group.inv (element p)) v)) (z (T.group.op (T.group.inv (element p)) v))
-      ≡ T.ring.mul (slant_root T a (T.group.op v (T.group.inv (element p))) (element p)) (z (T.group.op v (T.group.inv (element p)))))
-      (λ q.
-      let left : element (Q.op (Q.inv p) q) ≡ T.group.op (T.group.inv (element p)) (element q) = element_quotient T.group (λ y. commute T y a) Q element I p q in
-      let right : element (Q.op q (Q.inv p)) ≡ T.group.op (element q) (T.group.inv (element p)) =
-      I.respects q (Q.inv p) ∙ ap (T.group.op (element q)) (element_inv T.group (λ y. commute T y a) Q element I p) in
-      sym (ap (λ u. T.ring.mul (slant_root T a (element p) u) (z u)) left) ∙ at_places p q ∙ ap (λ u. T.ring.mul (slant_root T a u (element p)) (z u)) right)
-      x commuting_x)
-      y commuting_y)

@@ -47,6 +47,7 @@ module _ {A G : Type 0} (T : Setting A G) (a : G) where
       back x e =
           op_cancel_left T.group y _ _
           (sym (T.group.op_assoc y x a) ∙ e ∙ sym (T.group.op_assoc a y x) ∙ ap (λ z. T.group.op z x) (sym h) ∙ T.group.op_assoc y a x)
+
       test : (x : G) → commute T x a ≡ commute T (T.group.op y x) a
       test x =
           same_test (commute T x a) (commute T (T.group.op y x) a) (λ e. commute_of T (T.group.op y x) a (commuting_product T y x a h (commute_true T x a e)))

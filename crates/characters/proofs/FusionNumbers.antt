@@ -59,6 +59,7 @@ module _ {A G S : Type 0} (T : Setting A G) (C : Classes T.group) (X : Simples T
       where
         outside : (d n f : A) → T.ring.mul d (T.ring.mul n f) ≡ T.ring.mul n (T.ring.mul d f)
         outside d n f = simp (product_rules, T.ring)
+
         conjugate : T.ring.mul (T.involution.bar (s_sum T C X i l)) (T.involution.bar (s_sum T C X j l))
             ≡ T.ring.mul (dimension T C X l) (total T.ring E (λ k. multiple T.ring (number i j k) (T.involution.bar (s_sum T C X k l))))
         conjugate =
@@ -83,12 +84,13 @@ module _ {A G S : Type 0} (T : Setting A G) (C : Classes T.group) (X : Simples T
         (λ m. total_ext T.ring E _ _ (λ l. multiple_mul T.ring (number i j m) (s_sum T C X m l) (T.involution.bar (s_sum T C X k l)) ∙ sym (as_mul (number i j m) _))
         ∙ sym (mul_total T.ring E (multiple T.ring (number i j m) T.ring.one) _)
         ∙ ap (T.ring.mul (multiple T.ring (number i j m) T.ring.one)) (s_unitary T C X E good free m k)
-        ∙ mul_pick T.ring (equals E m k) _ _ )
+        ∙ mul_pick T.ring (equals E m k) _ _)
         ∙ total_pick T.ring E k (λ m. T.ring.mul (multiple T.ring (number i j m) T.ring.one) (T.ring.mul (group_order T) (group_order T))))
         ∙ ap (T.ring.mul product) (as_mul (number i j k) _)
         ∙ mul_multiple T.ring (number i j k) product _
       where
         sort : (c d u v : A) → T.ring.mul c (T.ring.mul (T.ring.mul d u) v) ≡ T.ring.mul (T.ring.mul c d) (T.ring.mul u v)
         sort c d u v = simp (product_rules, T.ring)
+
         as_mul : (n : ℕ) (u : A) → T.ring.mul (multiple T.ring n T.ring.one) u ≡ multiple T.ring n u
         as_mul n u = multiple_mul T.ring n T.ring.one u ∙ ap (multiple T.ring n) (T.ring.mul_comm T.ring.one u ∙ T.ring.mul_one u)

@@ -24,7 +24,7 @@ module _ {A G S K L : Type 0} (T : Setting A G) (C : Classes T.group) (X : Simpl
   at_simples holds at i h = at_elements (λ i. equals T.finite a (X.at i)) simple part holds at i (equals_of T.finite a (X.at i) (sym h))
 
   at_places : (holds : G → Type 0) → ((p : K) → holds (element p)) → (x : G) → Commuting T x a → holds x
-  at_places = at_commuting T a Q F element I
+  at_places = at_commuting T a Q element I
 
   -- multiples by the number of places are products with the order of the centraliser
   by_order : (u : A) → multiple T.ring F.size u ≡ T.ring.mul (centraliser_order T a) u

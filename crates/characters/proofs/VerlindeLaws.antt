@@ -33,6 +33,7 @@ module _ {A G : Type 0} (T : Setting A G) (C : Classes T.group) (free : IsTorsio
     where
       some : 1 ≤ T.finite.size
       some = let below : T.finite.index T.group.one < T.finite.size = T.finite.index_below T.group.one in omega arith
+
       as_multiple : (w : A) → T.ring.mul (group_order T) w ≡ multiple T.ring T.finite.size w
       as_multiple w = ap (λ n. T.ring.mul n w) (group_order_multiple T) ∙ multiple_mul T.ring T.finite.size T.ring.one w ∙ ap (multiple T.ring T.finite.size) (one_mul T.ring w)
 
@@ -62,10 +63,11 @@ module _ {A G S : Type 0} (T : Setting A G) (C : Classes T.group) (X : Simples T
   conjugate_commutes : (a c x : G) → Commuting T c a → Commuting T x a → Commuting T (T.group.op (T.group.op c x) (T.group.inv c)) a
   conjugate_commutes a c x p q =
       commuting_product T (T.group.op c x) (T.group.inv c) a (commuting_product T c x a p q)
-      (sym (ap (λ z. T.group.op z (T.group.inv c)) (moved)  ∙ T.group.op_assoc _ _ _ ∙ ap (T.group.op (T.group.inv c)) (ending)))
+      (sym (ap (λ z. T.group.op z (T.group.inv c)) (moved) ∙ T.group.op_assoc _ _ _ ∙ ap (T.group.op (T.group.inv c)) (ending)))
     where
       moved : a ≡ T.group.op (T.group.inv c) (T.group.op a c)
       moved = sym (ap (T.group.op (T.group.inv c)) (sym p) ∙ inv_op_op T.group c a)
+
       ending : T.group.op (T.group.op a c) (T.group.inv c) ≡ a
       ending = simp (group_rules, T.group)
 
@@ -94,8 +96,10 @@ module _ {A G S : Type 0} (T : Setting A G) (C : Classes T.group) (X : Simples T
             let r : A = conjugation_root T a c x in
             let sorted : T.ring.mul (T.ring.mul r (z x)) (T.involution.bar r) ≡ T.ring.mul (T.ring.mul r (T.involution.bar r)) (z x) = simp (product_rules, T.ring) in
             ap (λ u. T.ring.mul u (T.involution.bar r)) (central.carried c x h commuting) ∙ sorted ∙ ap (λ u. T.ring.mul u (z x)) (conjugation_root_unit a c x) ∙ one_mul T.ring (z x)
+
         sort : (u v w : A) → T.ring.mul (T.ring.mul u v) w ≡ T.ring.mul u (T.ring.mul w v)
         sort u v w = simp (product_rules, T.ring)
+
         term : (i : S) →
             pick T.ring (equals T.finite a (X.at i)) (T.ring.mul (trace i z) (T.involution.bar (X.value i x)))
             ≡ centraliser_sum T a (λ y. pick T.ring (equals T.finite a (X.at i)) (T.ring.mul (z y) (T.ring.mul (T.involution.bar (X.value i x)) (X.value i y))))
@@ -149,6 +153,7 @@ module _ {A G S : Type 0} (T : Setting A G) (C : Classes T.group) (X : Simples T
       where
         sort : (c s p r v : A) → T.ring.mul c (T.ring.mul (T.ring.mul s (T.ring.mul p r)) v) ≡ T.ring.mul (T.ring.mul c p) (T.ring.mul (T.ring.mul s r) v)
         sort c s p r v = simp (product_rules, T.ring)
+
         sorted : (u s r v : A) → T.ring.mul u (T.ring.mul (T.ring.mul s r) v) ≡ T.ring.mul (T.ring.mul s (T.ring.mul u r)) v
         sorted u s r v = simp (product_rules, T.ring)
 
@@ -166,6 +171,7 @@ module _ {A G S : Type 0} (T : Setting A G) (C : Classes T.group) (X : Simples T
       where
         sort : (c s p r v : A) → T.ring.mul c (T.ring.mul (T.ring.mul s (T.ring.mul p r)) v) ≡ T.ring.mul (T.ring.mul c r) (T.ring.mul (T.ring.mul s p) v)
         sort c s p r v = simp (product_rules, T.ring)
+
         sorted : (u s p v : A) → T.ring.mul u (T.ring.mul (T.ring.mul s p) v) ≡ T.ring.mul (T.ring.mul s (T.ring.mul p u)) v
         sorted u s p v = simp (product_rules, T.ring)
 
@@ -224,7 +230,7 @@ module _ {A G S : Type 0} (T : Setting A G) (C : Classes T.group) (X : Simples T
             ∙ sym (pick_true T.ring _ ∙ pick_of T.ring d _ (sym g ∙ other))
         by true false d e f g =
             let none : form (conjugates i) (conjugates i) ≡ T.ring.nought =
-                free.cancel (X.degree i) _ (X.degree_from_one i) (form_of_row i same_i ∙ ap (T.ring.mul order) (pick_off T.ring _ _ f) ∙ mul_nought T.ring order) in
+            free.cancel (X.degree i) _ (X.degree_from_one i) (form_of_row i same_i ∙ ap (T.ring.mul order) (pick_off T.ring _ _ f) ∙ mul_nought T.ring order) in
             ap (λ r. T.ring.mul degree (form (conjugates i) (conjugates r))) (sym (equals_true E i j e))
             ∙ ap (T.ring.mul degree) none ∙ mul_nought T.ring degree ∙ sym (pick_false T.ring _)
         by false true true e f g = absurd (let wrong : true ≡ false = sym (equals_of E i j (equals_true E i l f ∙ sym (equals_true E j l g))) ∙ e in cc)
@@ -282,8 +288,10 @@ module _ {A G S : Type 0} (T : Setting A G) (C : Classes T.group) (X : Simples T
       where
         sort : (m d f : A) → T.ring.mul m (T.ring.mul m (T.ring.mul d f)) ≡ T.ring.mul d (T.ring.mul (T.ring.mul m m) f)
         sort m d f = simp (product_rules, T.ring)
+
         outside : (d c f : A) → T.ring.mul d (T.ring.mul c f) ≡ T.ring.mul c (T.ring.mul d f)
         outside d c f = simp (product_rules, T.ring)
+
         sorted : (u v m : A) → T.ring.mul u (T.ring.mul v (T.ring.mul m m)) ≡ T.ring.mul m (T.ring.mul m (T.ring.mul u v))
         sorted u v m = simp (product_rules, T.ring)
 
@@ -300,8 +308,8 @@ module _ {A G S : Type 0} (T : Setting A G) (C : Classes T.group) (X : Simples T
         let back : conj T.group y c ≡ x = simp (conj_is, group_rules, T.group) in
         let fixed : conj T.group a c ≡ a = conj_of_commuting T.group a c (sym p) in
         let inverse : transport_root T y a c ≡ conjugation_root T a c x =
-            inverse_unique T (transport_root T a y c) _ _ (transport_roots_inverse T a y c (sym commuting_y))
-            (ap (λ r. T.ring.mul r (conjugation_root T a c x)) (sym (conjugation_root_bar T a c x)) ∙ T.ring.mul_comm _ _ ∙ conjugation_root_unit a c x) in
+        inverse_unique T (transport_root T a y c) _ _ (transport_roots_inverse T a y c (sym commuting_y))
+        (ap (λ r. T.ring.mul r (conjugation_root T a c x)) (sym (conjugation_root_bar T a c x)) ∙ T.ring.mul_comm _ _ ∙ conjugation_root_unit a c x) in
         covariance T C X i y a c commuting_y ∙ ap₂ T.ring.mul inverse (ap₂ (full_character T C X i) back fixed);
   }
 
@@ -334,10 +342,13 @@ module _ {A G S : Type 0} (T : Setting A G) (C : Classes T.group) (X : Simples T
         where
           at_a : G → A
           at_a g = pick T.ring (commute T g (X.at l)) (T.ring.mul (full_character T C X i g (X.at l)) (X.value l g))
+
           carried : conj T.group h (C.carrier h) ≡ X.at l
           carried = C.carries h ∙ in_class_true T C X l h e
+
           test : (g : G) → commute T g h ≡ commute T (conj T.group g (C.carrier h)) (X.at l)
           test g = sym (commute_conj T g h (C.carrier h)) ∙ ap (commute T (conj T.group g (C.carrier h))) carried
+
           term : (g : G) → Commuting T g h →
               T.ring.mul (full_character T C X i g h) (full_character T C X l h g)
               ≡ T.ring.mul (full_character T C X i (conj T.group g (C.carrier h)) (X.at l)) (X.value l (conj T.group g (C.carrier h)))
@@ -405,7 +416,9 @@ module _ {A G S : Type 0} (T : Setting A G) (C : Classes T.group) (X : Simples T
       where
         sort : (n s u v : A) → T.ring.mul n (T.ring.mul (T.ring.mul s u) (T.ring.mul s v)) ≡ T.ring.mul (T.ring.mul s s) (T.ring.mul n (T.ring.mul u v))
         sort n s u v = simp (product_rules, T.ring)
+
         sorted : (s n d f : A) → T.ring.mul (T.ring.mul s s) (T.ring.mul n (T.ring.mul d f)) ≡ T.ring.mul (T.ring.mul s d) (T.ring.mul s (T.ring.mul n f))
         sorted s n d f = simp (product_rules, T.ring)
+
         outside : (d c f : A) → T.ring.mul d (T.ring.mul c f) ≡ T.ring.mul c (T.ring.mul d f)
         outside d c f = simp (product_rules, T.ring)

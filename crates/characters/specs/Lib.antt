@@ -9,3 +9,5 @@ pub mod SMatrix
 pub mod Fusion
 pub mod Parts
 pub mod Theorems
+pub mod FusionTheorems
+pub mod PlaceTheorems

@@ -1,5 +1,5 @@
-//! Full characters of a twisted quantum double and its matrix S, over a group whose elements are a type and any commutative
-//! ring with roots of unity and a conjugation.
+//! Full characters of a twisted quantum double, its matrix S and its tensor products, over a group whose elements are a type
+//! and any commutative ring with roots of unity and a conjugation.
 //!
 //! The definitions stand in `specs/`, and their laws, for every such group and ring, in the files of `proofs/`, which the
 //! crates above import. The functions below carry the main ones as contracts of their own; they do nothing when called.
@@ -7,6 +7,8 @@
 
 ghost use Rattle.characters.specs.Theorems.{TransporterIndependent, Covariant, TermsInvariant, SSymmetric, VacuumRow, SUnitary};
 ghost use Rattle.characters.specs.Theorems.{RowsOrthogonal, CharactersOrthogonal, PairsOrthogonal, CharactersSpan};
+ghost use Rattle.characters.specs.FusionTheorems.{TensorProductsDecompose, FusionDimensions, NumbersAreMultiplicities, ColumnsMultiply, NumbersByS};
+ghost use Rattle.characters.specs.PlaceTheorems.{TotalsOverPlaces, CentralAtPlaces, GoodAtElements};
 
 /// A full character does not depend on the element by which it is carried from the representative, and it is covariant.
 pub fn full_character_laws()
@@ -28,4 +30,20 @@ pub fn s_laws()
     ensures symmetric { SSymmetric }
     ensures vacuum { VacuumRow }
     ensures unitary { SUnitary }
+{}
+
+/// Tensor products of simples decompose into simples, and S gives the numbers.
+pub fn fusion_laws()
+    ensures decompose { TensorProductsDecompose }
+    ensures dimensions { FusionDimensions }
+    ensures multiplicities { NumbersAreMultiplicities }
+    ensures columns { ColumnsMultiply }
+    ensures numbers { NumbersByS }
+{}
+
+/// What holds over the places of a centraliser holds over its elements.
+pub fn place_laws()
+    ensures totals { TotalsOverPlaces }
+    ensures central { CentralAtPlaces }
+    ensures good { GoodAtElements }
 {}
