@@ -50,6 +50,20 @@ module _ {A G K : Type 0} (T : Setting A G) (a : G) (Q : Group K) (element : K �
   pub at_commuting : (holds : G → Type 0) → ((p : K) → holds (element p)) → (x : G) → Commuting T x a → holds x
   at_commuting holds at x h = at_elements (λ y. commute T y a) element I.part holds at x (commute_of T x a h)
 
+  -- what is carried by conjugation at places is at elements
+  pub carried_at_places : (z : G → A)
+      → ((c p : K) → z (element (Q.op (Q.op c p) (Q.inv c))) ≡ T.ring.mul (conjugation_root T a (element c) (element p)) (z (element p)))
+      → (c x : G) → Commuting T c a → Commuting T x a
+      → z (T.group.op (T.group.op c x) (T.group.inv c)) ≡ T.ring.mul (conjugation_root T a c x) (z x)
+  carried_at_places z at_places c x commuting_c commuting_x =
+      at_commuting
+      (λ c. z (T.group.op (T.group.op c x) (T.group.inv c)) ≡ T.ring.mul (conjugation_root T a c x) (z x))
+      (λ q. at_commuting
+      (λ x. z (T.group.op (T.group.op (element q) x) (T.group.inv (element q))) ≡ T.ring.mul (conjugation_root T a (element q) x) (z x))
+      (λ p. ap z (sym (element_conjugate T.group (λ y. commute T y a) Q element I q p)) ∙ at_places q p)
+      x commuting_x)
+      c commuting_c
+
   -- an element that commutes with each u_y, as an equation of places, is carried by conjugation
   pub central_at_places : (z : G → A)
       → ((y x : K)

@@ -8,7 +8,7 @@ use Rattle.algebra.specs.Groups.{Group}
 use Rattle.algebra.proofs.SumLaws.{pick_off, pick_true, pick_false, pick_same}
 use Rattle.algebra.proofs.GroupLaws.{inv_unique, op_cancel_left}
 use Rattle.algebra.proofs.TotalLaws.{total_ext, total_exchange, total_pick, total_nought, equals_true, equals_of}
-use Rattle.characters.specs.Parts.{IsPart, IsSubgroup}
+use Rattle.characters.specs.Parts.{IsPart, IsSubgroup, extended}
 use Rattle.characters.proofs.SettingLaws.{same_test}
 
 module _ {G K : Type 0} (inside : G → Bool) (element : K → G) (I : IsPart inside element) where
@@ -46,6 +46,12 @@ module _ {G K : Type 0} (inside : G → Bool) (element : K → G) (I : IsPart in
           apart : (p : K) (b : Bool) → equals F x (element p) ≡ b → b ≡ false
           apart p true e = absurd (let wrong : true ≡ false = sym (I.within p) ∙ ap inside (sym (equals_true F x (element p) e)) ∙ h in cc)
           apart p false e = refl
+
+  -- the extension of a function of places has its values at the places
+  pub extended_at_place : {A : Type 0} (R : CommRing A) (F : Finite G) (E : Finite K) (f : K → A) (p : K) → extended R F E element f (element p) ≡ f p
+  unfolding extended
+  extended_at_place R F E f p =
+      total_ext R E _ _ (λ r. ap (λ b. pick R b (f r)) (sym (equals_at_places F E r p))) ∙ total_pick R E p f
 
 module _ {G K : Type 0} (P : Group G) (inside : G → Bool) (Q : Group K) (element : K → G) (I : IsSubgroup P inside Q element) where
   pub element_one : element Q.one ≡ P.one
