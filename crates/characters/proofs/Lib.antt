@@ -13,3 +13,5 @@ pub mod Unitarity
 pub mod FusionLaws
 pub mod VerlindeLaws
 pub mod FusionNumbers
+pub mod TwistLaws
+pub mod Relations

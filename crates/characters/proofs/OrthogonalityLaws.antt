@@ -6,7 +6,7 @@ use Rattle.algebra.specs.Sums.{pick, multiple}
 use Rattle.algebra.specs.Totals.{Finite, equals, total}
 use Rattle.algebra.specs.Groups.{conj}
 use Rattle.algebra.proofs.RingLaws.{product_rules, one_mul, mul_nought, nought_mul, neg_unique, neg_neg}
-use Rattle.algebra.proofs.SumLaws.{pick_of, pick_off, pick_nought, pick_cong, pick_true, pick_false, multiple_of_add, multiple_neg, mul_multiple}
+use Rattle.algebra.proofs.SumLaws.{pick_mul, pick_of, pick_off, pick_nought, pick_cong, pick_true, pick_false, multiple_of_add, multiple_neg, mul_multiple}
 use Rattle.algebra.proofs.GroupLaws.{conj_op, conj_inv, conj_of_inv, inv_op_op, op_inv_op, conj_of_commuting, commuting_of_conj}
 use Rattle.algebra.proofs.TotalLaws.{total_ext, total_exchange, total_pick, total_reindex, total_nought, total_constant, equals_true, equals_of, equals_false}
 use Rattle.characters.specs.Setting.{Setting, Classes, Commuting, commute}
@@ -33,6 +33,10 @@ cancel_multiple R free n x y from_one e =
 -- picks by equal tests of elements that are equal where the tests hold
 pub pick_both : {A : Type 0} (R : CommRing A) (b c : Bool) (x y : A) → b ≡ c → (b ≡ true → x ≡ y) → pick R b x ≡ pick R c y
 pick_both R b c x y e h = pick_cong R b x y h ∙ ap (λ d. pick R d y) e
+
+-- a factor that is picked may be used under the test
+pub pick_factor : {A : Type 0} (R : CommRing A) (b : Bool) (u v w : A) → (b ≡ true → v ≡ w) → R.mul (pick R b u) v ≡ R.mul (pick R b u) w
+pick_factor R b u v w h = pick_mul R b u v ∙ pick_cong R b _ _ (λ e. ap (R.mul u) (h e)) ∙ sym (pick_mul R b u w)
 
 module _ {A G : Type 0} (T : Setting A G) where
   pub group_order_is : group_order T ≡ total T.ring T.finite (λ g. T.ring.one)

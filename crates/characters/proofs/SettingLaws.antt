@@ -4,10 +4,10 @@ use mathlib.Core.Path.{ap₂}
 use Rattle.algebra.specs.Groups.{conj}
 use Rattle.algebra.specs.Congruences.{Same}
 use Rattle.algebra.proofs.RingLaws.{product_rules, one_mul}
-use Rattle.algebra.proofs.GroupLaws.{conj_of_commuting, op_conj, conj_injective}
+use Rattle.algebra.proofs.GroupLaws.{conj_of_commuting, op_conj, conj_injective, op_cancel_left, op_inv_op, op_op_inv}
 use Rattle.algebra.proofs.TotalLaws.{equals_true, equals_of}
-use Rattle.phases.specs.Phases.{transport_phase}
-use Rattle.phases.proofs.PhaseLaws.{gamma_transport, gamma_is_theta, gamma_of_one, kappa_is, kappa_is_transport, transport_phase_back, transport_phase_composes, transport_phases_inverse, transport_phase_along_one, transport_phase_of_one, transport_phase_at_one}
+use Rattle.phases.specs.Phases.{theta, gamma, transport_phase}
+use Rattle.phases.proofs.PhaseLaws.{transport_is_algebra_map, transport_phase_of_itself, theta_at_itself, theta_by_itself, theta_product_index, theta_associative, theta_second_one, theta_of_one, gamma_first_one, theta_gamma_compatible, gamma_transport, gamma_is_theta, gamma_of_one, kappa_is, kappa_is_transport, transport_phase_back, transport_phase_composes, transport_phases_inverse, transport_phase_along_one, transport_phase_of_one, transport_phase_at_one}
 use Rattle.characters.specs.Setting.{Setting, Commuting, commute}
 use Rattle.characters.specs.PhaseRoots.{slant_root, transport_root, conjugation_root, coproduct_root}
 
@@ -152,3 +152,84 @@ module _ {A G : Type 0} (T : Setting A G) where
       sym (T.ring.mul_assoc _ _ _) ∙ ap₂ T.ring.mul (sym (T.roots.root_add _ _)) refl ∙ sym (T.roots.root_add _ _)
       ∙ T.roots.root_same _ _ (gamma_transport T.group T.modulus T.cochain T.cocycle x h k c (conj_of_commuting T.group h x p) (conj_of_commuting T.group k x q))
       ∙ T.roots.root_add _ _
+
+  -- transport along k is a map of algebras
+  pub transport_root_product : (g x y k : G) → Commuting T x g → Commuting T y g →
+      T.ring.mul (slant_root T g x y) (transport_root T g (T.group.op x y) k)
+      ≡ T.ring.mul (T.ring.mul (transport_root T g x k) (transport_root T g y k)) (slant_root T (conj T.group g k) (conj T.group x k) (conj T.group y k))
+  unfolding slant_root transport_root
+  transport_root_product g x y k p q =
+      sym (T.roots.root_add _ _)
+      ∙ T.roots.root_same _ _ (transport_is_algebra_map T.group T.modulus T.cochain T.cocycle g x y k (conj_of_commuting T.group x g p) (conj_of_commuting T.group y g q))
+      ∙ T.roots.root_add _ _ ∙ ap₂ T.ring.mul (T.roots.root_add _ _) refl
+
+  pub transport_root_of_itself : (g k : G) → transport_root T g g k ≡ T.ring.one
+  unfolding transport_root
+  transport_root_of_itself g k = ap T.roots.root (transport_phase_of_itself T.group T.modulus T.cochain T.cocycle g k) ∙ T.roots.root_zero
+
+  -- an element is central in its own algebra
+  pub slant_root_swap : (g x : G) → Commuting T x g → slant_root T g x g ≡ slant_root T g g x
+  unfolding slant_root
+  slant_root_swap g x p =
+      let commutes : conj T.group x g ≡ x = conj_of_commuting T.group x g p in
+      ap T.roots.root (theta_by_itself T.group T.modulus T.cochain T.cocycle g x commutes ∙ sym (theta_at_itself T.group T.modulus T.cochain T.cocycle g x commutes))
+
+  -- th_gx(g,x) = th_g(g,x) th_x(x,g)
+  pub slant_root_product_index : (g x : G) → Commuting T x g → slant_root T (T.group.op g x) g x ≡ T.ring.mul (slant_root T g g x) (slant_root T x x g)
+  unfolding slant_root
+  slant_root_product_index g x p =
+      T.roots.root_same _ _ (theta_product_index T.group T.modulus T.cochain T.cocycle g x (conj_of_commuting T.group x g p)) ∙ T.roots.root_add _ _
+
+  -- the law of a 2-cocycle in the centraliser of g
+  pub slant_root_associative : (g x y z : G) → Commuting T x g →
+      T.ring.mul (slant_root T g x y) (slant_root T g (T.group.op x y) z) ≡ T.ring.mul (slant_root T g x (T.group.op y z)) (slant_root T g y z)
+  unfolding slant_root
+  slant_root_associative g x y z p =
+      sym (T.roots.root_add _ _)
+      ∙ T.roots.root_same _ _ (theta_associative T.group T.modulus T.cochain T.cocycle g x y z)
+      ∙ T.roots.root_add _ _
+      ∙ ap (λ h. T.ring.mul (T.roots.root (theta T.group T.modulus T.cochain g x (T.group.op y z))) (T.roots.root (theta T.group T.modulus T.cochain h y z))) (conj_of_commuting T.group g x (sym p))
+
+  pub slant_root_second_one : (g x : G) → slant_root T g x T.group.one ≡ T.ring.one
+  unfolding slant_root
+  slant_root_second_one g x = ap T.roots.root (theta_second_one T.group T.modulus T.cochain T.cocycle g x) ∙ T.roots.root_zero
+
+  -- slant and coproduct roots are compatible
+  pub slant_coproduct_compatible : (g k h l : G) →
+      T.ring.mul (T.ring.mul (slant_root T g h l) (slant_root T k h l)) (T.ring.mul (coproduct_root T h g k) (coproduct_root T l (conj T.group g h) (conj T.group k h)))
+      ≡ T.ring.mul (slant_root T (T.group.op g k) h l) (coproduct_root T (T.group.op h l) g k)
+  unfolding slant_root coproduct_root
+  slant_coproduct_compatible g k h l =
+      sym (T.ring.mul_assoc _ _ _)
+      ∙ ap₂ T.ring.mul (ap₂ T.ring.mul (sym (T.roots.root_add _ _)) refl ∙ sym (T.roots.root_add _ _)) refl
+      ∙ sym (T.roots.root_add _ _)
+      ∙ T.roots.root_same _ _ (theta_gamma_compatible T.group T.modulus T.cochain T.cocycle g k h l)
+      ∙ T.roots.root_add _ _
+
+  pub slant_root_of_one : (x y : G) → slant_root T T.group.one x y ≡ T.ring.one
+  unfolding slant_root
+  slant_root_of_one x y = ap T.roots.root (theta_of_one T.group T.modulus T.cochain T.cocycle x y) ∙ T.roots.root_zero
+
+  -- what commutes with an element is closed under inverses
+  pub commuting_inv : (x a : G) → Commuting T x a → Commuting T (T.group.inv x) a
+  commuting_inv x a h =
+      op_cancel_left T.group x _ _
+      (op_inv_op T.group x a ∙ sym (sym (T.group.op_assoc x a (T.group.inv x)) ∙ ap (λ z. T.group.op z (T.group.inv x)) h ∙ op_op_inv T.group x a))
+
+  -- the slant roots at inverses
+  pub slant_roots_inverse : (g h : G) → Commuting T g h →
+      T.ring.mul (T.ring.mul (slant_root T g h (T.group.inv h)) (slant_root T (T.group.inv g) h (T.group.inv h)))
+      (T.ring.mul (slant_root T h g (T.group.inv g)) (slant_root T (T.group.inv h) g (T.group.inv g)))
+      ≡ T.ring.one
+  slant_roots_inverse g h p =
+      let k : G = T.group.inv g in
+      let l : G = T.group.inv h in
+      let same_g : conj T.group g h ≡ g = conj_of_commuting T.group g h p in
+      let same_k : conj T.group k h ≡ k = conj_of_commuting T.group k h (commuting_inv g h p) in
+      let back : Commuting T g l = sym (commuting_inv h g (sym p)) in
+      ap₂ (λ u v. T.ring.mul (T.ring.mul (slant_root T g h l) (slant_root T k h l)) (T.ring.mul u v))
+      (sym (coproduct_root_is_slant h g k p (commuting_inv g h p)))
+      (sym (coproduct_root_is_slant l g k back (commuting_inv g l back)) ∙ ap₂ (coproduct_root T l) (sym same_g) (sym same_k))
+      ∙ slant_coproduct_compatible g k h l
+      ∙ ap₂ T.ring.mul (ap (λ z. slant_root T z h l) (T.group.op_inv g) ∙ slant_root_of_one h l) (ap (λ z. coproduct_root T z g k) (T.group.op_inv h) ∙ coproduct_root_at_one g k)
+      ∙ T.ring.mul_one T.ring.one

@@ -21,7 +21,7 @@ use Rattle.characters.proofs.AlgebraLaws.{centraliser_product_is}
 use Rattle.characters.proofs.CentraliserSums.{centraliser_sum_ext, mul_centraliser_sum, centraliser_sum_mul, total_centraliser_sum, centraliser_sum_exchange, centraliser_sum_pick, centraliser_sum_shift, centraliser_sum_same}
 use Rattle.characters.proofs.CharacterLaws.{transporter_independent, covariance, full_character_off, in_class_true}
 use Rattle.characters.proofs.SLaws.{pair_term_bar, pair_product_invariant, s_sum_is, dimension_is}
-use Rattle.characters.proofs.OrthogonalityLaws.{cancel_multiple, class_equation, group_order_multiple, row_orthogonality, pick_both}
+use Rattle.characters.proofs.OrthogonalityLaws.{pick_factor, cancel_multiple, class_equation, group_order_multiple, row_orthogonality, pick_both}
 use Rattle.characters.proofs.Unitarity.{equals_symmetric}
 use Rattle.characters.proofs.FusionLaws.{tensor_total, decomposition}
 
@@ -60,7 +60,7 @@ module _ {A G S : Type 0} (T : Setting A G) (C : Classes T.group) (X : Simples T
   unfolding conjugation_root
   conjugation_root_unit a c x = T.root_bar _
 
-  conjugate_commutes : (a c x : G) → Commuting T c a → Commuting T x a → Commuting T (T.group.op (T.group.op c x) (T.group.inv c)) a
+  pub conjugate_commutes : (a c x : G) → Commuting T c a → Commuting T x a → Commuting T (T.group.op (T.group.op c x) (T.group.inv c)) a
   conjugate_commutes a c x p q =
       commuting_product T (T.group.op c x) (T.group.inv c) a (commuting_product T c x a p q)
       (sym (ap (λ z. T.group.op z (T.group.inv c)) (moved) ∙ T.group.op_assoc _ _ _ ∙ ap (T.group.op (T.group.inv c)) (ending)))
@@ -240,18 +240,14 @@ module _ {A G S : Type 0} (T : Setting A G) (C : Classes T.group) (X : Simples T
             nothing e = ap (T.ring.mul degree) (form_of_other i j same_i same_j (λ h. absurd (let wrong : true ≡ false = sym (equals_of E i j h) ∙ e in cc))) ∙ mul_nought T.ring degree
         by false true false e f g = ap (T.ring.mul degree) (form_of_other i j same_i same_j (λ h. absurd (let wrong : true ≡ false = sym (equals_of E i j h) ∙ e in cc))) ∙ mul_nought T.ring degree ∙ sym (pick_true T.ring _ ∙ pick_false T.ring _)
 
-    -- a factor that is picked may be used under the test
-    pick_factor : (b : Bool) (u v w : A) → (b ≡ true → v ≡ w) → T.ring.mul (pick T.ring b u) v ≡ T.ring.mul (pick T.ring b u) w
-    pick_factor b u v w h = pick_mul T.ring b u v ∙ pick_cong T.ring b _ _ (λ e. ap (T.ring.mul u) (h e)) ∙ sym (pick_mul T.ring b u w)
-
     -- the part of a function that a row makes
-    abbrev part : (G → A) → S → A
+    abbrev pub part : (G → A) → S → A
     part z i = pick T.ring (equals T.finite (X.at l) (X.at i)) (trace i z)
 
-    part_at : (z : G → A) → part z l ≡ trace l z
+    pub part_at : (z : G → A) → part z l ≡ trace l z
     part_at z = pick_of T.ring _ _ (equals_of T.finite (X.at l) (X.at l) refl)
 
-    by_parts : (z : G → A) → IsCarried (X.at l) z → (x : G) → Commuting T x (X.at l) → T.ring.mul order (z x) ≡ total T.ring E (λ i. T.ring.mul (part z i) (conjugates i x))
+    pub by_parts : (z : G → A) → IsCarried (X.at l) z → (x : G) → Commuting T x (X.at l) → T.ring.mul order (z x) ≡ total T.ring E (λ i. T.ring.mul (part z i) (conjugates i x))
     by_parts z central x h =
         sym (total_ext T.ring E _ _ (λ i. pick_mul T.ring (equals T.finite (X.at l) (X.at i)) (trace i z) (conjugates i x))
         ∙ carried_by_rows E good (X.at l) (X.at_representative l) z central x h)
@@ -270,11 +266,11 @@ module _ {A G S : Type 0} (T : Setting A G) (C : Classes T.group) (X : Simples T
         ∙ mul_total T.ring E degree _
         ∙ total_ext T.ring E _ _
         (λ i. outside degree (part z i) _
-        ∙ pick_factor (equals T.finite (X.at l) (X.at i)) (trace i z) _ _
+        ∙ pick_factor T.ring (equals T.finite (X.at l) (X.at i)) (trace i z) _ _
         (λ e. mul_total T.ring E degree _
         ∙ total_ext T.ring E _ _
         (λ j. outside degree (part w j) _
-        ∙ pick_factor (equals T.finite (X.at l) (X.at j)) (trace j w) _ _
+        ∙ pick_factor T.ring (equals T.finite (X.at l) (X.at j)) (trace j w) _ _
         (λ f. form_of_rows i j (sym (equals_true T.finite (X.at l) (X.at i) e)) (sym (equals_true T.finite (X.at l) (X.at j) f)))
         ∙ mul_pick T.ring (equals E i l) (part w j) _)
         ∙ sym (pick_total T.ring E (equals E i l) _)

@@ -7,6 +7,7 @@ pub mod PlaceTables
 pub mod FullCharacters
 pub mod SMatrix
 pub mod Fusion
+pub mod Twists
 pub mod Parts
 pub mod Theorems
 pub mod FusionTheorems

@@ -1,0 +1,1 @@
+-- The relations of S and T.
