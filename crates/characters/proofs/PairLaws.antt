@@ -3,10 +3,11 @@ use Rattle.std.proofs.Common.{◌≡◌, refl, sym, ◌∙◌, ap}
 use Rattle.algebra.specs.Sums.{pick}
 use Rattle.algebra.specs.Totals.{Finite, equals, total}
 use Rattle.algebra.proofs.SumLaws.{pick_of, pick_cong, mul_pick, pick_map, pick_swap}
-use Rattle.algebra.proofs.TotalLaws.{total_ext, total_exchange, total_pick, mul_total, pick_total, total_map}
+use Rattle.algebra.proofs.GroupLaws.{op_op_inv, op_inv_cancel, op_cancel_right, inv_inv}
+use Rattle.algebra.proofs.TotalLaws.{total_reindex, total_ext, total_exchange, total_pick, mul_total, pick_total, total_map}
 use Rattle.characters.specs.Setting.{Setting, Commuting, commute}
 use Rattle.characters.specs.Pairs.{pair_sum, inner_product}
-use Rattle.characters.proofs.SettingLaws.{commute_of, commute_true, commute_symmetric}
+use Rattle.characters.proofs.SettingLaws.{commute_of, commute_true, commute_symmetric, commuting_product, commuting_inv, same_test}
 
 module _ {A G : Type 0} (T : Setting A G) where
   pub pair_sum_is : (f : G → G → A) → pair_sum T f ≡ total T.ring T.finite (λ g. total T.ring T.finite (λ x. pick T.ring (commute T g x) (f g x)))
@@ -68,3 +69,30 @@ module _ {A G : Type 0} (T : Setting A G) where
   pub inner_product_is : (p r : G → G → A) → inner_product T p r ≡ pair_sum T (λ g x. T.ring.mul (p g x) (T.involution.bar (r g x)))
   unfolding inner_product
   inner_product_is p r = refl
+
+  -- the second element may be taken as a product with the first
+  pub pair_sum_shift : (f : G → G → A) → pair_sum T f ≡ pair_sum T (λ g p. f g (T.group.op p g))
+  unfolding pair_sum
+  pair_sum_shift f =
+      sym (total_ext T.ring T.finite _ _
+      (λ g. total_ext T.ring T.finite _ _ (λ p. ap (λ b. pick T.ring b (f g (T.group.op p g))) (test g p))
+      ∙ total_reindex T.ring T.finite T.finite (λ p. T.group.op p g) (λ h. T.group.op h (T.group.inv g)) (λ p. op_op_inv T.group g p) (λ h. op_inv_cancel T.group g h) (λ h. pick T.ring (commute T g h) (f g h))))
+    where
+      test : (g p : G) → commute T g p ≡ commute T g (T.group.op p g)
+      test g p =
+          same_test (commute T g p) (commute T g (T.group.op p g))
+          (λ e. commute_of T g (T.group.op p g) (sym (commuting_product T p g g (sym (commute_true T g p e)) refl)))
+          (λ e. commute_of T g p (op_cancel_right T.group g _ _ (T.group.op_assoc g p g ∙ commute_true T g (T.group.op p g) e)))
+
+  -- or as an inverse
+  pub pair_sum_inverse : (f : G → G → A) → pair_sum T f ≡ pair_sum T (λ g h. f g (T.group.inv h))
+  unfolding pair_sum
+  pair_sum_inverse f =
+      sym (total_ext T.ring T.finite _ _
+      (λ g. total_ext T.ring T.finite _ _ (λ h. ap (λ b. pick T.ring b (f g (T.group.inv h))) (test g h))
+      ∙ total_reindex T.ring T.finite T.finite T.group.inv T.group.inv (inv_inv T.group) (inv_inv T.group) (λ h. pick T.ring (commute T g h) (f g h))))
+    where
+      test : (g h : G) → commute T g h ≡ commute T g (T.group.inv h)
+      test g h =
+          same_test (commute T g h) (commute T g (T.group.inv h)) (λ e. commute_of T g (T.group.inv h) (sym (commuting_inv T h g (sym (commute_true T g h e)))))
+          (λ e. commute_of T g h (sym (ap (λ z. T.group.op z g) (sym (inv_inv T.group h)) ∙ commuting_inv T (T.group.inv h) g (sym (commute_true T g (T.group.inv h) e)) ∙ ap (T.group.op g) (inv_inv T.group h))))
