@@ -1,5 +1,5 @@
 -- The relations of S and T.
-use Rattle.std.proofs.Common.{◌≡◌, Bool, refl, sym, ◌∙◌, ap}
+use Rattle.std.proofs.Common.{◌≡◌, refl, sym, ◌∙◌, ap}
 use mathlib.Core.Path.{ap₂}
 use Rattle.algebra.specs.Sums.{pick}
 use Rattle.algebra.specs.Totals.{Finite, equals, total}
@@ -96,8 +96,10 @@ module _ {A G S : Type 0} (T : Setting A G) (C : Classes T.group) (X : Simples T
     where
       sort : (a u d b v : A) → T.ring.mul (T.ring.mul a u) (T.ring.mul d (T.ring.mul b v)) ≡ T.ring.mul u (T.ring.mul (T.ring.mul (T.ring.mul a b) d) v)
       sort a u d b v = simp (product_rules, T.ring)
+
       sorted : (a b c d : A) → T.ring.mul c (T.ring.mul (T.ring.mul a b) d) ≡ T.ring.mul (T.ring.mul a b) (T.ring.mul c d)
       sorted a b c d = simp (product_rules, T.ring)
+
       term : (g h : G) → Commuting T g h →
           T.involution.bar (T.ring.mul (T.involution.bar (full_character T C X j g (T.group.inv h)))
           (T.ring.mul (T.involution.bar (slant_root T (T.group.inv h) g (T.group.inv g))) (T.involution.bar (full_character T C X i (T.group.inv g) (T.group.inv h)))))
@@ -173,8 +175,8 @@ module _ {A G S : Type 0} (T : Setting A G) (C : Classes T.group) (X : Simples T
         let k : G = T.group.inv g in
         let r : A = slant_root T h g k in
         let step : T.ring.mul (slant_root T h p g) (slant_root T h h k) ≡ r =
-            slant_root_associative T h p g k (sym (commuting_product T p g p refl (sym c)))
-            ∙ ap₂ T.ring.mul (ap (slant_root T h p) (T.group.op_inv g) ∙ slant_root_second_one T h p) refl ∙ one_mul T.ring r in
+        slant_root_associative T h p g k (sym (commuting_product T p g p refl (sym c)))
+        ∙ ap₂ T.ring.mul (ap (slant_root T h p) (T.group.op_inv g) ∙ slant_root_second_one T h p) refl ∙ one_mul T.ring r in
         ap₂ T.ring.mul (sym (slant_root_product_index T p g (sym c))) refl
         ∙ outside (slant_root T h p g) (T.involution.bar r) (slant_root T h h k)
         ∙ ap (T.ring.mul (T.involution.bar r)) step ∙ T.ring.mul_comm _ _ ∙ slant_root_bar T h g k
@@ -199,6 +201,7 @@ module _ {A G S : Type 0} (T : Setting A G) (C : Classes T.group) (X : Simples T
       where
         sort : (s v y q t u x : A) → T.ring.mul (T.ring.mul s (T.ring.mul v y)) (T.ring.mul q (T.ring.mul t (T.ring.mul u x))) ≡ T.ring.mul (T.ring.mul (T.ring.mul t s) q) (T.ring.mul (T.ring.mul u v) (T.ring.mul x y))
         sort s v y q t u x = simp (product_rules, T.ring)
+
         term : (g p : G) → Commuting T p g →
             T.ring.mul (T.involution.bar (full_character T C X j g (T.group.op p g)))
             (T.ring.mul (T.ring.mul (T.involution.bar (slant_root T (T.group.op p g) g (T.group.inv g))) (slant_root T (T.group.op p g) (T.group.op p g) (T.group.inv g)))

@@ -4,23 +4,23 @@ use mathlib.Core.Path.{ap₂}
 use Rattle.algebra.specs.Sums.{pick, multiple}
 use Rattle.algebra.specs.Totals.{Finite, equals, total}
 use Rattle.algebra.specs.Groups.{conj}
-use Rattle.algebra.proofs.RingLaws.{product_rules, one_mul, mul_nought, nought_mul}
-use Rattle.algebra.proofs.SumLaws.{pick_of, pick_off, pick_nought, pick_cong, pick_true, pick_false, mul_pick, pick_mul, pick_same, multiple_mul, multiple_is_mul}
+use Rattle.algebra.proofs.RingLaws.{product_rules, one_mul, mul_nought}
+use Rattle.algebra.proofs.SumLaws.{pick_of, pick_true, pick_false, mul_pick, pick_mul, multiple_is_mul}
 use Rattle.algebra.proofs.GroupLaws.{group_rules, conj_is, conj_of_commuting, inv_op_op, op_op_inv, op_conj, inv_conj}
 use Rattle.algebra.proofs.InvolutionLaws.{bar_nought}
 use Rattle.algebra.proofs.TotalLaws.{total_ext, total_pick, mul_total, total_mul, equals_true, equals_of}
-use Rattle.characters.specs.Setting.{Setting, Classes, Commuting, commute}
+use Rattle.characters.specs.Setting.{Setting, Classes, Commuting}
 use Rattle.characters.specs.PhaseRoots.{slant_root, transport_root, conjugation_root}
 use Rattle.characters.specs.Simples.{Simples}
 use Rattle.characters.specs.Twists.{AreTwists}
-use Rattle.characters.specs.Tables.{IsTorsionFree, centraliser_sum, centraliser_order, centraliser_product, GoodTable, GoodTables}
+use Rattle.characters.specs.Tables.{IsTorsionFree, centraliser_order, centraliser_product, GoodTables}
 use Rattle.characters.specs.FullCharacters.{in_class, full_character}
-use Rattle.characters.proofs.SettingLaws.{same_test, commute_of, commute_true, commuting_conj, commuting_inv, commuting_product, cancel_unit, inverse_unique, slant_root_bar, slant_root_swap, conjugation_root_is, transport_root_bar, transport_root_product, transport_root_of_itself, transport_root_of_one}
+use Rattle.characters.proofs.SettingLaws.{same_test, commuting_conj, commuting_inv, commuting_product, cancel_unit, slant_root_bar, slant_root_swap, conjugation_root_is, transport_root_bar, transport_root_product, transport_root_of_itself, transport_root_of_one}
 use Rattle.characters.proofs.AlgebraLaws.{centraliser_product_is}
-use Rattle.characters.proofs.CentraliserSums.{centraliser_sum_ext, mul_centraliser_sum, centraliser_sum_mul, total_centraliser_sum, centraliser_sum_pick}
+use Rattle.characters.proofs.CentraliserSums.{centraliser_sum_ext, mul_centraliser_sum, total_centraliser_sum, centraliser_sum_pick}
 use Rattle.characters.proofs.CharacterLaws.{full_character_at, full_character_off, in_class_true}
 use Rattle.characters.proofs.OrthogonalityLaws.{cancel_multiple, pick_both, pick_factor}
-use Rattle.characters.proofs.VerlindeLaws.{trace, IsCarried, carried_by_rows, cancel_centraliser_order, conjugate_commutes, part, part_at, by_parts}
+use Rattle.characters.proofs.VerlindeLaws.{trace, IsCarried, cancel_centraliser_order, part, part_at, by_parts}
 
 module _ {A G S : Type 0} (T : Setting A G) (C : Classes T.group) (X : Simples T C S) (E : Finite S) (good : GoodTables X E) (free : IsTorsionFree T.ring) where
   module _ (l : S) where
@@ -44,6 +44,7 @@ module _ {A G S : Type 0} (T : Setting A G) (C : Classes T.group) (X : Simples T
       where
         sort : (c s p r : A) → T.ring.mul c (T.ring.mul s (T.ring.mul p r)) ≡ T.ring.mul (T.ring.mul c p) (T.ring.mul s r)
         sort c s p r = simp (product_rules, T.ring)
+
         sorted : (u s r : A) → T.ring.mul u (T.ring.mul s r) ≡ T.ring.mul s (T.ring.mul u r)
         sorted u s r = simp (product_rules, T.ring)
 
@@ -164,24 +165,26 @@ module _ {A G S : Type 0} (T : Setting A G) (C : Classes T.group) (X : Simples T
         let v : A = X.value l x in
         let u : A = X.value l (T.group.op a x) in
         let bars : T.ring.mul r (T.involution.bar v) ≡ T.ring.mul t (T.involution.bar u) =
-            cancel_multiple T.ring free (X.degree l) _ _ (X.degree_from_one l)
-            (sym (as_mul (X.degree l) _)
-            ∙ ap (T.ring.mul (multiple T.ring (X.degree l) T.ring.one)) (sym (product_with_itself x))
-            ∙ carried_times_row itself itself_carried (T.group.op a x) (commuting_product T a x a refl h)
-            ∙ ap (λ z. T.ring.mul z (T.involution.bar u)) (trace_of_itself ∙ twists.at_itself l ∙ ap (T.ring.mul t) (X.degree_is l))
-            ∙ sort t (multiple T.ring (X.degree l) T.ring.one) (T.involution.bar u)
-            ∙ as_mul (X.degree l) _) in
+        cancel_multiple T.ring free (X.degree l) _ _ (X.degree_from_one l)
+        (sym (as_mul (X.degree l) _)
+        ∙ ap (T.ring.mul (multiple T.ring (X.degree l) T.ring.one)) (sym (product_with_itself x))
+        ∙ carried_times_row itself itself_carried (T.group.op a x) (commuting_product T a x a refl h)
+        ∙ ap (λ z. T.ring.mul z (T.involution.bar u)) (trace_of_itself ∙ twists.at_itself l ∙ ap (T.ring.mul t) (X.degree_is l))
+        ∙ sort t (multiple T.ring (X.degree l) T.ring.one) (T.involution.bar u)
+        ∙ as_mul (X.degree l) _) in
         let plain : T.ring.mul (T.involution.bar r) v ≡ T.ring.mul (T.involution.bar t) u =
-            ap (T.ring.mul (T.involution.bar r)) (sym (T.involution.bar_bar v)) ∙ sym (T.involution.bar_mul r (T.involution.bar v)) ∙ ap T.involution.bar bars
-            ∙ T.involution.bar_mul t (T.involution.bar u) ∙ ap (T.ring.mul (T.involution.bar t)) (T.involution.bar_bar u) in
+        ap (T.ring.mul (T.involution.bar r)) (sym (T.involution.bar_bar v)) ∙ sym (T.involution.bar_mul r (T.involution.bar v)) ∙ ap T.involution.bar bars
+        ∙ T.involution.bar_mul t (T.involution.bar u) ∙ ap (T.ring.mul (T.involution.bar t)) (T.involution.bar_bar u) in
         sym (unit_front r t (T.involution.bar t) u (twists.unit l)) ∙ ap (λ z. T.ring.mul (T.ring.mul r t) z) (sym plain) ∙ unit_back r t (T.involution.bar r) v (slant_root_bar T a a x)
       where
         sort : (t d u : A) → T.ring.mul (T.ring.mul t d) u ≡ T.ring.mul d (T.ring.mul t u)
         sort t d u = simp (product_rules, T.ring)
+
         unit_front : (r t s u : A) → T.ring.mul t s ≡ T.ring.one → T.ring.mul (T.ring.mul r t) (T.ring.mul s u) ≡ T.ring.mul r u
         unit_front r t s u e =
             let sorted : T.ring.mul (T.ring.mul r t) (T.ring.mul s u) ≡ T.ring.mul (T.ring.mul t s) (T.ring.mul r u) = simp (product_rules, T.ring) in
             sorted ∙ ap (λ z. T.ring.mul z (T.ring.mul r u)) e ∙ one_mul T.ring (T.ring.mul r u)
+
         unit_back : (r t s v : A) → T.ring.mul r s ≡ T.ring.one → T.ring.mul (T.ring.mul r t) (T.ring.mul s v) ≡ T.ring.mul t v
         unit_back r t s v e =
             let sorted : T.ring.mul (T.ring.mul r t) (T.ring.mul s v) ≡ T.ring.mul (T.ring.mul r s) (T.ring.mul t v) = simp (product_rules, T.ring) in
@@ -194,6 +197,7 @@ module _ {A G S : Type 0} (T : Setting A G) (C : Classes T.group) (X : Simples T
     where
       outside : (m d f : A) → T.ring.mul m (T.ring.mul d f) ≡ T.ring.mul d (T.ring.mul m f)
       outside m d f = simp (product_rules, T.ring)
+
       by : (b : Bool) → in_class T C X l g ≡ b → T.ring.mul (slant_root T g g x) (full_character T C X l g (T.group.op g x)) ≡ T.ring.mul (twist l) (full_character T C X l g x)
       by true e =
           let k : G = C.carrier g in
@@ -202,12 +206,12 @@ module _ {A G S : Type 0} (T : Setting A G) (C : Classes T.group) (X : Simples T
           let carried : conj T.group g k ≡ a = C.carries g ∙ in_class_true T C X l g e in
           let product_commutes : Commuting T g (T.group.op g x) = sym (commuting_product T g x g refl (sym h)) in
           let here : full_character T C X l g (T.group.op g x) ≡ T.ring.mul (transport_root T g (T.group.op g x) k) (X.value l (T.group.op a x0)) =
-              full_character_at T C X l g (T.group.op g x) product_commutes ∙ pick_of T.ring _ _ e
-              ∙ ap (λ z. T.ring.mul (transport_root T g (T.group.op g x) k) (X.value l z)) (op_conj T.group g x k ∙ ap (λ b. T.group.op b x0) carried) in
+          full_character_at T C X l g (T.group.op g x) product_commutes ∙ pick_of T.ring _ _ e
+          ∙ ap (λ z. T.ring.mul (transport_root T g (T.group.op g x) k) (X.value l z)) (op_conj T.group g x k ∙ ap (λ b. T.group.op b x0) carried) in
           let there : full_character T C X l g x ≡ T.ring.mul (transport_root T g x k) (X.value l x0) = full_character_at T C X l g x h ∙ pick_of T.ring _ _ e in
           let roots : T.ring.mul (slant_root T g g x) (transport_root T g (T.group.op g x) k) ≡ T.ring.mul (transport_root T g x k) (slant_root T a a x0) =
-              transport_root_product T g g x k refl (sym h)
-              ∙ ap₂ T.ring.mul (ap (λ u. T.ring.mul u (transport_root T g x k)) (transport_root_of_itself T g k) ∙ one_mul T.ring _) (ap (λ b. slant_root T b b x0) carried) in
+          transport_root_product T g g x k refl (sym h)
+          ∙ ap₂ T.ring.mul (ap (λ u. T.ring.mul u (transport_root T g x k)) (transport_root_of_itself T g k) ∙ one_mul T.ring _) (ap (λ b. slant_root T b b x0) carried) in
           ap (T.ring.mul (slant_root T g g x)) here
           ∙ sym (T.ring.mul_assoc _ _ _) ∙ ap (λ u. T.ring.mul u (X.value l (T.group.op a x0))) roots ∙ T.ring.mul_assoc _ _ _
           ∙ ap (T.ring.mul (transport_root T g x k)) (row_twist l twist twists x0 (subst (λ b. Commuting T x0 b) carried (commuting_conj T x g k (sym h))))
@@ -229,6 +233,7 @@ module _ {A G S : Type 0} (T : Setting A G) (C : Classes T.group) (X : Simples T
         where
           sorted : (r s w q v : A) → T.ring.mul (T.ring.mul (T.ring.mul r s) w) (T.ring.mul q v) ≡ T.ring.mul (T.ring.mul r q) (T.ring.mul s (T.ring.mul w v))
           sorted r s w q v = simp (product_rules, T.ring)
+
       by : (b : Bool) → in_class T C X l g ≡ b → full_character T C X l g (T.group.inv x) ≡ T.ring.mul (slant_root T g x (T.group.inv x)) (T.involution.bar (full_character T C X l g x))
       by true e =
           let k : G = C.carrier g in
@@ -241,16 +246,16 @@ module _ {A G S : Type 0} (T : Setting A G) (C : Classes T.group) (X : Simples T
           let w : A = slant_root T a x0 (T.group.inv x0) in
           let v : A = T.involution.bar (X.value l x0) in
           let here : full_character T C X l g (T.group.inv x) ≡ T.ring.mul s (T.ring.mul w v) =
-              full_character_at T C X l g (T.group.inv x) (sym inverse_commutes) ∙ pick_of T.ring _ _ e
-              ∙ ap (T.ring.mul s)
-              (ap (X.value l) (inv_conj T.group x k)
-              ∙ (good.table a (X.at_representative l)).unitary l x0 refl (subst (λ b. Commuting T x0 b) carried (commuting_conj T x g k (sym h)))) in
+          full_character_at T C X l g (T.group.inv x) (sym inverse_commutes) ∙ pick_of T.ring _ _ e
+          ∙ ap (T.ring.mul s)
+          (ap (X.value l) (inv_conj T.group x k)
+          ∙ (good.table a (X.at_representative l)).unitary l x0 refl (subst (λ b. Commuting T x0 b) carried (commuting_conj T x g k (sym h)))) in
           let there : T.involution.bar (full_character T C X l g x) ≡ T.ring.mul (T.involution.bar r) v =
-              ap T.involution.bar (full_character_at T C X l g x h ∙ pick_of T.ring _ _ e) ∙ T.involution.bar_mul r (X.value l x0) in
+          ap T.involution.bar (full_character_at T C X l g x h ∙ pick_of T.ring _ _ e) ∙ T.involution.bar_mul r (X.value l x0) in
           let roots : slant_root T g x (T.group.inv x) ≡ T.ring.mul (T.ring.mul r s) w =
-              sym (T.ring.mul_one _) ∙ ap (T.ring.mul (slant_root T g x (T.group.inv x))) (sym (ap (λ z. transport_root T g z k) (T.group.op_inv x) ∙ transport_root_of_one T g k))
-              ∙ transport_root_product T g x (T.group.inv x) k (sym h) inverse_commutes
-              ∙ ap₂ (λ b z. T.ring.mul (T.ring.mul r s) (slant_root T b x0 z)) carried (inv_conj T.group x k) in
+          sym (T.ring.mul_one _) ∙ ap (T.ring.mul (slant_root T g x (T.group.inv x))) (sym (ap (λ z. transport_root T g z k) (T.group.op_inv x) ∙ transport_root_of_one T g k))
+          ∙ transport_root_product T g x (T.group.inv x) k (sym h) inverse_commutes
+          ∙ ap₂ (λ b z. T.ring.mul (T.ring.mul r s) (slant_root T b x0 z)) carried (inv_conj T.group x k) in
           here ∙ sym (ap₂ T.ring.mul roots there ∙ unit_out r s w v (transport_root_bar T g x k))
       by false e =
           full_character_off T C X l g (T.group.inv x) e

@@ -12,3 +12,4 @@ pub mod Parts
 pub mod Theorems
 pub mod FusionTheorems
 pub mod PlaceTheorems
+pub mod RelationTheorems

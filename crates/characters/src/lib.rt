@@ -8,6 +8,7 @@
 ghost use Rattle.characters.specs.Theorems.{TransporterIndependent, Covariant, TermsInvariant, SSymmetric, VacuumRow, SUnitary};
 ghost use Rattle.characters.specs.Theorems.{RowsOrthogonal, CharactersOrthogonal, PairsOrthogonal, CharactersSpan};
 ghost use Rattle.characters.specs.FusionTheorems.{TensorProductsDecompose, FusionDimensions, NumbersAreMultiplicities, ColumnsMultiply, NumbersByS};
+ghost use Rattle.characters.specs.RelationTheorems.{TwistsAct, STSRelation, CubeRelation, FourthPowerRelation};
 ghost use Rattle.characters.specs.PlaceTheorems.{TotalsOverPlaces, CentralAtPlaces, GoodAtElements};
 
 /// A full character does not depend on the element by which it is carried from the representative, and it is covariant.
@@ -39,6 +40,14 @@ pub fn fusion_laws()
     ensures multiplicities { NumbersAreMultiplicities }
     ensures columns { ColumnsMultiply }
     ensures numbers { NumbersByS }
+{}
+
+/// The relations of S and T.
+pub fn relation_laws()
+    ensures twists { TwistsAct }
+    ensures product { STSRelation }
+    ensures cube { CubeRelation }
+    ensures fourth { FourthPowerRelation }
 {}
 
 /// What holds over the places of a centraliser holds over its elements.
