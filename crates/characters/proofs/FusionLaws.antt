@@ -4,7 +4,7 @@ use mathlib.Core.Path.{ap₂}
 use Rattle.algebra.specs.Sums.{pick}
 use Rattle.algebra.specs.Totals.{Finite, equals, total}
 use Rattle.algebra.specs.Groups.{conj}
-use Rattle.algebra.proofs.RingLaws.{product_rules, one_mul}
+use Rattle.algebra.proofs.RingLaws.{product_rules, one_mul, mul_left_comm}
 use Rattle.algebra.proofs.SumLaws.{pick_of, mul_pick, pick_mul, pick_swap}
 use Rattle.algebra.proofs.GroupLaws.{op_conj, conj_injective, conj_inv, conj_of_inv, one_conj}
 use Rattle.algebra.proofs.TotalLaws.{total_ext, total_exchange, total_pick, total_reindex, mul_total, total_mul, pick_total, equals_true, equals_of}
@@ -16,7 +16,7 @@ use Rattle.characters.specs.Pairs.{pair_sum, inner_product, IsCovariant}
 use Rattle.characters.specs.FullCharacters.{full_character}
 use Rattle.characters.specs.SMatrix.{dimension}
 use Rattle.characters.specs.Fusion.{tensor_character, fusion_sum}
-use Rattle.characters.proofs.SettingLaws.{same_test, commute_of, commute_true, commute_conj, coproduct_root_at_one, coproduct_root_carried, transport_root_of_one}
+use Rattle.characters.proofs.SettingLaws.{same_test, commute_of, commute_true, commute_conj, coproduct_root_at_one, coproduct_root_carried, transport_root_of_one, commutes_one}
 use Rattle.characters.proofs.PairLaws.{pair_sum_is, pair_sum_ext, mul_pair_sum, total_pair_sum, inner_product_is}
 use Rattle.characters.proofs.CharacterLaws.{covariance}
 use Rattle.characters.proofs.SLaws.{dimension_is, full_character_at_one}
@@ -43,7 +43,7 @@ module _ {A G : Type 0} (T : Setting A G) where
       ∙ total_ext T.ring T.finite _ _
       (λ g. total_ext T.ring T.finite _ _ (λ x. pick_swap T.ring (commute T g x) (equals T.finite x T.group.one) (f g x))
       ∙ total_pick T.ring T.finite T.group.one (λ x. pick T.ring (commute T g x) (f g x))
-      ∙ pick_of T.ring _ _ (commute_of T g T.group.one (T.group.op_one g ∙ sym (T.group.one_op g))))
+      ∙ pick_of T.ring _ _ (commute_of T g T.group.one (commutes_one T g)))
 
 module _ {A G S : Type 0} (T : Setting A G) (C : Classes T.group) (X : Simples T C S) where
   -- the term of a tensor product at h and k
@@ -129,8 +129,8 @@ module _ {A G S : Type 0} (T : Setting A G) (C : Classes T.group) (X : Simples T
       ∙ tensor_total i j T.group.one (λ g. T.ring.one)
       ∙ total_ext T.ring T.finite _ _
       (λ h. total_ext T.ring T.finite _ _
-      (λ k. pick_of T.ring _ _ (commute_of T h T.group.one (T.group.op_one h ∙ sym (T.group.one_op h)))
-      ∙ pick_of T.ring _ _ (commute_of T k T.group.one (T.group.op_one k ∙ sym (T.group.one_op k)))
+      (λ k. pick_of T.ring _ _ (commute_of T h T.group.one (commutes_one T h))
+      ∙ pick_of T.ring _ _ (commute_of T k T.group.one (commutes_one T k))
       ∙ T.ring.mul_one _ ∙ ap₂ T.ring.mul (coproduct_root_at_one T h k) refl ∙ one_mul T.ring _)
       ∙ sym (mul_total T.ring T.finite (full_character T C X i h T.group.one) _))
       ∙ sym (total_mul T.ring T.finite _ _)
@@ -151,7 +151,7 @@ module _ {A G S : Type 0} (T : Setting A G) (C : Classes T.group) (X : Simples T
         total_ext T.ring E _ _ (λ k. ap (λ z. T.ring.mul z (T.involution.bar (full_character T C X k g x))) (dimension_total k) ∙ total_mul T.ring T.finite _ _)
         ∙ total_exchange T.ring E T.finite _
         ∙ total_ext T.ring T.finite _ _
-        (λ h. second_orthogonality T C X E good h T.group.one g x (T.group.op_one h ∙ sym (T.group.one_op h)) commuting
+        (λ h. second_orthogonality T C X E good h T.group.one g x (commutes_one T h) commuting
         ∙ total_ext T.ring T.finite _ _
         (λ s. ap (pick T.ring (equals T.finite g (conj T.group h s))) (ap₂ (λ u v. pick T.ring (equals T.finite x u) v) (one_conj T.group s) (transport_root_of_one T h s))
         ∙ ap (λ b. pick T.ring b (pick T.ring (equals T.finite x T.group.one) T.ring.one)) (back h s)))
@@ -174,7 +174,7 @@ module _ {A G S : Type 0} (T : Setting A G) (C : Classes T.group) (X : Simples T
         (λ k. T.ring.mul_comm _ _ ∙ ap (T.ring.mul (dimension T C X k)) (fusion_sum_is i j k ∙ inner_product_is T (tensor_character T C X i j) (full_character T C X k)) ∙ mul_pair_sum T (dimension T C X k) _)
         ∙ total_pair_sum T E _
         ∙ pair_sum_ext T _ _
-        (λ g x c. total_ext T.ring E _ _ (λ k. sort (dimension T C X k) (tensor_character T C X i j g x) (T.involution.bar (full_character T C X k g x)))
+        (λ g x c. total_ext T.ring E _ _ (λ k. mul_left_comm T.ring (dimension T C X k) (tensor_character T C X i j g x) (T.involution.bar (full_character T C X k g x)))
         ∙ sym (mul_total T.ring E (tensor_character T C X i j g x) _)
         ∙ ap (T.ring.mul (tensor_character T C X i j g x)) (dimensions_orthogonal g x c)
         ∙ mul_pick T.ring (equals T.finite x T.group.one) (tensor_character T C X i j g x) (group_order T))
@@ -182,6 +182,3 @@ module _ {A G S : Type 0} (T : Setting A G) (C : Classes T.group) (X : Simples T
         ∙ sym (total_mul T.ring T.finite _ (group_order T))
         ∙ T.ring.mul_comm _ _
         ∙ ap (T.ring.mul (group_order T)) (tensor_dimension i j)
-      where
-        sort : (d u v : A) → T.ring.mul d (T.ring.mul u v) ≡ T.ring.mul u (T.ring.mul d v)
-        sort d u v = simp (product_rules, T.ring)

@@ -1,9 +1,10 @@
 -- Fusion numbers are tensor multiplicities, and are given by S.
+use Rattle.characters.proofs.OrthogonalityLaws.{of_whole}
 use Rattle.std.proofs.Common.{◌≡◌, ℕ, sym, ◌∙◌, ap}
 use mathlib.Core.Path.{ap₂}
 use Rattle.algebra.specs.Sums.{pick, multiple}
 use Rattle.algebra.specs.Totals.{Finite, equals, total}
-use Rattle.algebra.proofs.RingLaws.{product_rules}
+use Rattle.algebra.proofs.RingLaws.{product_rules, mul_left_comm}
 use Rattle.algebra.proofs.SumLaws.{pick_map, multiple_map, mul_multiple, multiple_mul, mul_pick}
 use Rattle.algebra.proofs.TotalLaws.{total_ext, total_exchange, total_pick, mul_total, total_mul, total_map}
 use Rattle.characters.specs.Setting.{Setting, Classes, Commuting}
@@ -57,16 +58,13 @@ module _ {A G S : Type 0} (T : Setting A G) (C : Classes T.group) (X : Simples T
         (total_map T.ring T.ring E T.involution.bar T.involution.bar_add _
         ∙ total_ext T.ring E _ _ (λ k. multiple_map T.ring T.ring T.involution.bar T.involution.bar_add (number i j k) _ ∙ ap (multiple T.ring (number i j k)) (T.involution.bar_bar (s_sum T C X k l))))
       where
-        outside : (d n f : A) → T.ring.mul d (T.ring.mul n f) ≡ T.ring.mul n (T.ring.mul d f)
-        outside d n f = simp (product_rules, T.ring)
-
         conjugate : T.ring.mul (T.involution.bar (s_sum T C X i l)) (T.involution.bar (s_sum T C X j l))
             ≡ T.ring.mul (dimension T C X l) (total T.ring E (λ k. multiple T.ring (number i j k) (T.involution.bar (s_sum T C X k l))))
         conjugate =
             cancel_group_order T C free _ _
             (verlinde T C X E good free i j l
             ∙ ap (T.ring.mul (dimension T C X l)) (with_numbers i j (λ k. T.involution.bar (s_sum T C X k l)))
-            ∙ outside (dimension T C X l) (group_order T) _)
+            ∙ mul_left_comm T.ring (dimension T C X l) (group_order T) _)
 
     -- and with a third, for numbers that make all dimensions one product
     pub number_by_s : (product : A) (cofactor : S → A) → ((l : S) → T.ring.mul (cofactor l) (dimension T C X l) ≡ product) → (i j k : S) →
@@ -81,16 +79,13 @@ module _ {A G S : Type 0} (T : Setting A G) (C : Classes T.group) (X : Simples T
         ∙ ap (T.ring.mul product)
         (total_exchange T.ring E E _
         ∙ total_ext T.ring E _ _
-        (λ m. total_ext T.ring E _ _ (λ l. multiple_mul T.ring (number i j m) (s_sum T C X m l) (T.involution.bar (s_sum T C X k l)) ∙ sym (as_mul (number i j m) _))
+        (λ m. total_ext T.ring E _ _ (λ l. multiple_mul T.ring (number i j m) (s_sum T C X m l) (T.involution.bar (s_sum T C X k l)) ∙ sym (of_whole T.ring (number i j m) _))
         ∙ sym (mul_total T.ring E (multiple T.ring (number i j m) T.ring.one) _)
         ∙ ap (T.ring.mul (multiple T.ring (number i j m) T.ring.one)) (s_unitary T C X E good free m k)
         ∙ mul_pick T.ring (equals E m k) _ _)
         ∙ total_pick T.ring E k (λ m. T.ring.mul (multiple T.ring (number i j m) T.ring.one) (T.ring.mul (group_order T) (group_order T))))
-        ∙ ap (T.ring.mul product) (as_mul (number i j k) _)
+        ∙ ap (T.ring.mul product) (of_whole T.ring (number i j k) _)
         ∙ mul_multiple T.ring (number i j k) product _
       where
         sort : (c d u v : A) → T.ring.mul c (T.ring.mul (T.ring.mul d u) v) ≡ T.ring.mul (T.ring.mul c d) (T.ring.mul u v)
         sort c d u v = simp (product_rules, T.ring)
-
-        as_mul : (n : ℕ) (u : A) → T.ring.mul (multiple T.ring n T.ring.one) u ≡ multiple T.ring n u
-        as_mul n u = multiple_mul T.ring n T.ring.one u ∙ ap (multiple T.ring n) (T.ring.mul_comm T.ring.one u ∙ T.ring.mul_one u)

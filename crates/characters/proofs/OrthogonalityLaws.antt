@@ -5,17 +5,17 @@ use Rattle.algebra.specs.Structures.{CommRing}
 use Rattle.algebra.specs.Sums.{pick, multiple}
 use Rattle.algebra.specs.Totals.{Finite, equals, total}
 use Rattle.algebra.specs.Groups.{conj}
-use Rattle.algebra.proofs.RingLaws.{product_rules, one_mul, mul_nought, nought_mul, neg_unique, neg_neg}
-use Rattle.algebra.proofs.SumLaws.{pick_mul, pick_of, pick_off, pick_nought, pick_cong, pick_true, pick_false, multiple_of_add, multiple_neg, mul_multiple}
+use Rattle.algebra.proofs.RingLaws.{mul_nought, nought_mul, neg_unique, neg_neg}
+use Rattle.algebra.proofs.SumLaws.{pick_mul, pick_of, pick_off, pick_nought, pick_cong, pick_true, pick_false, multiple_of_add, multiple_neg, mul_multiple, multiple_is_mul}
 use Rattle.algebra.proofs.GroupLaws.{conj_op, conj_inv, conj_of_inv, inv_op_op, op_inv_op, conj_of_commuting, commuting_of_conj}
 use Rattle.algebra.proofs.TotalLaws.{total_ext, total_exchange, total_pick, total_reindex, total_nought, total_constant, equals_true, equals_of, equals_false}
-use Rattle.characters.specs.Setting.{Setting, Classes, Commuting, commute}
+use Rattle.characters.specs.Setting.{Setting, Classes, commute}
 use Rattle.characters.specs.PhaseRoots.{slant_root, transport_root}
 use Rattle.characters.specs.Simples.{Simples}
 use Rattle.characters.specs.Tables.{IsTorsionFree, group_order, centraliser_order, centraliser_product, GoodTable, GoodTables}
 use Rattle.characters.specs.Pairs.{inner_product}
 use Rattle.characters.specs.FullCharacters.{in_class, full_character}
-use Rattle.characters.proofs.SettingLaws.{same_test, commute_of, commute_true, commute_symmetric, commute_conj, slant_root_bar, transport_root_bar}
+use Rattle.characters.proofs.SettingLaws.{same_test, commute_of, commute_true, commute_symmetric, commute_conj, slant_root_bar, transport_root_bar, cancel_pair, one_commutes}
 use Rattle.characters.proofs.PairLaws.{pair_sum_is, inner_product_is}
 use Rattle.characters.proofs.AlgebraLaws.{centraliser_order_is, centraliser_product_is}
 use Rattle.characters.proofs.CharacterLaws.{full_character_is, full_character_off, in_class_is, in_class_true}
@@ -29,6 +29,10 @@ cancel_multiple R free n x y from_one e =
     free.cancel n (R.add x (R.neg y)) from_one
     (multiple_of_add R n x (R.neg y) ∙ ap₂ R.add e (multiple_neg R n y) ∙ R.add_neg (multiple R n y)) in
     sym (neg_neg R x) ∙ ap R.neg (sym (neg_unique R x (R.neg y) none)) ∙ neg_neg R y
+
+-- a product with a whole number
+pub of_whole : {A : Type 0} (R : CommRing A) (n : ℕ) (x : A) → R.mul (multiple R n R.one) x ≡ multiple R n x
+of_whole R n x = sym (multiple_is_mul R n x)
 
 -- picks by equal tests of elements that are equal where the tests hold
 pub pick_both : {A : Type 0} (R : CommRing A) (b c : Bool) (x y : A) → b ≡ c → (b ≡ true → x ≡ y) → pick R b x ≡ pick R c y
@@ -46,17 +50,6 @@ module _ {A G : Type 0} (T : Setting A G) where
   -- the order of the group is a whole number
   pub group_order_multiple : group_order T ≡ multiple T.ring T.finite.size T.ring.one
   group_order_multiple = group_order_is ∙ total_constant T.ring T.finite T.ring.one
-
-  -- factors that are inverse to each other
-  unit_outside : (r s x y : A) → T.ring.mul r s ≡ T.ring.one → T.ring.mul r (T.ring.mul x (T.ring.mul s y)) ≡ T.ring.mul x y
-  unit_outside r s x y e =
-      let sorted : T.ring.mul r (T.ring.mul x (T.ring.mul s y)) ≡ T.ring.mul (T.ring.mul r s) (T.ring.mul x y) = simp (product_rules, T.ring) in
-      sorted ∙ ap (λ z. T.ring.mul z (T.ring.mul x y)) e ∙ one_mul T.ring (T.ring.mul x y)
-
-  unit_between : (r s x y : A) → T.ring.mul r s ≡ T.ring.one → T.ring.mul (T.ring.mul r x) (T.ring.mul s y) ≡ T.ring.mul y x
-  unit_between r s x y e =
-      let sorted : T.ring.mul (T.ring.mul r x) (T.ring.mul s y) ≡ T.ring.mul (T.ring.mul r s) (T.ring.mul y x) = simp (product_rules, T.ring) in
-      sorted ∙ ap (λ z. T.ring.mul z (T.ring.mul y x)) e ∙ one_mul T.ring (T.ring.mul y x)
 
 -- the class equation
 module _ {A G : Type 0} (T : Setting A G) (C : Classes T.group) where
@@ -123,10 +116,7 @@ module _ {A G S : Type 0} (T : Setting A G) (C : Classes T.group) (X : Simples T
       ∙ T.involution.bar_mul r (T.involution.bar (X.value j y)) ∙ ap (T.ring.mul (T.involution.bar r)) (T.involution.bar_bar (X.value j y)) in
       ap (λ z. T.ring.mul (slant_root T (X.at i) y z) (T.ring.mul (T.involution.bar (X.value i y)) (T.involution.bar (X.value j z)))) (T.group.op_one (T.group.inv y))
       ∙ ap (λ z. T.ring.mul r (T.ring.mul (T.involution.bar (X.value i y)) z)) last
-      ∙ unit_outside T r (T.involution.bar r) (T.involution.bar (X.value i y)) (X.value j y) (slant_root_bar T (X.at i) y (T.group.inv y))))
-
-  one_commutes : (a : G) → Commuting T T.group.one a
-  one_commutes a = T.group.one_op a ∙ sym (T.group.op_one a)
+      ∙ sym (T.ring.mul_assoc r _ _) ∙ cancel_pair T r (T.involution.bar r) (T.involution.bar (X.value i y)) (X.value j y) (slant_root_bar T (X.at i) y (T.group.inv y))))
 
   -- rows of one table: that of i with itself
   pub row_orthogonality_self : (i : S) →
@@ -134,7 +124,7 @@ module _ {A G S : Type 0} (T : Setting A G) (C : Classes T.group) (X : Simples T
   row_orthogonality_self i =
       cancel_multiple T.ring free (X.degree i) _ _ (X.degree_from_one i)
       (ap (multiple T.ring (X.degree i)) (sym (product_at_one i i refl))
-      ∙ (good.table (X.at i) (X.at_representative i)).product_self i T.group.one refl (one_commutes (X.at i))
+      ∙ (good.table (X.at i) (X.at_representative i)).product_self i T.group.one refl (one_commutes T (X.at i))
       ∙ ap (T.ring.mul (centraliser_order T (X.at i))) (degree_bar T C X i ∙ X.degree_is i)
       ∙ mul_multiple T.ring (X.degree i) (centraliser_order T (X.at i)) T.ring.one
       ∙ ap (multiple T.ring (X.degree i)) (T.ring.mul_one (centraliser_order T (X.at i))))
@@ -142,7 +132,7 @@ module _ {A G S : Type 0} (T : Setting A G) (C : Classes T.group) (X : Simples T
   -- and that of i with another
   pub row_orthogonality_other : (i j : S) → X.at i ≡ X.at j → (i ≡ j → ⊥) →
       total T.ring T.finite (λ y. pick T.ring (commute T y (X.at i)) (T.ring.mul (T.involution.bar (X.value i y)) (X.value j y))) ≡ T.ring.nought
-  row_orthogonality_other i j same apart = sym (product_at_one i j same) ∙ (good.table (X.at i) (X.at_representative i)).product_other i j T.group.one refl (sym same) apart (one_commutes (X.at i))
+  row_orthogonality_other i j same apart = sym (product_at_one i j same) ∙ (good.table (X.at i) (X.at_representative i)).product_other i j T.group.one refl (sym same) apart (one_commutes T (X.at i))
 
   -- both at once
   pub row_orthogonality : (i j : S) → X.at i ≡ X.at j →
@@ -191,7 +181,7 @@ module _ {A G S : Type 0} (T : Setting A G) (C : Classes T.group) (X : Simples T
       term x commutes =
           let r : A = transport_root T g x (C.carrier g) in
           ap₂ T.ring.mul (value_here i x inside_i commutes) (ap T.involution.bar (value_here j x inside_j commutes) ∙ T.involution.bar_mul r (X.value j (conj T.group x (C.carrier g))))
-          ∙ unit_between T r (T.involution.bar r) _ _ (transport_root_bar T g x (C.carrier g))
+          ∙ cancel_pair T r (T.involution.bar r) _ _ (transport_root_bar T g x (C.carrier g)) ∙ T.ring.mul_comm _ _
 
   -- the full character of i with itself
   pub first_orthogonality_self : (i : S) → inner_product T (full_character T C X i) (full_character T C X i) ≡ group_order T

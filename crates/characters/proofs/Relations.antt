@@ -3,7 +3,7 @@ use Rattle.std.proofs.Common.{◌≡◌, refl, sym, ◌∙◌, ap}
 use mathlib.Core.Path.{ap₂}
 use Rattle.algebra.specs.Sums.{pick}
 use Rattle.algebra.specs.Totals.{Finite, equals, total}
-use Rattle.algebra.proofs.RingLaws.{product_rules, one_mul}
+use Rattle.algebra.proofs.RingLaws.{product_rules, one_mul, mul_left_comm}
 use Rattle.algebra.proofs.SumLaws.{mul_pick, pick_mul}
 use Rattle.algebra.proofs.GroupLaws.{op_op_inv}
 use Rattle.algebra.proofs.InvolutionLaws.{bar_one}
@@ -16,18 +16,15 @@ use Rattle.characters.specs.Tables.{IsTorsionFree, group_order, GoodTables}
 use Rattle.characters.specs.Pairs.{pair_sum}
 use Rattle.characters.specs.FullCharacters.{full_character}
 use Rattle.characters.specs.SMatrix.{s_sum, pair_term}
-use Rattle.characters.proofs.SettingLaws.{inverse_unique, commuting_product, commuting_inv, slant_root_bar, slant_root_associative, slant_root_second_one, slant_root_product_index, slant_roots_inverse}
+use Rattle.characters.proofs.SettingLaws.{inverse_unique, commuting_product, commuting_inv, slant_root_bar, slant_root_associative, slant_root_second_one, slant_root_product_index, slant_roots_inverse, equals_symmetric}
 use Rattle.characters.proofs.PairLaws.{pair_sum_ext, mul_pair_sum, bar_pair_sum, pair_sum_swap, total_pair_sum, pair_sum_shift, pair_sum_inverse}
 use Rattle.characters.proofs.SLaws.{pair_term_is, s_sum_is, s_sum_symmetric}
 use Rattle.characters.proofs.OrthogonalityLaws.{group_order_is}
 use Rattle.characters.proofs.Expansion.{expansion}
-use Rattle.characters.proofs.Unitarity.{equals_symmetric, exchanged, exchanged_covariant, s_sum_inner, s_unitary}
+use Rattle.characters.proofs.Unitarity.{exchanged, exchanged_covariant, s_sum_inner, s_unitary}
 use Rattle.characters.proofs.TwistLaws.{twist_acts, inverse_argument}
 
 module _ {A G S : Type 0} (T : Setting A G) (C : Classes T.group) (X : Simples T C S) (E : Finite S) (good : GoodTables X E) (free : IsTorsionFree T.ring) where
-  outside : (m d f : A) → T.ring.mul m (T.ring.mul d f) ≡ T.ring.mul d (T.ring.mul m f)
-  outside m d f = simp (product_rules, T.ring)
-
   -- the product of S, weights and S, where the weights carry each full character to another argument
   weighted_product : (i j : S) (w : S → A) (q : G → G → A) (y : G → G → G)
       → ((g h : G) → Commuting T g h → Commuting T h (y g h))
@@ -42,7 +39,7 @@ module _ {A G S : Type 0} (T : Setting A G) (C : Classes T.group) (X : Simples T
       ∙ pair_sum_ext T _ _
       (λ g h c. sort (s_sum T C X i l) (w l) _ _
       ∙ ap (λ u. T.ring.mul (T.involution.bar (full_character T C X j g h)) (T.ring.mul (s_sum T C X i l) u)) (carried l g h c)
-      ∙ ap (T.ring.mul (T.involution.bar (full_character T C X j g h))) (outside (s_sum T C X i l) (q g h) (full_character T C X l h (y g h)))))
+      ∙ ap (T.ring.mul (T.involution.bar (full_character T C X j g h))) (mul_left_comm T.ring (s_sum T C X i l) (q g h) (full_character T C X l h (y g h)))))
       ∙ total_pair_sum T E _
       ∙ pair_sum_ext T _ _
       (λ g h c. sym (mul_total T.ring E (T.involution.bar (full_character T C X j g h)) _)
@@ -51,8 +48,8 @@ module _ {A G S : Type 0} (T : Setting A G) (C : Classes T.group) (X : Simples T
       ∙ ap (T.ring.mul (q g h))
       (total_ext T.ring E _ _ (λ l. ap (λ u. T.ring.mul u (full_character T C X l h (y g h))) (s_sum_inner T C X i l))
       ∙ expansion T C X E good (exchanged T C X i) (exchanged_covariant T C X i) h (y g h) (commutes g h c))
-      ∙ outside (q g h) (group_order T) _)
-      ∙ outside _ (group_order T) _)
+      ∙ mul_left_comm T.ring (q g h) (group_order T) _)
+      ∙ mul_left_comm T.ring _ (group_order T) _)
       ∙ sym (mul_pair_sum T (group_order T) _)
     where
       sort : (a w u v : A) → T.ring.mul a (T.ring.mul w (T.ring.mul u v)) ≡ T.ring.mul u (T.ring.mul a (T.ring.mul w v))
@@ -147,7 +144,7 @@ module _ {A G S : Type 0} (T : Setting A G) (C : Classes T.group) (X : Simples T
       (λ l. ap (T.ring.mul (s_sum T C X i l))
       (total_ext T.ring E _ _ (λ k. ap (T.ring.mul (s_sum T C X l k)) (conjugate k))
       ∙ s_undoes (λ m. T.involution.bar (s_sum T C X j m)) l)
-      ∙ outside (s_sum T C X i l) (T.ring.mul (group_order T) (group_order T)) _)
+      ∙ mul_left_comm T.ring (s_sum T C X i l) (T.ring.mul (group_order T) (group_order T)) _)
       ∙ sym (mul_total T.ring E (T.ring.mul (group_order T) (group_order T)) _)
       ∙ ap (T.ring.mul (T.ring.mul (group_order T) (group_order T))) (s_unitary T C X E good free i j)
       ∙ mul_pick T.ring (equals E i j) _ _
@@ -178,7 +175,7 @@ module _ {A G S : Type 0} (T : Setting A G) (C : Classes T.group) (X : Simples T
         slant_root_associative T h p g k (sym (commuting_product T p g p refl (sym c)))
         ∙ ap₂ T.ring.mul (ap (slant_root T h p) (T.group.op_inv g) ∙ slant_root_second_one T h p) refl ∙ one_mul T.ring r in
         ap₂ T.ring.mul (sym (slant_root_product_index T p g (sym c))) refl
-        ∙ outside (slant_root T h p g) (T.involution.bar r) (slant_root T h h k)
+        ∙ mul_left_comm T.ring (slant_root T h p g) (T.involution.bar r) (slant_root T h h k)
         ∙ ap (T.ring.mul (T.involution.bar r)) step ∙ T.ring.mul_comm _ _ ∙ slant_root_bar T h g k
 
     -- the product of S, T and S
@@ -190,7 +187,7 @@ module _ {A G S : Type 0} (T : Setting A G) (C : Classes T.group) (X : Simples T
         (λ g h. T.ring.mul (T.involution.bar (slant_root T h g (T.group.inv g))) (slant_root T h h (T.group.inv g)))
         (λ g h. T.group.op h (T.group.inv g))
         (λ g h c. sym (commuting_product T h (T.group.inv g) h refl (commuting_inv T g h c)))
-        (λ l g h c. ap (T.ring.mul (twist l)) (bar_by_inverse l h g (sym c)) ∙ outside (twist l) _ _
+        (λ l g h c. ap (T.ring.mul (twist l)) (bar_by_inverse l h g (sym c)) ∙ mul_left_comm T.ring (twist l) _ _
         ∙ ap (T.ring.mul (T.involution.bar (slant_root T h g (T.group.inv g)))) (sym (twist_acts T C X E good free twist twists l h (T.group.inv g) (sym (commuting_inv T g h c))))
         ∙ sym (T.ring.mul_assoc _ _ _))
         ∙ ap (T.ring.mul (group_order T))

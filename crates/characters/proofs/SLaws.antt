@@ -1,10 +1,10 @@
 -- The sum of S: its terms at conjugate pairs, its symmetry, and its row at the vacuum.
-use Rattle.std.proofs.Common.{◌≡◌, Bool, true, false, refl, sym, ◌∙◌, ap}
+use Rattle.std.proofs.Common.{◌≡◌, Bool, true, false, refl, sym, ◌∙◌, ap, subst}
 use mathlib.Core.Path.{ap₂}
 use Rattle.algebra.specs.Sums.{pick, multiple}
 use Rattle.algebra.specs.Totals.{equals, total}
 use Rattle.algebra.specs.Groups.{conj}
-use Rattle.algebra.proofs.RingLaws.{product_rules, one_mul, nought_mul}
+use Rattle.algebra.proofs.RingLaws.{one_mul, nought_mul}
 use Rattle.algebra.proofs.SumLaws.{pick_of, pick_off, pick_nought, pick_cong, pick_map, pick_true, pick_false, multiple_map}
 use Rattle.algebra.proofs.GroupLaws.{conj_inv, one_conj}
 use Rattle.algebra.proofs.InvolutionLaws.{bar_one, bar_nought}
@@ -15,7 +15,7 @@ use Rattle.characters.specs.Simples.{Simples, IsVacuum}
 use Rattle.characters.specs.Pairs.{pair_sum}
 use Rattle.characters.specs.FullCharacters.{in_class, full_character}
 use Rattle.characters.specs.SMatrix.{pair_term, s_sum, dimension}
-use Rattle.characters.proofs.SettingLaws.{same_test, commute_of, transport_roots_inverse, transport_root_of_one, transport_root_at_one}
+use Rattle.characters.proofs.SettingLaws.{same_test, commute_of, transport_roots_inverse, transport_root_of_one, transport_root_at_one, cancel_pair, one_commutes, commutes_one}
 use Rattle.characters.proofs.PairLaws.{pair_sum_is, pair_sum_ext, pair_sum_swap}
 use Rattle.characters.proofs.CharacterLaws.{full_character_is, covariance, in_class_true, in_class_of}
 
@@ -36,19 +36,13 @@ module _ {A G S : Type 0} (T : Setting A G) (C : Classes T.group) (X : Simples T
   pub pair_term_bar : (i j : S) (g h : G) → pair_term T C X i j g h ≡ T.involution.bar (T.ring.mul (full_character T C X i g h) (full_character T C X j h g))
   pair_term_bar i j g h = pair_term_is i j g h ∙ sym (T.involution.bar_mul (full_character T C X i g h) (full_character T C X j h g))
 
-  -- two pairs of factors, of which the first two cancel
-  cancel_pair : (r s x y : A) → T.ring.mul r s ≡ T.ring.one → T.ring.mul (T.ring.mul r x) (T.ring.mul s y) ≡ T.ring.mul x y
-  cancel_pair r s x y e =
-      let sorted : T.ring.mul (T.ring.mul r x) (T.ring.mul s y) ≡ T.ring.mul (T.ring.mul r s) (T.ring.mul x y) = simp (product_rules, T.ring) in
-      sorted ∙ ap (λ z. T.ring.mul z (T.ring.mul x y)) e ∙ one_mul T.ring (T.ring.mul x y)
-
   -- the products of full characters of which S is made are the same at conjugate pairs
   pub pair_product_invariant : (i j : S) (g h c : G) → Commuting T g h →
       T.ring.mul (full_character T C X i g h) (full_character T C X j h g)
       ≡ T.ring.mul (full_character T C X i (conj T.group g c) (conj T.group h c)) (full_character T C X j (conj T.group h c) (conj T.group g c))
   pair_product_invariant i j g h c commuting =
       ap₂ T.ring.mul (covariance T C X i g h c commuting) (covariance T C X j h g c (sym commuting))
-      ∙ cancel_pair (transport_root T g h c) (transport_root T h g c) _ _ (transport_roots_inverse T g h c commuting)
+      ∙ cancel_pair T (transport_root T g h c) (transport_root T h g c) _ _ (transport_roots_inverse T g h c commuting)
 
   -- so are the terms of S
   pub pair_term_invariant : (i j : S) (g h c : G) → Commuting T g h → pair_term T C X i j (conj T.group g c) (conj T.group h c) ≡ pair_term T C X i j g h
@@ -64,10 +58,9 @@ module _ {A G S : Type 0} (T : Setting A G) (C : Classes T.group) (X : Simples T
   -- the full character at the identity: the degree on the class
   pub full_character_at_one : (i : S) (g : G) → full_character T C X i g T.group.one ≡ pick T.ring (in_class T C X i g) (X.value i T.group.one)
   full_character_at_one i g =
-      let swap : Commuting T g T.group.one = T.group.op_one g ∙ sym (T.group.one_op g) in
       full_character_is T C X i g T.group.one
       ∙ ap (pick T.ring (in_class T C X i g))
-      (pick_of T.ring _ _ (commute_of T g T.group.one swap)
+      (pick_of T.ring _ _ (commute_of T g T.group.one (commutes_one T g))
       ∙ ap₂ T.ring.mul (transport_root_of_one T g (C.carrier g)) (ap (X.value i) (one_conj T.group (C.carrier g)))
       ∙ one_mul T.ring (X.value i T.group.one))
 
@@ -76,9 +69,6 @@ module _ {A G S : Type 0} (T : Setting A G) (C : Classes T.group) (X : Simples T
   degree_bar i =
       ap T.involution.bar (X.degree_is i) ∙ multiple_map T.ring T.ring T.involution.bar T.involution.bar_add (X.degree i) T.ring.one
       ∙ ap (multiple T.ring (X.degree i)) (bar_one T.ring T.involution) ∙ sym (X.degree_is i)
-
-  one_commutes : (g x : G) → g ≡ T.group.one → Commuting T g x
-  one_commutes g x at_one = ap (λ z. T.group.op z x) at_one ∙ T.group.one_op x ∙ sym (T.group.op_one x) ∙ ap (T.group.op x) (sym at_one)
 
   -- the class of the vacuum holds the identity alone
   pub vacuum_class : (v : S) → IsVacuum X v → (g : G) → in_class T C X v g ≡ equals T.finite g T.group.one
@@ -95,7 +85,7 @@ module _ {A G S : Type 0} (T : Setting A G) (C : Classes T.group) (X : Simples T
       full_character_is T C X v g x ∙ ap₂ (pick T.ring) (vacuum_class v V g) refl
       ∙ pick_cong T.ring (equals T.finite g T.group.one) _ _
       (λ e. let at_one : g ≡ T.group.one = equals_true T.finite g T.group.one e in
-      pick_of T.ring _ _ (commute_of T g x (one_commutes g x at_one))
+      pick_of T.ring _ _ (subst (λ z. commute T z x ≡ true) (sym at_one) (commute_of T T.group.one x (one_commutes T x)))
       ∙ ap₂ T.ring.mul (ap (λ z. transport_root T z x (C.carrier g)) at_one ∙ transport_root_at_one T x (C.carrier g)) (V.values_one (conj T.group x (C.carrier g)))
       ∙ T.ring.mul_one T.ring.one)
 
@@ -121,7 +111,7 @@ module _ {A G S : Type 0} (T : Setting A G) (C : Classes T.group) (X : Simples T
               ap T.involution.bar (ap (full_character T C X j h) at_one ∙ full_character_at_one j h)
               ∙ pick_map T.ring T.ring T.involution.bar T.involution.bar_add (in_class T C X j h) (X.value j T.group.one)
               ∙ ap (pick T.ring (in_class T C X j h)) (degree_bar j) in
-              pick_of T.ring _ _ (commute_of T g h (one_commutes g h at_one))
+              pick_of T.ring _ _ (subst (λ z. commute T z h ≡ true) (sym at_one) (commute_of T T.group.one h (one_commutes T h)))
               ∙ pair_term_is v j g h ∙ ap₂ T.ring.mul first second ∙ one_mul T.ring _ ∙ sym (pick_true T.ring _)
           by false e =
               let first : T.involution.bar (full_character T C X v g h) ≡ T.ring.nought =

@@ -1,4 +1,5 @@
 -- Commuting elements, roots and carriers in the setting of full characters.
+use Rattle.algebra.specs.Totals.{Finite, equals}
 use Rattle.std.proofs.Common.{◌≡◌, ℕ, ◌+◌, Bool, true, false, refl, sym, ◌∙◌, ap}
 use mathlib.Core.Path.{ap₂}
 use Rattle.algebra.specs.Groups.{conj}
@@ -16,6 +17,9 @@ pub same_test : (b c : Bool) → (b ≡ true → c ≡ true) → (c ≡ true →
 same_test true c f g = sym (f refl)
 same_test false true f g = g refl
 same_test false false f g = refl
+
+pub equals_symmetric : {S : Type 0} (E : Finite S) (x y : S) → equals E x y ≡ equals E y x
+equals_symmetric E x y = same_test (equals E x y) (equals E y x) (λ h. equals_of E y x (sym (equals_true E x y h))) (λ h. equals_of E x y (sym (equals_true E y x h)))
 
 module _ {A G : Type 0} (T : Setting A G) where
   pub commute_true : (g x : G) → commute T g x ≡ true → Commuting T g x
@@ -42,6 +46,13 @@ module _ {A G : Type 0} (T : Setting A G) where
       (λ h. commute_of g x (commuting_back g x c (commute_true (conj T.group g c) (conj T.group x c) h)))
       (λ h. commute_of (conj T.group g c) (conj T.group x c) (commuting_conj g x c (commute_true g x h)))
 
+  -- every element commutes with the identity
+  pub one_commutes : (g : G) → Commuting T T.group.one g
+  one_commutes g = T.group.one_op g ∙ sym (T.group.op_one g)
+
+  pub commutes_one : (g : G) → Commuting T g T.group.one
+  commutes_one g = T.group.op_one g ∙ sym (T.group.one_op g)
+
   -- what commutes with an element is closed under products
   pub commuting_product : (x y a : G) → Commuting T x a → Commuting T y a → Commuting T (T.group.op x y) a
   commuting_product x y a p q =
@@ -52,6 +63,12 @@ module _ {A G : Type 0} (T : Setting A G) where
   cancel_unit r s x y unit e =
       let back : (z : A) → T.ring.mul s (T.ring.mul r z) ≡ z = λ z. sym (T.ring.mul_assoc s r z) ∙ ap (λ b. T.ring.mul b z) (T.ring.mul_comm s r ∙ unit) ∙ one_mul T.ring z in
       sym (back x) ∙ ap (T.ring.mul s) e ∙ back y
+
+  -- two factors that are inverse to each other vanish
+  pub cancel_pair : (r s x y : A) → T.ring.mul r s ≡ T.ring.one → T.ring.mul (T.ring.mul r x) (T.ring.mul s y) ≡ T.ring.mul x y
+  cancel_pair r s x y e =
+      let sorted : T.ring.mul (T.ring.mul r x) (T.ring.mul s y) ≡ T.ring.mul (T.ring.mul r s) (T.ring.mul x y) = simp (product_rules, T.ring) in
+      sorted ∙ ap (λ z. T.ring.mul z (T.ring.mul x y)) e ∙ one_mul T.ring (T.ring.mul x y)
 
   -- an element has one inverse
   pub inverse_unique : (u v z : A) → T.ring.mul u v ≡ T.ring.one → T.ring.mul u z ≡ T.ring.one → v ≡ z
@@ -125,6 +142,10 @@ module _ {A G : Type 0} (T : Setting A G) where
       T.ring.mul (conjugation_root T a c x) (slant_root T a (T.group.op (T.group.op c x) (T.group.inv c)) c) ≡ slant_root T a c x
   unfolding slant_root conjugation_root
   conjugation_root_is a c x = sym (T.roots.root_add _ _) ∙ T.roots.root_same _ _ (kappa_is T.group T.modulus T.cochain T.cocycle a c x)
+
+  pub conjugation_root_unit : (a c x : G) → T.ring.mul (conjugation_root T a c x) (T.involution.bar (conjugation_root T a c x)) ≡ T.ring.one
+  unfolding conjugation_root
+  conjugation_root_unit a c x = T.root_bar _
 
   -- conjugation by c undoes transport along c
   pub conjugation_root_bar : (a c x : G) → T.involution.bar (conjugation_root T a c x) ≡ transport_root T a (T.group.op (T.group.op c x) (T.group.inv c)) c

@@ -1,11 +1,11 @@
 -- Full characters at products with their own element, and at inverses.
-use Rattle.std.proofs.Common.{◌≡◌, ℕ, Bool, true, false, refl, sym, ◌∙◌, ap, subst}
+use Rattle.std.proofs.Common.{◌≡◌, Bool, true, false, refl, sym, ◌∙◌, ap, subst}
 use mathlib.Core.Path.{ap₂}
 use Rattle.algebra.specs.Sums.{pick, multiple}
 use Rattle.algebra.specs.Totals.{Finite, equals, total}
 use Rattle.algebra.specs.Groups.{conj}
-use Rattle.algebra.proofs.RingLaws.{product_rules, one_mul, mul_nought}
-use Rattle.algebra.proofs.SumLaws.{pick_of, pick_true, pick_false, mul_pick, pick_mul, multiple_is_mul}
+use Rattle.algebra.proofs.RingLaws.{product_rules, one_mul, mul_nought, mul_left_comm}
+use Rattle.algebra.proofs.SumLaws.{pick_of, pick_true, pick_false, mul_pick, pick_mul}
 use Rattle.algebra.proofs.GroupLaws.{group_rules, conj_is, conj_of_commuting, inv_op_op, op_op_inv, op_conj, inv_conj}
 use Rattle.algebra.proofs.InvolutionLaws.{bar_nought}
 use Rattle.algebra.proofs.TotalLaws.{total_ext, total_pick, mul_total, total_mul, equals_true, equals_of}
@@ -15,11 +15,11 @@ use Rattle.characters.specs.Simples.{Simples}
 use Rattle.characters.specs.Twists.{AreTwists}
 use Rattle.characters.specs.Tables.{IsTorsionFree, centraliser_order, centraliser_product, GoodTables}
 use Rattle.characters.specs.FullCharacters.{in_class, full_character}
-use Rattle.characters.proofs.SettingLaws.{same_test, commuting_conj, commuting_inv, commuting_product, cancel_unit, slant_root_bar, slant_root_swap, conjugation_root_is, transport_root_bar, transport_root_product, transport_root_of_itself, transport_root_of_one}
+use Rattle.characters.proofs.SettingLaws.{same_test, commuting_conj, commuting_inv, commuting_product, cancel_unit, slant_root_bar, slant_root_swap, conjugation_root_is, transport_root_bar, transport_root_product, transport_root_of_itself, transport_root_of_one, cancel_pair}
 use Rattle.characters.proofs.AlgebraLaws.{centraliser_product_is}
 use Rattle.characters.proofs.CentraliserSums.{centraliser_sum_ext, mul_centraliser_sum, total_centraliser_sum, centraliser_sum_pick}
 use Rattle.characters.proofs.CharacterLaws.{full_character_at, full_character_off, in_class_true}
-use Rattle.characters.proofs.OrthogonalityLaws.{cancel_multiple, pick_both, pick_factor}
+use Rattle.characters.proofs.OrthogonalityLaws.{cancel_multiple, pick_both, pick_factor, of_whole}
 use Rattle.characters.proofs.VerlindeLaws.{trace, IsCarried, cancel_centraliser_order, part, part_at, by_parts}
 
 module _ {A G S : Type 0} (T : Setting A G) (C : Classes T.group) (X : Simples T C S) (E : Finite S) (good : GoodTables X E) (free : IsTorsionFree T.ring) where
@@ -40,13 +40,10 @@ module _ {A G S : Type 0} (T : Setting A G) (C : Classes T.group) (X : Simples T
         ∙ centraliser_sum_ext T (X.at l) _ _
         (λ y h. total_ext T.ring E _ _ (λ i. sort (c i) (slant_root T (X.at l) y (T.group.op (T.group.inv y) x)) (p i y) (r (T.group.op (T.group.inv y) x)))
         ∙ sym (total_mul T.ring E _ _)
-        ∙ sorted _ (slant_root T (X.at l) y (T.group.op (T.group.inv y) x)) (r (T.group.op (T.group.inv y) x))))
+        ∙ mul_left_comm T.ring _ (slant_root T (X.at l) y (T.group.op (T.group.inv y) x)) (r (T.group.op (T.group.inv y) x))))
       where
         sort : (c s p r : A) → T.ring.mul c (T.ring.mul s (T.ring.mul p r)) ≡ T.ring.mul (T.ring.mul c p) (T.ring.mul s r)
         sort c s p r = simp (product_rules, T.ring)
-
-        sorted : (u s r : A) → T.ring.mul u (T.ring.mul s r) ≡ T.ring.mul s (T.ring.mul u r)
-        sorted u s r = simp (product_rules, T.ring)
 
     product_ext : (p q r : G → A) (x : G) → ((y : G) → Commuting T y (X.at l) → p y ≡ q y) → centraliser_product T (X.at l) p r x ≡ centraliser_product T (X.at l) q r x
     product_ext p q r x e =
@@ -63,9 +60,6 @@ module _ {A G S : Type 0} (T : Setting A G) (C : Classes T.group) (X : Simples T
         sort : (m s p r : A) → T.ring.mul s (T.ring.mul (T.ring.mul m p) r) ≡ T.ring.mul m (T.ring.mul s (T.ring.mul p r))
         sort m s p r = simp (product_rules, T.ring)
 
-    as_mul : (n : ℕ) (u : A) → T.ring.mul (multiple T.ring n T.ring.one) u ≡ multiple T.ring n u
-    as_mul n u = sym (multiple_is_mul T.ring n u)
-
     -- the degree times the product of a row with that of l
     product_of_rows : (i : S) (x : G) → X.at i ≡ X.at l → Commuting T x (X.at l) →
         T.ring.mul (multiple T.ring (X.degree l) T.ring.one) (centraliser_product T (X.at l) (row_bar i) (row_bar l) x) ≡ pick T.ring (equals E i l) (T.ring.mul order (row_bar l x))
@@ -74,7 +68,7 @@ module _ {A G S : Type 0} (T : Setting A G) (C : Classes T.group) (X : Simples T
         by : (b : Bool) → equals E i l ≡ b →
             T.ring.mul (multiple T.ring (X.degree l) T.ring.one) (centraliser_product T (X.at l) (row_bar i) (row_bar l) x) ≡ pick T.ring b (T.ring.mul order (row_bar l x))
         by true e =
-            as_mul (X.degree l) _
+            of_whole T.ring (X.degree l) _
             ∙ ap (λ k. multiple T.ring (X.degree l) (centraliser_product T (X.at l) (row_bar k) (row_bar l) x)) (equals_true E i l e)
             ∙ (good.table (X.at l) (X.at_representative l)).product_self l x refl h ∙ sym (pick_true T.ring _)
         by false e =
@@ -87,22 +81,19 @@ module _ {A G S : Type 0} (T : Setting A G) (C : Classes T.group) (X : Simples T
         T.ring.mul (multiple T.ring (X.degree l) T.ring.one) (centraliser_product T (X.at l) z (row_bar l) x) ≡ T.ring.mul (trace T C X l z) (row_bar l x)
     carried_times_row z central x h =
         cancel_centraliser_order T C free (X.at l) (X.at_representative l) _ _
-        (outside order (multiple T.ring (X.degree l) T.ring.one) _
+        (mul_left_comm T.ring order (multiple T.ring (X.degree l) T.ring.one) _
         ∙ ap (T.ring.mul (multiple T.ring (X.degree l) T.ring.one))
         (sym (product_scaled order z (row_bar l) x)
         ∙ product_ext _ _ (row_bar l) x (λ y k. by_parts T C X E good free l z central y k)
         ∙ product_left (part T C X E good free l z) row_bar (row_bar l) x)
         ∙ mul_total T.ring E _ _
         ∙ total_ext T.ring E _ _
-        (λ i. outside (multiple T.ring (X.degree l) T.ring.one) (part T C X E good free l z i) _
+        (λ i. mul_left_comm T.ring (multiple T.ring (X.degree l) T.ring.one) (part T C X E good free l z i) _
         ∙ pick_factor T.ring (equals T.finite (X.at l) (X.at i)) (trace T C X i z) _ _ (λ e. product_of_rows i x (sym (equals_true T.finite (X.at l) (X.at i) e)) h)
         ∙ mul_pick T.ring (equals E i l) (part T C X E good free l z i) _)
         ∙ total_pick T.ring E l (λ i. T.ring.mul (part T C X E good free l z i) (T.ring.mul order (row_bar l x)))
         ∙ ap (λ u. T.ring.mul u (T.ring.mul order (row_bar l x))) (part_at T C X E good free l z)
-        ∙ outside (trace T C X l z) order (row_bar l x))
-      where
-        outside : (m d f : A) → T.ring.mul m (T.ring.mul d f) ≡ T.ring.mul d (T.ring.mul m f)
-        outside m d f = simp (product_rules, T.ring)
+        ∙ mul_left_comm T.ring (trace T C X l z) order (row_bar l x))
 
     -- one at the representative, else nought
     abbrev itself : G → A
@@ -136,13 +127,10 @@ module _ {A G S : Type 0} (T : Setting A G) (C : Classes T.group) (X : Simples T
         carried_back : (c x : G) → conj T.group (T.group.op (T.group.op c x) (T.group.inv c)) c ≡ x
         carried_back c x = simp (conj_is, group_rules, T.group)
 
-    one_commutes : Commuting T (X.at l) (X.at l)
-    one_commutes = refl
-
     trace_of_itself : trace T C X l itself ≡ X.value l (X.at l)
     trace_of_itself =
         centraliser_sum_ext T (X.at l) _ _ (λ y h. pick_mul T.ring (equals T.finite y (X.at l)) T.ring.one (X.value l y) ∙ ap (pick T.ring (equals T.finite y (X.at l))) (one_mul T.ring (X.value l y)))
-        ∙ centraliser_sum_pick T (X.at l) (X.at l) (X.value l) one_commutes
+        ∙ centraliser_sum_pick T (X.at l) (X.at l) (X.value l) refl
 
     product_with_itself : (x : G) → centraliser_product T (X.at l) itself (row_bar l) (T.group.op (X.at l) x) ≡ T.ring.mul (slant_root T (X.at l) (X.at l) x) (row_bar l x)
     product_with_itself x =
@@ -152,7 +140,7 @@ module _ {A G S : Type 0} (T : Setting A G) (C : Classes T.group) (X : Simples T
         (λ y h. ap (T.ring.mul (slant_root T a y (T.group.op (T.group.inv y) (T.group.op a x))))
         (pick_mul T.ring (equals T.finite y a) T.ring.one _ ∙ ap (pick T.ring (equals T.finite y a)) (one_mul T.ring _))
         ∙ mul_pick T.ring (equals T.finite y a) _ _)
-        ∙ centraliser_sum_pick T a a (λ y. T.ring.mul (slant_root T a y (T.group.op (T.group.inv y) (T.group.op a x))) (row_bar l (T.group.op (T.group.inv y) (T.group.op a x)))) one_commutes
+        ∙ centraliser_sum_pick T a a (λ y. T.ring.mul (slant_root T a y (T.group.op (T.group.inv y) (T.group.op a x))) (row_bar l (T.group.op (T.group.inv y) (T.group.op a x)))) refl
         ∙ ap (λ z. T.ring.mul (slant_root T a a z) (row_bar l z)) (inv_op_op T.group a x)
 
     -- the row at the product with its own element
@@ -166,38 +154,25 @@ module _ {A G S : Type 0} (T : Setting A G) (C : Classes T.group) (X : Simples T
         let u : A = X.value l (T.group.op a x) in
         let bars : T.ring.mul r (T.involution.bar v) ≡ T.ring.mul t (T.involution.bar u) =
         cancel_multiple T.ring free (X.degree l) _ _ (X.degree_from_one l)
-        (sym (as_mul (X.degree l) _)
+        (sym (of_whole T.ring (X.degree l) _)
         ∙ ap (T.ring.mul (multiple T.ring (X.degree l) T.ring.one)) (sym (product_with_itself x))
         ∙ carried_times_row itself itself_carried (T.group.op a x) (commuting_product T a x a refl h)
         ∙ ap (λ z. T.ring.mul z (T.involution.bar u)) (trace_of_itself ∙ twists.at_itself l ∙ ap (T.ring.mul t) (X.degree_is l))
         ∙ sort t (multiple T.ring (X.degree l) T.ring.one) (T.involution.bar u)
-        ∙ as_mul (X.degree l) _) in
+        ∙ of_whole T.ring (X.degree l) _) in
         let plain : T.ring.mul (T.involution.bar r) v ≡ T.ring.mul (T.involution.bar t) u =
         ap (T.ring.mul (T.involution.bar r)) (sym (T.involution.bar_bar v)) ∙ sym (T.involution.bar_mul r (T.involution.bar v)) ∙ ap T.involution.bar bars
         ∙ T.involution.bar_mul t (T.involution.bar u) ∙ ap (T.ring.mul (T.involution.bar t)) (T.involution.bar_bar u) in
-        sym (unit_front r t (T.involution.bar t) u (twists.unit l)) ∙ ap (λ z. T.ring.mul (T.ring.mul r t) z) (sym plain) ∙ unit_back r t (T.involution.bar r) v (slant_root_bar T a a x)
+        sym (ap (λ z. T.ring.mul z (T.ring.mul (T.involution.bar t) u)) (T.ring.mul_comm r t) ∙ cancel_pair T t (T.involution.bar t) r u (twists.unit l)) ∙ ap (λ z. T.ring.mul (T.ring.mul r t) z) (sym plain) ∙ cancel_pair T r (T.involution.bar r) t v (slant_root_bar T a a x)
       where
         sort : (t d u : A) → T.ring.mul (T.ring.mul t d) u ≡ T.ring.mul d (T.ring.mul t u)
         sort t d u = simp (product_rules, T.ring)
-
-        unit_front : (r t s u : A) → T.ring.mul t s ≡ T.ring.one → T.ring.mul (T.ring.mul r t) (T.ring.mul s u) ≡ T.ring.mul r u
-        unit_front r t s u e =
-            let sorted : T.ring.mul (T.ring.mul r t) (T.ring.mul s u) ≡ T.ring.mul (T.ring.mul t s) (T.ring.mul r u) = simp (product_rules, T.ring) in
-            sorted ∙ ap (λ z. T.ring.mul z (T.ring.mul r u)) e ∙ one_mul T.ring (T.ring.mul r u)
-
-        unit_back : (r t s v : A) → T.ring.mul r s ≡ T.ring.one → T.ring.mul (T.ring.mul r t) (T.ring.mul s v) ≡ T.ring.mul t v
-        unit_back r t s v e =
-            let sorted : T.ring.mul (T.ring.mul r t) (T.ring.mul s v) ≡ T.ring.mul (T.ring.mul r s) (T.ring.mul t v) = simp (product_rules, T.ring) in
-            sorted ∙ ap (λ z. T.ring.mul z (T.ring.mul t v)) e ∙ one_mul T.ring (T.ring.mul t v)
 
   -- the full character at the product with its own element: the twist
   pub twist_acts : (twist : S → A) → AreTwists X twist → (l : S) (g x : G) → Commuting T g x →
       T.ring.mul (slant_root T g g x) (full_character T C X l g (T.group.op g x)) ≡ T.ring.mul (twist l) (full_character T C X l g x)
   twist_acts twist twists l g x h = by (in_class T C X l g) refl
     where
-      outside : (m d f : A) → T.ring.mul m (T.ring.mul d f) ≡ T.ring.mul d (T.ring.mul m f)
-      outside m d f = simp (product_rules, T.ring)
-
       by : (b : Bool) → in_class T C X l g ≡ b → T.ring.mul (slant_root T g g x) (full_character T C X l g (T.group.op g x)) ≡ T.ring.mul (twist l) (full_character T C X l g x)
       by true e =
           let k : G = C.carrier g in
@@ -215,7 +190,7 @@ module _ {A G S : Type 0} (T : Setting A G) (C : Classes T.group) (X : Simples T
           ap (T.ring.mul (slant_root T g g x)) here
           ∙ sym (T.ring.mul_assoc _ _ _) ∙ ap (λ u. T.ring.mul u (X.value l (T.group.op a x0))) roots ∙ T.ring.mul_assoc _ _ _
           ∙ ap (T.ring.mul (transport_root T g x k)) (row_twist l twist twists x0 (subst (λ b. Commuting T x0 b) carried (commuting_conj T x g k (sym h))))
-          ∙ outside (transport_root T g x k) (twist l) (X.value l x0)
+          ∙ mul_left_comm T.ring (transport_root T g x k) (twist l) (X.value l x0)
           ∙ ap (T.ring.mul (twist l)) (sym there)
       by false e =
           ap (T.ring.mul (slant_root T g g x)) (full_character_off T C X l g (T.group.op g x) e) ∙ mul_nought T.ring _
@@ -226,14 +201,6 @@ module _ {A G S : Type 0} (T : Setting A G) (C : Classes T.group) (X : Simples T
       full_character T C X l g (T.group.inv x) ≡ T.ring.mul (slant_root T g x (T.group.inv x)) (T.involution.bar (full_character T C X l g x))
   inverse_argument l g x h = by (in_class T C X l g) refl
     where
-      unit_out : (r s w v : A) → T.ring.mul r (T.involution.bar r) ≡ T.ring.one → T.ring.mul (T.ring.mul (T.ring.mul r s) w) (T.ring.mul (T.involution.bar r) v) ≡ T.ring.mul s (T.ring.mul w v)
-      unit_out r s w v e =
-          let q : A = T.involution.bar r in
-          sorted r s w q v ∙ ap (λ z. T.ring.mul z (T.ring.mul s (T.ring.mul w v))) e ∙ one_mul T.ring _
-        where
-          sorted : (r s w q v : A) → T.ring.mul (T.ring.mul (T.ring.mul r s) w) (T.ring.mul q v) ≡ T.ring.mul (T.ring.mul r q) (T.ring.mul s (T.ring.mul w v))
-          sorted r s w q v = simp (product_rules, T.ring)
-
       by : (b : Bool) → in_class T C X l g ≡ b → full_character T C X l g (T.group.inv x) ≡ T.ring.mul (slant_root T g x (T.group.inv x)) (T.involution.bar (full_character T C X l g x))
       by true e =
           let k : G = C.carrier g in
@@ -256,7 +223,7 @@ module _ {A G S : Type 0} (T : Setting A G) (C : Classes T.group) (X : Simples T
           sym (T.ring.mul_one _) ∙ ap (T.ring.mul (slant_root T g x (T.group.inv x))) (sym (ap (λ z. transport_root T g z k) (T.group.op_inv x) ∙ transport_root_of_one T g k))
           ∙ transport_root_product T g x (T.group.inv x) k (sym h) inverse_commutes
           ∙ ap₂ (λ b z. T.ring.mul (T.ring.mul r s) (slant_root T b x0 z)) carried (inv_conj T.group x k) in
-          here ∙ sym (ap₂ T.ring.mul roots there ∙ unit_out r s w v (transport_root_bar T g x k))
+          here ∙ sym (ap₂ T.ring.mul roots there ∙ (ap (λ z. T.ring.mul z (T.ring.mul (T.involution.bar r) v)) (T.ring.mul_assoc r s w) ∙ cancel_pair T r (T.involution.bar r) (T.ring.mul s w) v (transport_root_bar T g x k) ∙ T.ring.mul_assoc s w v))
       by false e =
           full_character_off T C X l g (T.group.inv x) e
           ∙ sym (ap (T.ring.mul (slant_root T g x (T.group.inv x))) (ap T.involution.bar (full_character_off T C X l g x e) ∙ bar_nought T.ring T.involution) ∙ mul_nought T.ring _)

@@ -5,7 +5,7 @@ use Rattle.algebra.specs.Sums.{pick}
 use Rattle.algebra.specs.Totals.{Finite, equals, total}
 use Rattle.algebra.specs.Groups.{conj}
 use Rattle.algebra.proofs.SumLaws.{mul_pick}
-use Rattle.algebra.proofs.TotalLaws.{total_ext, equals_true, equals_of}
+use Rattle.algebra.proofs.TotalLaws.{total_ext}
 use Rattle.characters.specs.Setting.{Setting, Classes}
 use Rattle.characters.specs.PhaseRoots.{transport_root}
 use Rattle.characters.specs.Simples.{Simples}
@@ -13,15 +13,12 @@ use Rattle.characters.specs.Tables.{IsTorsionFree, group_order, GoodTables}
 use Rattle.characters.specs.Pairs.{inner_product, IsCovariant}
 use Rattle.characters.specs.FullCharacters.{full_character}
 use Rattle.characters.specs.SMatrix.{s_sum, pair_term}
-use Rattle.characters.proofs.SettingLaws.{same_test, inverse_unique, transport_roots_inverse, transport_root_bar}
+use Rattle.characters.proofs.SettingLaws.{inverse_unique, transport_roots_inverse, transport_root_bar, equals_symmetric}
 use Rattle.characters.proofs.PairLaws.{pair_sum_ext, pair_sum_swap, inner_product_is}
 use Rattle.characters.proofs.CharacterLaws.{covariance}
 use Rattle.characters.proofs.SLaws.{s_sum_is, pair_term_is}
 use Rattle.characters.proofs.OrthogonalityLaws.{first_orthogonality}
 use Rattle.characters.proofs.Expansion.{inner_product_by_simples}
-
-pub equals_symmetric : {S : Type 0} (E : Finite S) (x y : S) → equals E x y ≡ equals E y x
-equals_symmetric E x y = same_test (equals E x y) (equals E y x) (λ h. equals_of E y x (sym (equals_true E x y h))) (λ h. equals_of E x y (sym (equals_true E y x h)))
 
 module _ {A G S : Type 0} (T : Setting A G) (C : Classes T.group) (X : Simples T C S) where
   -- the conjugate of the full character of i with its arguments exchanged

@@ -1,10 +1,10 @@
 -- Verlinde's formula.
-use Rattle.std.proofs.Common.{◌≡◌, ℕ, ◌≤◌, ◌<◌, Bool, true, false, refl, sym, ◌∙◌, ap, subst, arith}
+use Rattle.std.proofs.Common.{◌≡◌, ◌≤◌, ◌<◌, Bool, true, false, refl, sym, ◌∙◌, ap, subst, arith}
 use mathlib.Core.Path.{ap₂}
 use Rattle.algebra.specs.Sums.{pick, multiple}
 use Rattle.algebra.specs.Totals.{Finite, equals, total}
 use Rattle.algebra.specs.Groups.{conj}
-use Rattle.algebra.proofs.RingLaws.{product_rules, one_mul, mul_nought, nought_mul}
+use Rattle.algebra.proofs.RingLaws.{product_rules, one_mul, mul_nought, nought_mul, mul_left_comm}
 use Rattle.algebra.proofs.SumLaws.{pick_of, pick_off, pick_nought, pick_cong, pick_true, pick_false, mul_pick, pick_mul, pick_swap, multiple_mul}
 use Rattle.algebra.proofs.GroupLaws.{group_rules, conj_is, conj_one, conj_inv, conj_of_inv, conj_of_commuting, inv_op_op}
 use Rattle.algebra.proofs.TotalLaws.{total_ext, total_exchange, total_pick, total_reindex, total_nought, mul_total, total_mul, pick_total, equals_true, equals_of}
@@ -15,14 +15,13 @@ use Rattle.characters.specs.Tables.{IsTorsionFree, group_order, centraliser_sum,
 use Rattle.characters.specs.FullCharacters.{in_class, full_character}
 use Rattle.characters.specs.SMatrix.{pair_term, s_sum, dimension}
 use Rattle.characters.specs.Fusion.{tensor_character, fusion_sum}
-use Rattle.characters.proofs.SettingLaws.{commute_of, commute_true, commuting_conj, commute_conj, commuting_product, inverse_unique, conjugation_root_bar, transport_roots_inverse, transport_root_along_one, coproduct_root_is_slant}
+use Rattle.characters.proofs.SettingLaws.{commute_of, commute_true, commuting_conj, commute_conj, commuting_product, inverse_unique, conjugation_root_bar, transport_roots_inverse, transport_root_along_one, coproduct_root_is_slant, equals_symmetric, conjugation_root_unit}
 use Rattle.characters.proofs.PairLaws.{pair_sum_is, pair_sum_ext, bar_pair_sum}
 use Rattle.characters.proofs.AlgebraLaws.{centraliser_product_is}
 use Rattle.characters.proofs.CentraliserSums.{centraliser_sum_ext, mul_centraliser_sum, centraliser_sum_mul, total_centraliser_sum, centraliser_sum_exchange, centraliser_sum_pick, centraliser_sum_shift, centraliser_sum_same}
 use Rattle.characters.proofs.CharacterLaws.{transporter_independent, covariance, full_character_off, in_class_true}
 use Rattle.characters.proofs.SLaws.{pair_term_bar, pair_product_invariant, s_sum_is, dimension_is}
-use Rattle.characters.proofs.OrthogonalityLaws.{pick_factor, cancel_multiple, class_equation, group_order_multiple, row_orthogonality, pick_both}
-use Rattle.characters.proofs.Unitarity.{equals_symmetric}
+use Rattle.characters.proofs.OrthogonalityLaws.{pick_factor, cancel_multiple, class_equation, group_order_multiple, row_orthogonality, pick_both, of_whole}
 use Rattle.characters.proofs.FusionLaws.{tensor_total, decomposition}
 
 -- the order of the group, and of a centraliser, may be cancelled
@@ -55,10 +54,6 @@ module _ {A G S : Type 0} (T : Setting A G) (C : Classes T.group) (X : Simples T
   -- z is carried by conjugation in the centraliser of a, as the elements are that commute with the whole algebra of a
   pub record IsCarried (a : G) (z : G → A) : Type 0 where
     pub carried : (c x : G) → Commuting T c a → Commuting T x a → z (T.group.op (T.group.op c x) (T.group.inv c)) ≡ T.ring.mul (conjugation_root T a c x) (z x)
-
-  conjugation_root_unit : (a c x : G) → T.ring.mul (conjugation_root T a c x) (T.involution.bar (conjugation_root T a c x)) ≡ T.ring.one
-  unfolding conjugation_root
-  conjugation_root_unit a c x = T.root_bar _
 
   pub conjugate_commutes : (a c x : G) → Commuting T c a → Commuting T x a → Commuting T (T.group.op (T.group.op c x) (T.group.inv c)) a
   conjugate_commutes a c x p q =
@@ -95,7 +90,7 @@ module _ {A G S : Type 0} (T : Setting A G) (C : Classes T.group) (X : Simples T
         back c h =
             let r : A = conjugation_root T a c x in
             let sorted : T.ring.mul (T.ring.mul r (z x)) (T.involution.bar r) ≡ T.ring.mul (T.ring.mul r (T.involution.bar r)) (z x) = simp (product_rules, T.ring) in
-            ap (λ u. T.ring.mul u (T.involution.bar r)) (central.carried c x h commuting) ∙ sorted ∙ ap (λ u. T.ring.mul u (z x)) (conjugation_root_unit a c x) ∙ one_mul T.ring (z x)
+            ap (λ u. T.ring.mul u (T.involution.bar r)) (central.carried c x h commuting) ∙ sorted ∙ ap (λ u. T.ring.mul u (z x)) (conjugation_root_unit T a c x) ∙ one_mul T.ring (z x)
 
         sort : (u v w : A) → T.ring.mul (T.ring.mul u v) w ≡ T.ring.mul u (T.ring.mul w v)
         sort u v w = simp (product_rules, T.ring)
@@ -189,18 +184,15 @@ module _ {A G S : Type 0} (T : Setting A G) (C : Classes T.group) (X : Simples T
     abbrev conjugates : S → G → A
     conjugates i x = T.involution.bar (X.value i x)
 
-    as_mul : (n : ℕ) (u : A) → T.ring.mul (multiple T.ring n T.ring.one) u ≡ multiple T.ring n u
-    as_mul n u = multiple_mul T.ring n T.ring.one u ∙ ap (multiple T.ring n) (one_mul T.ring u)
-
     -- d_i times the form of a row with itself
     form_of_row : (i : S) → X.at i ≡ X.at l → multiple T.ring (X.degree i) (form (conjugates i) (conjugates i)) ≡ T.ring.mul order (pick T.ring (equals E i l) order)
     form_of_row i same =
         ap (multiple T.ring (X.degree i)) (form_is_trace (conjugates i) (conjugates i))
-        ∙ sym (as_mul (X.degree i) _)
+        ∙ sym (of_whole T.ring (X.degree i) _)
         ∙ mul_centraliser_sum T (X.at l) _ _
         ∙ centraliser_sum_ext T (X.at l) _ _
         (λ z h. sym (T.ring.mul_assoc _ _ _)
-        ∙ ap (λ u. T.ring.mul u (X.value l z)) (as_mul (X.degree i) _ ∙ (good.table (X.at l) (X.at_representative l)).product_self i z same h)
+        ∙ ap (λ u. T.ring.mul u (X.value l z)) (of_whole T.ring (X.degree i) _ ∙ (good.table (X.at l) (X.at_representative l)).product_self i z same h)
         ∙ T.ring.mul_assoc _ _ _)
         ∙ sym (mul_centraliser_sum T (X.at l) (centraliser_order T (X.at l)) _)
         ∙ ap (T.ring.mul (centraliser_order T (X.at l)))
@@ -224,7 +216,7 @@ module _ {A G S : Type 0} (T : Setting A G) (C : Classes T.group) (X : Simples T
         by true true d e f g =
             let at_l : i ≡ l = equals_true E i l f in
             let other : equals E j l ≡ true = equals_of E j l (sym (equals_true E i j e) ∙ at_l) in
-            as_mul (X.degree l) _
+            of_whole T.ring (X.degree l) _
             ∙ ap₂ (λ k r. multiple T.ring (X.degree k) (form (conjugates i) (conjugates r))) (sym at_l) (sym (equals_true E i j e))
             ∙ form_of_row i same_i ∙ ap (T.ring.mul order) (pick_of T.ring _ _ f)
             ∙ sym (pick_true T.ring _ ∙ pick_of T.ring d _ (sym g ∙ other))
@@ -265,11 +257,11 @@ module _ {A G S : Type 0} (T : Setting A G) (C : Classes T.group) (X : Simples T
         ∙ total_ext T.ring E _ _ (λ i. ap (T.ring.mul (part z i)) (form_right (part w) (conjugates i) conjugates)))
         ∙ mul_total T.ring E degree _
         ∙ total_ext T.ring E _ _
-        (λ i. outside degree (part z i) _
+        (λ i. mul_left_comm T.ring degree (part z i) _
         ∙ pick_factor T.ring (equals T.finite (X.at l) (X.at i)) (trace i z) _ _
         (λ e. mul_total T.ring E degree _
         ∙ total_ext T.ring E _ _
-        (λ j. outside degree (part w j) _
+        (λ j. mul_left_comm T.ring degree (part w j) _
         ∙ pick_factor T.ring (equals T.finite (X.at l) (X.at j)) (trace j w) _ _
         (λ f. form_of_rows i j (sym (equals_true T.finite (X.at l) (X.at i) e)) (sym (equals_true T.finite (X.at l) (X.at j) f)))
         ∙ mul_pick T.ring (equals E i l) (part w j) _)
@@ -284,9 +276,6 @@ module _ {A G S : Type 0} (T : Setting A G) (C : Classes T.group) (X : Simples T
       where
         sort : (m d f : A) → T.ring.mul m (T.ring.mul m (T.ring.mul d f)) ≡ T.ring.mul d (T.ring.mul (T.ring.mul m m) f)
         sort m d f = simp (product_rules, T.ring)
-
-        outside : (d c f : A) → T.ring.mul d (T.ring.mul c f) ≡ T.ring.mul c (T.ring.mul d f)
-        outside d c f = simp (product_rules, T.ring)
 
         sorted : (u v m : A) → T.ring.mul u (T.ring.mul v (T.ring.mul m m)) ≡ T.ring.mul m (T.ring.mul m (T.ring.mul u v))
         sorted u v m = simp (product_rules, T.ring)
@@ -305,7 +294,7 @@ module _ {A G S : Type 0} (T : Setting A G) (C : Classes T.group) (X : Simples T
         let fixed : conj T.group a c ≡ a = conj_of_commuting T.group a c (sym p) in
         let inverse : transport_root T y a c ≡ conjugation_root T a c x =
         inverse_unique T (transport_root T a y c) _ _ (transport_roots_inverse T a y c (sym commuting_y))
-        (ap (λ r. T.ring.mul r (conjugation_root T a c x)) (sym (conjugation_root_bar T a c x)) ∙ T.ring.mul_comm _ _ ∙ conjugation_root_unit a c x) in
+        (ap (λ r. T.ring.mul r (conjugation_root T a c x)) (sym (conjugation_root_bar T a c x)) ∙ T.ring.mul_comm _ _ ∙ conjugation_root_unit T a c x) in
         covariance T C X i y a c commuting_y ∙ ap₂ T.ring.mul inverse (ap₂ (full_character T C X i) back fixed);
   }
 
@@ -408,13 +397,10 @@ module _ {A G S : Type 0} (T : Setting A G) (C : Classes T.group) (X : Simples T
         ∙ ap₂ (λ u v. T.ring.mul u (T.ring.mul (class_size l) v)) (sym (dimension_of_size l)) (fusion_of_traces i j l)
         ∙ ap (T.ring.mul (dimension T C X l))
         (mul_total T.ring E (class_size l) _
-        ∙ total_ext T.ring E _ _ (λ k. outside (class_size l) (fusion_sum T C X i j k) _ ∙ ap (T.ring.mul (fusion_sum T C X i j k)) (sym (s_sum_is_trace k l))))
+        ∙ total_ext T.ring E _ _ (λ k. mul_left_comm T.ring (class_size l) (fusion_sum T C X i j k) _ ∙ ap (T.ring.mul (fusion_sum T C X i j k)) (sym (s_sum_is_trace k l))))
       where
         sort : (n s u v : A) → T.ring.mul n (T.ring.mul (T.ring.mul s u) (T.ring.mul s v)) ≡ T.ring.mul (T.ring.mul s s) (T.ring.mul n (T.ring.mul u v))
         sort n s u v = simp (product_rules, T.ring)
 
         sorted : (s n d f : A) → T.ring.mul (T.ring.mul s s) (T.ring.mul n (T.ring.mul d f)) ≡ T.ring.mul (T.ring.mul s d) (T.ring.mul s (T.ring.mul n f))
         sorted s n d f = simp (product_rules, T.ring)
-
-        outside : (d c f : A) → T.ring.mul d (T.ring.mul c f) ≡ T.ring.mul c (T.ring.mul d f)
-        outside d c f = simp (product_rules, T.ring)
