@@ -1,4 +1,5 @@
 pub mod SettingLaws
+pub mod ClassLaws
 pub mod PairLaws
 pub mod CharacterLaws
 pub mod SLaws

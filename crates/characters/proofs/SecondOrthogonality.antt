@@ -14,6 +14,7 @@ use Rattle.characters.specs.PhaseRoots.{transport_root, conjugation_root}
 use Rattle.characters.specs.Simples.{Simples}
 use Rattle.characters.specs.Tables.{GoodTables}
 use Rattle.characters.specs.FullCharacters.{in_class, full_character}
+use Rattle.characters.proofs.ClassLaws.{carried_back}
 use Rattle.characters.proofs.SettingLaws.{same_test, commute_of, commute_true, commuting_conj, conjugation_root_bar, transport_root_composes, transport_root_back}
 use Rattle.characters.proofs.CharacterLaws.{full_character_at, full_character_off, in_class_is, in_class_true}
 use Rattle.characters.proofs.OrthogonalityLaws.{pick_both, representative_of_itself}
@@ -127,8 +128,7 @@ module _ {A G S : Type 0} (T : Setting A G) (C : Classes T.group) (X : Simples T
 
     conjugate_forth : (c : G) → T.group.op (T.group.op c y0) (T.group.inv c) ≡ x0 → y0 ≡ conj T.group x0 c
     conjugate_forth c e =
-        let whole : conj T.group (T.group.op (T.group.op c y0) (T.group.inv c)) c ≡ y0 = simp (conj_is, group_rules, T.group) in
-        sym whole ∙ ap (λ z. conj T.group z c) e
+        sym (carried_back T.group c y0) ∙ ap (λ z. conj T.group z c) e
 
     second_test : (c : G) → equals T.finite y (conj T.group x (through c)) ≡ equals T.finite (T.group.op (T.group.op c y0) (T.group.inv c)) x0
     second_test c =

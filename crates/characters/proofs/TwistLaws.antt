@@ -6,7 +6,7 @@ use Rattle.algebra.specs.Totals.{Finite, equals, total}
 use Rattle.algebra.specs.Groups.{conj}
 use Rattle.algebra.proofs.RingLaws.{product_rules, one_mul, mul_nought, mul_left_comm}
 use Rattle.algebra.proofs.SumLaws.{pick_of, pick_true, pick_false, mul_pick, pick_mul}
-use Rattle.algebra.proofs.GroupLaws.{group_rules, conj_is, conj_of_commuting, inv_op_op, op_op_inv, op_conj, inv_conj}
+use Rattle.algebra.proofs.GroupLaws.{conj_of_commuting, inv_op_op, op_op_inv, op_conj, inv_conj}
 use Rattle.algebra.proofs.InvolutionLaws.{bar_nought}
 use Rattle.algebra.proofs.TotalLaws.{total_ext, total_pick, mul_total, total_mul, equals_true, equals_of}
 use Rattle.characters.specs.Setting.{Setting, Classes, Commuting}
@@ -15,6 +15,7 @@ use Rattle.characters.specs.Simples.{Simples}
 use Rattle.characters.specs.Twists.{AreTwists}
 use Rattle.characters.specs.Tables.{IsTorsionFree, centraliser_order, centraliser_product, GoodTables}
 use Rattle.characters.specs.FullCharacters.{in_class, full_character}
+use Rattle.characters.proofs.ClassLaws.{carried_back}
 use Rattle.characters.proofs.SettingLaws.{same_test, commuting_conj, commuting_inv, commuting_product, cancel_unit, slant_root_bar, slant_root_swap, conjugation_root_is, transport_root_bar, transport_root_product, transport_root_of_itself, transport_root_of_one, cancel_pair}
 use Rattle.characters.proofs.AlgebraLaws.{centraliser_product_is}
 use Rattle.characters.proofs.CentraliserSums.{centraliser_sum_ext, mul_centraliser_sum, total_centraliser_sum, centraliser_sum_pick}
@@ -116,16 +117,13 @@ module _ {A G S : Type 0} (T : Setting A G) (C : Classes T.group) (X : Simples T
           let y : G = T.group.op (T.group.op c x) (T.group.inv c) in
           pick_both T.ring (equals T.finite y a) (equals T.finite x a) _ _
           (same_test (equals T.finite y a) (equals T.finite x a)
-          (λ e. equals_of T.finite x a (sym (carried_back c x) ∙ ap (λ z. conj T.group z c) (equals_true T.finite y a e) ∙ conj_of_commuting T.group a c (sym p)))
+          (λ e. equals_of T.finite x a (sym (carried_back T.group c x) ∙ ap (λ z. conj T.group z c) (equals_true T.finite y a e) ∙ conj_of_commuting T.group a c (sym p)))
           (λ e. equals_of T.finite y a (ap (λ z. T.group.op (T.group.op c z) (T.group.inv c)) (equals_true T.finite x a e) ∙ ap (λ u. T.group.op u (T.group.inv c)) p ∙ op_op_inv T.group c a)))
           (λ e. sym (T.ring.mul_one _
-          ∙ ap (conjugation_root T a c) (sym (carried_back c x) ∙ ap (λ z. conj T.group z c) (equals_true T.finite y a e) ∙ conj_of_commuting T.group a c (sym p))
+          ∙ ap (conjugation_root T a c) (sym (carried_back T.group c x) ∙ ap (λ z. conj T.group z c) (equals_true T.finite y a e) ∙ conj_of_commuting T.group a c (sym p))
           ∙ conjugation_root_of_itself c p))
           ∙ sym (mul_pick T.ring (equals T.finite x a) (conjugation_root T a c x) T.ring.one);
     }
-      where
-        carried_back : (c x : G) → conj T.group (T.group.op (T.group.op c x) (T.group.inv c)) c ≡ x
-        carried_back c x = simp (conj_is, group_rules, T.group)
 
     trace_of_itself : trace T C X l itself ≡ X.value l (X.at l)
     trace_of_itself =

@@ -6,7 +6,7 @@ use Rattle.algebra.specs.Totals.{Finite, equals, total}
 use Rattle.algebra.specs.Groups.{conj}
 use Rattle.algebra.proofs.RingLaws.{product_rules, one_mul, mul_nought, nought_mul, mul_left_comm}
 use Rattle.algebra.proofs.SumLaws.{pick_of, pick_off, pick_nought, pick_cong, pick_true, pick_false, mul_pick, pick_mul, pick_swap, multiple_mul}
-use Rattle.algebra.proofs.GroupLaws.{group_rules, conj_is, conj_one, conj_inv, conj_of_inv, conj_of_commuting, inv_op_op}
+use Rattle.algebra.proofs.GroupLaws.{group_rules, conj_one, conj_inv, conj_of_inv, conj_of_commuting, inv_op_op}
 use Rattle.algebra.proofs.TotalLaws.{total_ext, total_exchange, total_pick, total_reindex, total_nought, mul_total, total_mul, pick_total, equals_true, equals_of}
 use Rattle.characters.specs.Setting.{Setting, Classes, Commuting, commute}
 use Rattle.characters.specs.PhaseRoots.{slant_root, transport_root, conjugation_root}
@@ -15,6 +15,7 @@ use Rattle.characters.specs.Tables.{IsTorsionFree, group_order, centraliser_sum,
 use Rattle.characters.specs.FullCharacters.{in_class, full_character}
 use Rattle.characters.specs.SMatrix.{pair_term, s_sum, dimension}
 use Rattle.characters.specs.Fusion.{tensor_character, fusion_sum}
+use Rattle.characters.proofs.ClassLaws.{carried_back}
 use Rattle.characters.proofs.SettingLaws.{commute_of, commute_true, commuting_conj, commute_conj, commuting_product, inverse_unique, conjugation_root_bar, transport_roots_inverse, transport_root_along_one, coproduct_root_is_slant, equals_symmetric, conjugation_root_unit}
 use Rattle.characters.proofs.PairLaws.{pair_sum_is, pair_sum_ext, bar_pair_sum}
 use Rattle.characters.proofs.AlgebraLaws.{centraliser_product_is}
@@ -290,7 +291,7 @@ module _ {A G S : Type 0} (T : Setting A G) (C : Classes T.group) (X : Simples T
         let a : G = X.at l in
         let y : G = T.group.op (T.group.op c x) (T.group.inv c) in
         let commuting_y : Commuting T y a = conjugate_commutes a c x p q in
-        let back : conj T.group y c ≡ x = simp (conj_is, group_rules, T.group) in
+        let back : conj T.group y c ≡ x = carried_back T.group c x in
         let fixed : conj T.group a c ≡ a = conj_of_commuting T.group a c (sym p) in
         let inverse : transport_root T y a c ≡ conjugation_root T a c x =
         inverse_unique T (transport_root T a y c) _ _ (transport_roots_inverse T a y c (sym commuting_y))
