@@ -1,14 +1,16 @@
 -- The sum of S: its terms at conjugate pairs, its symmetry, and its row at the vacuum.
-use Rattle.std.proofs.Common.{◌≡◌, Bool, true, false, refl, sym, ◌∙◌, ap, subst}
+use Rattle.std.proofs.Common.{◌≡◌, Bool, true, false, refl, sym, ◌∙◌, ap, subst, ◌*◌}
 use mathlib.Core.Path.{ap₂}
 use Rattle.algebra.specs.Sums.{pick, multiple}
-use Rattle.algebra.specs.Totals.{equals, total}
+use Rattle.algebra.specs.Totals.{equals, total, Finite}
 use Rattle.algebra.specs.Groups.{conj}
 use Rattle.algebra.proofs.RingLaws.{one_mul, nought_mul}
-use Rattle.algebra.proofs.SumLaws.{pick_of, pick_off, pick_nought, pick_cong, pick_map, pick_true, pick_false, multiple_map}
+use Rattle.algebra.proofs.SumLaws.{pick_of, pick_off, pick_nought, pick_cong, pick_map, pick_true, pick_false, multiple_map, multiple_multiple}
 use Rattle.algebra.proofs.GroupLaws.{conj_inv, one_conj}
 use Rattle.algebra.proofs.InvolutionLaws.{bar_one, bar_nought}
-use Rattle.algebra.proofs.TotalLaws.{total_ext, total_exchange, total_pick, equals_true, equals_of}
+use Rattle.algebra.proofs.TotalLaws.{total_ext, total_exchange, total_pick, equals_true, equals_of, total_constant}
+use Rattle.characters.proofs.PartLaws.{total_places}
+use Rattle.characters.specs.Parts.{IsPart}
 use Rattle.characters.specs.Setting.{Setting, Classes, Commuting, commute}
 use Rattle.characters.specs.PhaseRoots.{transport_root}
 use Rattle.characters.specs.Simples.{Simples, IsVacuum}
@@ -118,3 +120,12 @@ module _ {A G S : Type 0} (T : Setting A G) (C : Classes T.group) (X : Simples T
               ap T.involution.bar (full_character_of_vacuum v V g h ∙ pick_off T.ring _ _ e) ∙ bar_nought T.ring T.involution in
               ap (pick T.ring (commute T g h)) (pair_term_is v j g h ∙ ap (λ z. T.ring.mul z (T.involution.bar (full_character T C X j h g))) first ∙ nought_mul T.ring _)
               ∙ pick_nought T.ring _ ∙ sym (pick_false T.ring _)
+
+-- the dimension as a whole number: the members of the class are numbered by places
+module _ {A G S K : Type 0} (T : Setting A G) (C : Classes T.group) (X : Simples T C S) (i : S) (E : Finite K) (member : K → G) (part : IsPart (in_class T C X i) member) where
+  pub dimension_of_class : dimension T C X i ≡ multiple T.ring (E.size * X.degree i) T.ring.one
+  dimension_of_class =
+      dimension_is T C X i
+      ∙ sym (total_places (in_class T C X i) member part T.ring T.finite E (λ g. X.value i T.group.one))
+      ∙ total_constant T.ring E (X.value i T.group.one)
+      ∙ ap (multiple T.ring E.size) (X.degree_is i) ∙ multiple_multiple T.ring E.size (X.degree i) T.ring.one
