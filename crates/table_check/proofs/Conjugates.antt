@@ -1,5 +1,5 @@
 -- Conjugates that are kept.
-use Rattle.std.proofs.Common.{◌≡◌, ◌<◌, ◌+◌, ◌&&◌, ℕ, Bool, true, false, Some, None, Option, List, [], ◌∷◌, ◌++◌, length, map, refl, ap, sym, ◌∙◌, zero-add, get_or}
+use Rattle.std.proofs.Common.{◌≡◌, ◌<◌, ◌+◌, ◌&&◌, ℕ, Bool, true, false, Some, None, List, [], ◌∷◌, ◌++◌, length, map, refl, ap, sym, ◌∙◌, zero-add, get_or}
 use Rattle.std.specs.List.{range_with_len}
 use Rattle.std.specs.Global.{Vec}
 use Rattle.std.proofs.lemmas.List.{map-append, length-map}
@@ -8,7 +8,7 @@ use Rattle.std.proofs.Math.ListN.{get_or-map}
 use mathlib.Core.Path.{ap₂}
 use Rattle.scan.proofs.Places.{first_none-at, and_true}
 use Rattle.scan.specs.First.{first}
-use Rattle.cyclotomic.specs.CyclotomicRing.{CyclotomicValue, cyclotomic_value, conjugate}
+use Rattle.cyclotomic.specs.CyclotomicRing.{cyclotomic_value, conjugate}
 use Rattle.cyclotomic.specs.Fit.{value_fits}
 use Rattle.qd_ring.specs.ArrayLaws.{array_fits}
 use Rattle.qd_ring.specs.declared.cyc.Cyc.{Cyc}
@@ -16,7 +16,7 @@ use Rattle.twisted.specs.Twist.{TwistedSubgroup, size}
 use Rattle.table_check.specs.Characters.{Characters, RowsOver, characters_of}
 use Rattle.table_check.specs.Check.{is_same, agree, unless_holds, unitary_at, unitary_miss}
 use Rattle.table_check.specs.Conjugates.{values_of, conjugate_row, conjugate_rows, AreConjugates}
-use Rattle.table_check.specs.Formed.{Formed, Forms}
+use Rattle.table_check.specs.Formed.{Forms}
 use Rattle.table_check.specs.Sides.{conjugate_value, unitary_left, unitary_right}
 use Rattle.table_check.specs.declared.miss.Clause.{Clause}
 use Rattle.table_check.specs.declared.miss.Clause.TheVariants.{Unitary}

@@ -1,7 +1,7 @@
 -- What is missed, where something is.
-use Rattle.std.proofs.Common.{◌≡◌, ◌<◌, ◌&&◌, ℕ, Bool, true, false, Option, Some, None, refl, ap, sym, ◌∙◌, subst, unwrap_or}
-use Rattle.scan.specs.First.{first, option_or}
-use Rattle.scan.proofs.Places.{IsFirst, first_some}
+use Rattle.std.proofs.Common.{◌≡◌, ◌<◌, ℕ, Bool, true, false, Some, ap, sym, ◌∙◌, subst, unwrap_or}
+use Rattle.scan.specs.First.{first}
+use Rattle.scan.proofs.Places.{first_some}
 use Rattle.group_table.specs.Group.{identity_of}
 use Rattle.twisted.specs.Twist.{TwistedSubgroup, size}
 use Rattle.table_check.specs.Characters.{Characters}
@@ -29,9 +29,11 @@ module _ {k : ℕ} (s : TwistedSubgroup) (table : Characters k) (miss : Miss) wh
   unitary_found found =
       let row = first_some table.count (λ i. first (size s) (unitary_at s table i)) miss found in
       let place = first_some (size s) (unitary_at s table row.place) miss row.here in
-      let same = unless_some _ Unitary row.place 0 place.place miss place.here in
-      (subst (λ i. i < table.count) (ap (λ m. m.i) same) row.below, subst (λ x. x < size s) (ap (λ m. m.x) same) place.below,
-      ap (λ m. at Unitary m.i 0 m.x) (sym same) ∙ same)
+      let same = unless_some _ Unitary row.place 0 place.place miss place.here in (
+        subst (λ i. i < table.count) (ap (λ m. m.i) same) row.below,
+        subst (λ x. x < size s) (ap (λ m. m.x) same) place.below,
+        ap (λ m. at Unitary m.i 0 m.x) (sym same) ∙ same,
+      )
 
   pub twist_found : twist_miss s table ≡ Some miss → (miss.i < table.count) × (at Twist miss.i 0 0 ≡ miss)
   twist_found found =
@@ -44,18 +46,24 @@ module _ {k : ℕ} (s : TwistedSubgroup) (table : Characters k) (miss : Miss) wh
       let row = first_some table.count (λ i. first (size s) (λ y. first (size s) (central_at s table i y))) miss found in
       let column = first_some (size s) (λ y. first (size s) (central_at s table row.place y)) miss row.here in
       let place = first_some (size s) (central_at s table row.place column.place) miss column.here in
-      let same = unless_some _ Central row.place column.place place.place miss place.here in
-      (subst (λ i. i < table.count) (ap (λ m. m.i) same) row.below, subst (λ y. y < size s) (ap (λ m. m.j) same) column.below,
-      subst (λ x. x < size s) (ap (λ m. m.x) same) place.below, ap (λ m. at Central m.i m.j m.x) (sym same) ∙ same)
+      let same = unless_some _ Central row.place column.place place.place miss place.here in (
+        subst (λ i. i < table.count) (ap (λ m. m.i) same) row.below,
+        subst (λ y. y < size s) (ap (λ m. m.j) same) column.below,
+        subst (λ x. x < size s) (ap (λ m. m.x) same) place.below,
+        ap (λ m. at Central m.i m.j m.x) (sym same) ∙ same,
+      )
 
   pub product_found : product_miss s table ≡ Some miss → (miss.i < table.count) × (miss.j < table.count) × (miss.x < size s) × (at Product miss.i miss.j miss.x ≡ miss)
   product_found found =
       let row = first_some table.count (λ i. first table.count (λ j. first (size s) (product_at s table i j))) miss found in
       let other = first_some table.count (λ j. first (size s) (product_at s table row.place j)) miss row.here in
       let place = first_some (size s) (product_at s table row.place other.place) miss other.here in
-      let same = unless_some _ Product row.place other.place place.place miss place.here in
-      (subst (λ i. i < table.count) (ap (λ m. m.i) same) row.below, subst (λ j. j < table.count) (ap (λ m. m.j) same) other.below,
-      subst (λ x. x < size s) (ap (λ m. m.x) same) place.below, ap (λ m. at Product m.i m.j m.x) (sym same) ∙ same)
+      let same = unless_some _ Product row.place other.place place.place miss place.here in (
+        subst (λ i. i < table.count) (ap (λ m. m.i) same) row.below,
+        subst (λ j. j < table.count) (ap (λ m. m.j) same) other.below,
+        subst (λ x. x < size s) (ap (λ m. m.x) same) place.below,
+        ap (λ m. at Product m.i m.j m.x) (sym same) ∙ same,
+      )
 
   pub sum_found : sum_miss s table ≡ Some miss → (miss.x < size s) × (at Sum 0 0 miss.x ≡ miss)
   sum_found found =

@@ -1,5 +1,5 @@
 -- Values are the same exactly where their coefficients are.
-use Rattle.std.proofs.Common.{◌≡◌, ℕ, true, refl, ap, length}
+use Rattle.std.proofs.Common.{◌≡◌, ℕ, refl, ap}
 use Rattle.std.specs.Prelude.{Decides}
 use Rattle.std.proofs.lemmas.Bool.Decides.{Decides-int_eq}
 use Rattle.std.proofs.lemmas.Slice.Eq.{slice_eq-Decides}

@@ -1,19 +1,18 @@
 -- Steps of adding up a listed sum.
-use Rattle.std.proofs.Common.{◌≡◌, ◌+◌, ◌<◌, ◌≤◌, ℕ, Bool, true, false, not, ◌||◌, Option, Some, None, List, [], ◌∷◌, ◌++◌, map, take, drop, refl, sym, ◌∙◌, ap, subst, arith, zero-add, nat_lt}
-use Rattle.std.specs.Prelude.{IfSome, is_some, sum_by}
+use Rattle.std.proofs.Common.{◌≡◌, ◌+◌, ◌<◌, ◌≤◌, ℕ, Bool, true, false, not, ◌||◌, Some, None, ◌++◌, map, drop, refl, sym, ◌∙◌, ap, arith, zero-add, nat_lt}
+use Rattle.std.specs.Prelude.{sum_by}
 use Rattle.std.specs.List.{range_with_len}
-use Rattle.std.proofs.lemmas.Bool.{false≢true, or_right, ltb-false, le-ltb, lt-ltb}
+use Rattle.std.proofs.lemmas.Bool.{or_right, ltb-false, le-ltb}
 use Rattle.std.proofs.lemmas.List.{take-append-drop}
 use Rattle.std.proofs.lemmas.List.FromFn.{take-map-range_with_len, sum_by-map-range_with_len_more}
 use mathlib.Core.Path.{ap₂}
 use Rattle.scan.specs.First.{all_below}
 use Rattle.scan.proofs.Places.{all_below-zero, all_below-step}
-use Rattle.algebra.specs.Sums.{sum_below}
 use Rattle.algebra.proofs.SumLaws.{sum_zero}
 use Rattle.cyclotomic.specs.Ring.{value_sum, value_nought}
 use Rattle.cyclotomic.specs.CyclotomicRing.{CyclotomicValue, cyclotomic_ring, cyclotomic_value}
 use Rattle.cyclotomic.specs.Fit.{value_size, value_fits, greatest_magnitude, sizes_overflow}
-use Rattle.cyclotomic.proofs.Bounds.{sizes_overflow-front, sizes_overflow-sum_fits}
+use Rattle.cyclotomic.proofs.Bounds.{sizes_overflow-front}
 use Rattle.qd_ring.specs.Fit.{sum_overflows}
 use Rattle.qd_ring.specs.CyclotomicFit.{cyclotomic_fit}
 use Rattle.qd_ring.specs.declared.cyc.Cyc.{Cyc}

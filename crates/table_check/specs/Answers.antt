@@ -1,19 +1,16 @@
 -- What the check of a table answers.
-use Rattle.std.specs.Prelude.{◌≡◌, ℕ, ◌+◌, ◌*◌, ◌<◌, ◌%◌, suc, nat_le, nat_lt, ◌&&◌, ℤ, true, false, List, length, Option, Result, Ok, Err, None, Some, unwrap_or, Bool, if◌then◌else◌}
+use Rattle.std.specs.Prelude.{◌≡◌, ℕ, ◌+◌, ◌*◌, suc, nat_le, nat_lt, ◌&&◌, ℤ, true, false, List, Option, Result, Ok, Err, None, Some, unwrap_or, Bool, if◌then◌else◌}
 use Rattle.scan.specs.First.{first}
 use Rattle.cyclotomic.specs.Ring.{value_nought}
 use Rattle.cyclotomic.specs.CyclotomicRing.{cyclotomic_value}
-use Rattle.cyclotomic.specs.Conductors.{is_conductor}
-use Rattle.qd_ring.specs.RowLists.{row_at}
 use Rattle.qd_ring.specs.declared.site.Site.{Site}
 use Rattle.qd_ring.specs.declared.site.Part.{Part}
 use Rattle.qd_ring.specs.declared.site.Part.TheVariants as parts
-use Rattle.twisted.specs.Twist.{TwistedSubgroup, size, element, IsTwist}
+use Rattle.twisted.specs.Twist.{TwistedSubgroup, size, element}
 use Rattle.twisted.specs.Regular.{rank}
 use Rattle.table_check.specs.Characters.{Characters, RowsOver, characters_of}
 use Rattle.table_check.specs.Formed.{Formed, given, whole}
 use Rattle.table_check.specs.Sides.{degree_value, unitary_left, unitary_right, twist_left, central_left, central_right, product_left, product_right, sum_left, sum_right, column_left, column_right}
-use Rattle.table_check.specs.Good.{IsGood}
 use Rattle.table_check.specs.Check.{where_holds, twists_fit, table_miss}
 use Rattle.table_check.specs.declared.identity_name.IdentityName.{IdentityName}
 use Rattle.table_check.specs.declared.identity_name.IdentityName.TheVariants as names

@@ -1,6 +1,6 @@
 -- The first place at which a table of characters misses what is asked: where a side overflows, or the clause fails. The clauses are the
 -- slowest, then rows, then places, each in ascending order, and at a place both sides are formed before they are compared.
-use Rattle.std.specs.Prelude.{ℕ, suc, ◌*◌, nat_le, Bool, true, false, not, ◌==◌, ◌&&◌, Option, Some, None, is_some, if◌then◌else◌}
+use Rattle.std.specs.Prelude.{ℕ, suc, ◌*◌, nat_le, Bool, ◌==◌, ◌&&◌, Option, Some, None, is_some, if◌then◌else◌}
 use Rattle.std.specs.Ordering.{int_eq}
 use lib.Pointwise.{pointwise}
 use Rattle.scan.specs.First.{first, option_or, all_below}

@@ -10,7 +10,7 @@ use Rattle.twisted.specs.Twist.{TwistedSubgroup, size, element}
 use Rattle.twisted.specs.Regular.{rank}
 use Rattle.table_check.specs.Characters.{Characters}
 use Rattle.table_check.specs.Formed.{whole}
-use Rattle.table_check.specs.Sides.{own_place, unitary_left, unitary_right, twist_left, twist_right, central_left, central_right, product_left, product_right, sum_left, sum_right, column_left, column_right}
+use Rattle.table_check.specs.Sides.{unitary_left, unitary_right, twist_left, twist_right, central_left, central_right, product_left, product_right, sum_left, sum_right, column_left, column_right}
 
 -- a value is a whole number from 1 on, whose square is at most m
 pub record IsDegree (k m : ℕ) (value : CyclotomicValue k) : Type 0 where

@@ -3,6 +3,7 @@ pub mod Formed
 pub mod Totals
 pub mod Sides
 pub mod Good
+pub mod Idempotents
 pub mod Conjugates
 pub mod Check
 pub mod Answers

@@ -4,7 +4,6 @@ use Rattle.std.specs.Prelude.{ℕ, ◌==◌, if◌then◌else◌, unwrap_or}
 use Rattle.group_table.specs.Group.{product, inverse, identity_of}
 use Rattle.classes.specs.Conjugacy.{conjugate}
 use Rattle.cyclotomic.specs.CyclotomicRing.{root}
-use Rattle.cyclotomic.specs.Ring.{value_nought}
 use Rattle.twisted.specs.Twist.{TwistedSubgroup, size, phase, place_of}
 use Rattle.twisted.specs.Regular.{kappa}
 use Rattle.twisted.specs.Algebra.{left_quotient, exponent}

@@ -35,12 +35,13 @@ fn central_column<const K: u32>(table: &Conjugated<K>, i: u32, y: u32) -> Option
     ensures miss { result ≡ first (size table.now.over) (central_at table.now.over (characters_of K table.now.rows) i y) }
 {
     let places = table.candidate().over().size();
-    first_below(places, |x| -> Option<Miss>
-        requires { (i < length table.now.rows) × (y < size table.now.over) × (x < size table.now.over) }
-        ensures { result ≡ central_at table.entry.now.over (characters_of K table.entry.now.rows) i y x }
-    {
-        central_at(table, i, y, x)
-    })
+    first_below(
+        places,
+        |x| -> Option<Miss>
+            requires { (i < length table.now.rows) × (y < size table.now.over) × (x < size table.now.over) }
+            ensures { result ≡ central_at table.entry.now.over (characters_of K table.entry.now.rows) i y x }
+        { central_at(table, i, y, x) },
+    )
 }
 
 /// The clause on central elements, for one row.
@@ -49,12 +50,13 @@ fn central_row<const K: u32>(table: &Conjugated<K>, i: u32) -> Option<Miss>
     ensures miss { result ≡ first (size table.now.over) (λ y. first (size table.now.over) (central_at table.now.over (characters_of K table.now.rows) i y)) }
 {
     let places = table.candidate().over().size();
-    first_below(places, |y| -> Option<Miss>
-        requires { (i < length table.now.rows) × (y < size table.now.over) }
-        ensures { result ≡ first (size table.entry.now.over) (central_at table.entry.now.over (characters_of K table.entry.now.rows) i y) }
-    {
-        central_column(table, i, y)
-    })
+    first_below(
+        places,
+        |y| -> Option<Miss>
+            requires { (i < length table.now.rows) × (y < size table.now.over) }
+            ensures { result ≡ first (size table.entry.now.over) (central_at table.entry.now.over (characters_of K table.entry.now.rows) i y) }
+        { central_column(table, i, y) },
+    )
 }
 
 /// The clause on central elements.
@@ -62,12 +64,13 @@ pub fn central_miss<const K: u32>(table: &Conjugated<K>) -> Option<Miss>
     ensures miss { result ≡ central_miss table.now.over (characters_of K table.now.rows) }
 {
     let rows = table.candidate().rows();
-    first_below(rows, |i| -> Option<Miss>
-        requires { i < length table.now.rows }
-        ensures { result ≡ first (size table.entry.now.over) (λ y. first (size table.entry.now.over) (central_at table.entry.now.over (characters_of K table.entry.now.rows) i y)) }
-    {
-        central_row(table, i)
-    })
+    first_below(
+        rows,
+        |i| -> Option<Miss>
+            requires { i < length table.now.rows }
+            ensures { result ≡ first (size table.entry.now.over) (λ y. first (size table.entry.now.over) (central_at table.entry.now.over (characters_of K table.entry.now.rows) i y)) }
+        { central_row(table, i) },
+    )
 }
 
 /// The clause on products at one place.
@@ -89,12 +92,13 @@ fn product_pair<const K: u32>(table: &Conjugated<K>, i: u32, j: u32) -> Option<M
     ensures miss { result ≡ first (size table.now.over) (product_at table.now.over (characters_of K table.now.rows) i j) }
 {
     let places = table.candidate().over().size();
-    first_below(places, |x| -> Option<Miss>
-        requires { (i < length table.now.rows) × (j < length table.now.rows) × (x < size table.now.over) }
-        ensures { result ≡ product_at table.entry.now.over (characters_of K table.entry.now.rows) i j x }
-    {
-        product_at(table, i, j, x)
-    })
+    first_below(
+        places,
+        |x| -> Option<Miss>
+            requires { (i < length table.now.rows) × (j < length table.now.rows) × (x < size table.now.over) }
+            ensures { result ≡ product_at table.entry.now.over (characters_of K table.entry.now.rows) i j x }
+        { product_at(table, i, j, x) },
+    )
 }
 
 /// The clause on products, for the first of two rows.
@@ -103,12 +107,13 @@ fn product_row<const K: u32>(table: &Conjugated<K>, i: u32) -> Option<Miss>
     ensures miss { result ≡ first (length table.now.rows) (λ j. first (size table.now.over) (product_at table.now.over (characters_of K table.now.rows) i j)) }
 {
     let rows = table.candidate().rows();
-    first_below(rows, |j| -> Option<Miss>
-        requires { (i < length table.now.rows) × (j < length table.now.rows) }
-        ensures { result ≡ first (size table.entry.now.over) (product_at table.entry.now.over (characters_of K table.entry.now.rows) i j) }
-    {
-        product_pair(table, i, j)
-    })
+    first_below(
+        rows,
+        |j| -> Option<Miss>
+            requires { (i < length table.now.rows) × (j < length table.now.rows) }
+            ensures { result ≡ first (size table.entry.now.over) (product_at table.entry.now.over (characters_of K table.entry.now.rows) i j) }
+        { product_pair(table, i, j) },
+    )
 }
 
 /// The clause on products.
@@ -116,12 +121,13 @@ pub fn product_miss<const K: u32>(table: &Conjugated<K>) -> Option<Miss>
     ensures miss { result ≡ product_miss table.now.over (characters_of K table.now.rows) }
 {
     let rows = table.candidate().rows();
-    first_below(rows, |i| -> Option<Miss>
-        requires { i < length table.now.rows }
-        ensures { result ≡ first (length table.entry.now.rows) (λ j. first (size table.entry.now.over) (product_at table.entry.now.over (characters_of K table.entry.now.rows) i j)) }
-    {
-        product_row(table, i)
-    })
+    first_below(
+        rows,
+        |i| -> Option<Miss>
+            requires { i < length table.now.rows }
+            ensures { result ≡ first (length table.entry.now.rows) (λ j. first (size table.entry.now.over) (product_at table.entry.now.over (characters_of K table.entry.now.rows) i j)) }
+        { product_row(table, i) },
+    )
 }
 
 /// The clause on the sum at one place.
@@ -139,12 +145,13 @@ pub fn sum_miss<const K: u32>(table: &Conjugated<K>) -> Option<Miss>
     ensures miss { result ≡ sum_miss table.now.over (characters_of K table.now.rows) }
 {
     let places = table.candidate().over().size();
-    first_below(places, |x| -> Option<Miss>
-        requires { x < size table.now.over }
-        ensures { result ≡ sum_at table.entry.now.over (characters_of K table.entry.now.rows) x }
-    {
-        sum_at(table, x)
-    })
+    first_below(
+        places,
+        |x| -> Option<Miss>
+            requires { x < size table.now.over }
+            ensures { result ≡ sum_at table.entry.now.over (characters_of K table.entry.now.rows) x }
+        { sum_at(table, x) },
+    )
 }
 
 /// The clause on columns at one pair of places.
@@ -164,12 +171,13 @@ fn column_row<const K: u32>(table: &Conjugated<K>, x: u32) -> Option<Miss>
     ensures miss { result ≡ first (size table.now.over) (column_at table.now.over (characters_of K table.now.rows) x) }
 {
     let places = table.candidate().over().size();
-    first_below(places, |y| -> Option<Miss>
-        requires { (x < size table.now.over) × (y < size table.now.over) }
-        ensures { result ≡ column_at table.entry.now.over (characters_of K table.entry.now.rows) x y }
-    {
-        column_at(table, x, y)
-    })
+    first_below(
+        places,
+        |y| -> Option<Miss>
+            requires { (x < size table.now.over) × (y < size table.now.over) }
+            ensures { result ≡ column_at table.entry.now.over (characters_of K table.entry.now.rows) x y }
+        { column_at(table, x, y) },
+    )
 }
 
 /// The clause on columns.
@@ -177,10 +185,11 @@ pub fn column_miss<const K: u32>(table: &Conjugated<K>) -> Option<Miss>
     ensures miss { result ≡ column_miss table.now.over (characters_of K table.now.rows) }
 {
     let places = table.candidate().over().size();
-    first_below(places, |x| -> Option<Miss>
-        requires { x < size table.now.over }
-        ensures { result ≡ first (size table.entry.now.over) (column_at table.entry.now.over (characters_of K table.entry.now.rows) x) }
-    {
-        column_row(table, x)
-    })
+    first_below(
+        places,
+        |x| -> Option<Miss>
+            requires { x < size table.now.over }
+            ensures { result ≡ first (size table.entry.now.over) (column_at table.entry.now.over (characters_of K table.entry.now.rows) x) }
+        { column_row(table, x) },
+    )
 }

@@ -31,7 +31,11 @@ impl<const K: u32> Model for Conjugated<K> {
 }
 
 /// The conjugates of row `i`.
-fn conjugate_row<const K: u32>(alloc: Global, table: &Candidate<K>, i: u32) -> Result<Vec<Cyc<K>>, Memory>
+fn conjugate_row<const K: u32>(
+    alloc: Global,
+    table: &Candidate<K>,
+    i: u32,
+) -> Result<Vec<Cyc<K>>, Memory>
     requires i_below { i < length table.now.rows }
     requires unitary { unitary_miss table.now.over (characters_of K table.now.rows) ≡ None }
     ensures row { IfOk result (λ row. values_of K row.items ≡ conjugate_row (size table.now.over) (characters_of K table.now.rows) i) }

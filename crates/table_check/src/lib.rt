@@ -1,20 +1,29 @@
 //! The check of a table of projective characters of a twisted centraliser.
 #![tactic(auto)]
 
-mod candidate;
+ghost use Rattle.table_check.specs.Idempotents.{GoodTablesGiveIdempotents};
+
 mod algebra_clauses;
+mod candidate;
 mod compared;
 mod conjugated;
 mod identity_name;
-
 mod miss;
 mod refusal;
 mod refusals;
 mod row_clauses;
 mod sides;
 mod table;
+#[cfg(test)]
+mod tests;
 mod total;
 
 pub use identity_name::IdentityName;
 pub use refusal::TableRefusal;
 pub use table::Table;
+
+/// The elements of the conjugates of a good table's rows are, up to whole factors, orthogonal central idempotents of the twisted group
+/// algebra that add up to one; there are as many as the rank of its centre.
+pub fn idempotent_laws()
+    ensures idempotents { GoodTablesGiveIdempotents }
+{}

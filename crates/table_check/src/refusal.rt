@@ -8,9 +8,14 @@ use qd_ring::{Cyc, Site};
 #[derive(Clone, Copy, Debug, PartialEq, Eq)]
 pub enum TableRefusal<const K: u32> {
     /// A side overflows at this place.
-    Overflow { site: Site },
+    Overflow {
+        site: Site,
+    },
     /// The rows are not as many as the rank.
-    Count { rows: u32, rank: u32 },
+    Count {
+        rows: u32,
+        rank: u32,
+    },
     /// An equation fails. The second number `j` is a row, or the element y; `x` is an element; a number that the clause does not
     /// name is 0.
     Identity {
@@ -22,9 +27,14 @@ pub enum TableRefusal<const K: u32> {
         right: Cyc<K>,
     },
     /// The value of this row at the centraliser's own element is no root multiple of its degree.
-    NoTwist { row: u32, value: Cyc<K> },
+    NoTwist {
+        row: u32,
+        value: Cyc<K>,
+    },
     /// No row has only the value 1, though the centraliser is that of the identity.
-    NoVacuum { rows: u32 },
+    NoVacuum {
+        rows: u32,
+    },
     /// There was no memory. It says nothing of the table.
     Memory,
 }

@@ -31,16 +31,19 @@ fn square_root(n: u32) -> u32
     requires small { n ≤ 60 }
     ensures root { result ≡ square_root n }
 {
-    let root = first_below(n + 1, |d| -> Option<u32>
-        requires { (d < suc n) × (n ≤ 60) }
-        ensures { result ≡ where_holds (nat_le (d * d) n && nat_lt n ((d + 1) * (d + 1))) d }
-    {
-        if d * d <= n && n < (d + 1) * (d + 1) {
-            Some(d)
-        } else {
-            None
-        }
-    });
+    let root = first_below(
+        n + 1,
+        |d| -> Option<u32>
+            requires { (d < suc n) × (n ≤ 60) }
+            ensures { result ≡ where_holds (nat_le (d * d) n && nat_lt n ((d + 1) * (d + 1))) d }
+        {
+            if d * d <= n && n < (d + 1) * (d + 1) {
+                Some(d)
+            } else {
+                None
+            }
+        },
+    );
     root.unwrap_or(0)
 }
 
@@ -303,9 +306,7 @@ fn vacuum_refusal<const K: u32>(table: &Candidate<K>) -> Option<TableRefusal<K>>
     ensures finds { Finds table.now.over (characters_of K table.now.rows) (vacuum_miss table.now.over (characters_of K table.now.rows)) result }
 {
     match vacuum_miss(table) {
-        Some(_) => Some(TableRefusal::NoVacuum {
-            rows: table.rows(),
-        }),
+        Some(_) => Some(TableRefusal::NoVacuum { rows: table.rows() }),
         None => None,
     }
 }

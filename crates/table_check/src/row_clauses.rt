@@ -32,16 +32,19 @@ pub fn degree_of<const K: u32>(order: u32, value: &Cyc<K>) -> Option<u32>
     requires small { order ≤ 60 }
     ensures degree { result ≡ degree_of K order (cyclotomic_value K value.now.coefficients) }
 {
-    first_below(order + 1, |d| -> Option<u32>
-        requires { (d < suc order) × (order ≤ 60) }
-        ensures { result ≡ where_holds ((nat_le 1 d && nat_le (d * d) order) && is_same (cyclotomic_value K value.entry.now.coefficients) (whole K d)) d }
-    {
-        if d >= 1 && d * d <= order && is_same(value, &Cyc::whole(i128::from(d))) {
-            Some(d)
-        } else {
-            None
-        }
-    })
+    first_below(
+        order + 1,
+        |d| -> Option<u32>
+            requires { (d < suc order) × (order ≤ 60) }
+            ensures { result ≡ where_holds ((nat_le 1 d && nat_le (d * d) order) && is_same (cyclotomic_value K value.entry.now.coefficients) (whole K d)) d }
+        {
+            if d >= 1 && d * d <= order && is_same(value, &Cyc::whole(i128::from(d))) {
+                Some(d)
+            } else {
+                None
+            }
+        },
+    )
 }
 
 /// The clause on degrees, for one row.
@@ -51,7 +54,13 @@ fn degree_at<const K: u32>(table: &Candidate<K>, i: u32) -> Option<Miss>
 {
     let twist = table.over();
     let degree = degree_of(twist.size(), &degree(table, i));
-    unless_holds(degree.is_some(), Clause::Degree, i, 0, twist.group().identity())
+    unless_holds(
+        degree.is_some(),
+        Clause::Degree,
+        i,
+        0,
+        twist.group().identity(),
+    )
 }
 
 /// The clause on degrees.
@@ -59,12 +68,13 @@ pub fn degree_miss<const K: u32>(table: &Candidate<K>) -> Option<Miss>
     ensures miss { result ≡ degree_miss table.now.over (characters_of K table.now.rows) }
 {
     let rows = table.rows();
-    first_below(rows, |i| -> Option<Miss>
-        requires { i < length table.now.rows }
-        ensures { result ≡ degree_at table.entry.now.over (characters_of K table.entry.now.rows) i }
-    {
-        degree_at(table, i)
-    })
+    first_below(
+        rows,
+        |i| -> Option<Miss>
+            requires { i < length table.now.rows }
+            ensures { result ≡ degree_at table.entry.now.over (characters_of K table.entry.now.rows) i }
+        { degree_at(table, i) },
+    )
 }
 
 /// The clause on inverses at one place.
@@ -84,12 +94,13 @@ fn unitary_row<const K: u32>(table: &Candidate<K>, i: u32) -> Option<Miss>
     ensures miss { result ≡ first (size table.now.over) (unitary_at table.now.over (characters_of K table.now.rows) i) }
 {
     let places = table.over().size();
-    first_below(places, |x| -> Option<Miss>
-        requires { (i < length table.now.rows) × (x < size table.now.over) }
-        ensures { result ≡ unitary_at table.entry.now.over (characters_of K table.entry.now.rows) i x }
-    {
-        unitary_at(table, i, x)
-    })
+    first_below(
+        places,
+        |x| -> Option<Miss>
+            requires { (i < length table.now.rows) × (x < size table.now.over) }
+            ensures { result ≡ unitary_at table.entry.now.over (characters_of K table.entry.now.rows) i x }
+        { unitary_at(table, i, x) },
+    )
 }
 
 /// The clause on inverses.
@@ -97,12 +108,13 @@ pub fn unitary_miss<const K: u32>(table: &Candidate<K>) -> Option<Miss>
     ensures miss { result ≡ unitary_miss table.now.over (characters_of K table.now.rows) }
 {
     let rows = table.rows();
-    first_below(rows, |i| -> Option<Miss>
-        requires { i < length table.now.rows }
-        ensures { result ≡ first (size table.entry.now.over) (unitary_at table.entry.now.over (characters_of K table.entry.now.rows) i) }
-    {
-        unitary_row(table, i)
-    })
+    first_below(
+        rows,
+        |i| -> Option<Miss>
+            requires { i < length table.now.rows }
+            ensures { result ≡ first (size table.entry.now.over) (unitary_at table.entry.now.over (characters_of K table.entry.now.rows) i) }
+        { unitary_row(table, i) },
+    )
 }
 
 /// Whether no multiple of the degree of row `i` by a root overflows.
@@ -110,12 +122,13 @@ pub fn twists_fit<const K: u32>(table: &Candidate<K>, i: u32) -> bool
     requires i_below { i < length table.now.rows }
     ensures fit { result ≡ twists_fit table.now.over (characters_of K table.now.rows) i }
 {
-    holds_below(K, |t| -> bool
-        requires { (i < length table.now.rows) × (t < K) }
-        ensures { result ≡ (twist_right table.entry.now.over (characters_of K table.entry.now.rows) i t).fits }
-    {
-        twist_right(table, i, t).is_some()
-    })
+    holds_below(
+        K,
+        |t| -> bool
+            requires { (i < length table.now.rows) × (t < K) }
+            ensures { result ≡ (twist_right table.entry.now.over (characters_of K table.entry.now.rows) i t).fits }
+        { twist_right(table, i, t).is_some() },
+    )
 }
 
 /// Whether the own value of row `i` is its degree times the root with exponent `t`.
@@ -137,12 +150,13 @@ pub fn twist_of<const K: u32>(table: &Candidate<K>, i: u32) -> Option<u32>
     requires fit { twists_fit table.now.over (characters_of K table.now.rows) i ≡ true }
     ensures twist { result ≡ twist_of table.now.over (characters_of K table.now.rows) i }
 {
-    first_below(K, |t| -> Option<u32>
-        requires { (i < length table.now.rows) × (t < K) × (twists_fit table.now.over (characters_of K table.now.rows) i ≡ true) }
-        ensures { result ≡ where_holds (is_same (twist_left table.entry.now.over (characters_of K table.entry.now.rows) i).value (twist_right table.entry.now.over (characters_of K table.entry.now.rows) i t).value) t }
-    {
-        if is_twist(table, i, t) { Some(t) } else { None }
-    })
+    first_below(
+        K,
+        |t| -> Option<u32>
+            requires { (i < length table.now.rows) × (t < K) × (twists_fit table.now.over (characters_of K table.now.rows) i ≡ true) }
+            ensures { result ≡ where_holds (is_same (twist_left table.entry.now.over (characters_of K table.entry.now.rows) i).value (twist_right table.entry.now.over (characters_of K table.entry.now.rows) i t).value) t }
+        { if is_twist(table, i, t) { Some(t) } else { None } },
+    )
 }
 
 /// The clause on twists, for one row.
@@ -159,12 +173,13 @@ pub fn twist_miss<const K: u32>(table: &Candidate<K>) -> Option<Miss>
     ensures miss { result ≡ twist_miss table.now.over (characters_of K table.now.rows) }
 {
     let rows = table.rows();
-    first_below(rows, |i| -> Option<Miss>
-        requires { i < length table.now.rows }
-        ensures { result ≡ twist_at table.entry.now.over (characters_of K table.entry.now.rows) i }
-    {
-        twist_at(table, i)
-    })
+    first_below(
+        rows,
+        |i| -> Option<Miss>
+            requires { i < length table.now.rows }
+            ensures { result ≡ twist_at table.entry.now.over (characters_of K table.entry.now.rows) i }
+        { twist_at(table, i) },
+    )
 }
 
 /// Whether row `i` has only the value 1.
@@ -173,12 +188,13 @@ fn is_vacuum<const K: u32>(table: &Candidate<K>, i: u32) -> bool
     ensures vacuum { result ≡ is_vacuum table.now.over (characters_of K table.now.rows) i }
 {
     let places = table.over().size();
-    holds_below(places, |x| -> bool
-        requires { (i < length table.now.rows) × (x < size table.now.over) }
-        ensures { result ≡ is_same ((characters_of K table.entry.now.rows).chi i x) (value_one (cyclotomic K)) }
-    {
-        is_same(&table.value(i, x), &Cyc::one())
-    })
+    holds_below(
+        places,
+        |x| -> bool
+            requires { (i < length table.now.rows) × (x < size table.now.over) }
+            ensures { result ≡ is_same ((characters_of K table.entry.now.rows).chi i x) (value_one (cyclotomic K)) }
+        { is_same(&table.value(i, x), &Cyc::one()) },
+    )
 }
 
 /// Whether some row has only the value 1.
@@ -186,12 +202,13 @@ fn has_vacuum<const K: u32>(table: &Candidate<K>) -> bool
     ensures vacuum { result ≡ has_vacuum table.now.over (characters_of K table.now.rows) }
 {
     let rows = table.rows();
-    let vacuum = first_below(rows, |i| -> Option<u32>
-        requires { i < length table.now.rows }
-        ensures { result ≡ where_holds (is_vacuum table.entry.now.over (characters_of K table.entry.now.rows) i) i }
-    {
-        if is_vacuum(table, i) { Some(i) } else { None }
-    });
+    let vacuum = first_below(
+        rows,
+        |i| -> Option<u32>
+            requires { i < length table.now.rows }
+            ensures { result ≡ where_holds (is_vacuum table.entry.now.over (characters_of K table.entry.now.rows) i) i }
+        { if is_vacuum(table, i) { Some(i) } else { None } },
+    );
     vacuum.is_some()
 }
 

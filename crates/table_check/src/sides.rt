@@ -10,7 +10,6 @@ ghost use Rattle.table_check.specs.Sides.{degree_value, own_place, right_quotien
 
 use crate::candidate::Candidate;
 use crate::conjugated::Conjugated;
-
 use crate::total::Total;
 use qd_ring::{Cyc, Root};
 use twisted::{Twist, conjugate, kappa};
@@ -183,12 +182,7 @@ fn product_sum<const K: u32>(table: &Conjugated<K>, i: u32, j: u32, x: u32) -> O
 }
 
 /// The value of `d_i E_i E_i` at the place `x`, or of `E_i E_j` for two different rows.
-pub fn product_left<const K: u32>(
-    table: &Conjugated<K>,
-    i: u32,
-    j: u32,
-    x: u32,
-) -> Option<Cyc<K>>
+pub fn product_left<const K: u32>(table: &Conjugated<K>, i: u32, j: u32, x: u32) -> Option<Cyc<K>>
     requires i_below { i < length table.now.rows }
     requires j_below { j < length table.now.rows }
     requires x_below { x < size table.now.over }
@@ -205,12 +199,7 @@ pub fn product_left<const K: u32>(
 }
 
 /// The value of `m E_i` at the place `x`, or 0 for two different rows.
-pub fn product_right<const K: u32>(
-    table: &Conjugated<K>,
-    i: u32,
-    j: u32,
-    x: u32,
-) -> Option<Cyc<K>>
+pub fn product_right<const K: u32>(table: &Conjugated<K>, i: u32, j: u32, x: u32) -> Option<Cyc<K>>
     requires i_below { i < length table.now.rows }
     requires j_below { j < length table.now.rows }
     requires x_below { x < size table.now.over }
@@ -269,7 +258,9 @@ fn row_term<const K: u32>(table: &Conjugated<K>, x: u32, y: u32, i: u32) -> Opti
     requires i_below { i < length table.now.rows }
     ensures forms { Forms (row_term table.now.over (characters_of K table.now.rows) x y i) result }
 {
-    table.conjugate(i, x).try_mul(&table.candidate().value(i, y))
+    table
+        .conjugate(i, x)
+        .try_mul(&table.candidate().value(i, y))
 }
 
 /// The sum over the rows of the conjugate of the value at `x` times the value at `y`.

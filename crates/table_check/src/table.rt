@@ -44,7 +44,7 @@ impl<const K: u32> Table<K> {
     /// orthogonal; and a vacuum over the identity. The refusal is that of the first place, by clauses, then rows, then places, at which a
     /// side overflows or the clause fails; an overflow goes first there.
     pub fn check(alloc: Global, twist: &Twist, rows: Rows<K>) -> Result<Table<K>, TableRefusal<K>>
-        requires shaped { IsShaped K (record { over = twist.now; rows = rows.entry }) }
+        requires shaped { IsShaped K (record { over = twist.now; rows = rows }) }
         ensures checks { Checks K twist.now rows.entry result }
         ensures good { IfOk result (λ table. IsGood table.over (characters_of K table.rows)) }
     {

@@ -57,7 +57,7 @@ module _ {A : Type 0} (R : CommRing A) {m : ℕ} (U : RootOfUnity R m) (s : Twis
         ∙ ap (λ u. twisted_convolution R (places s twist) (place_group s twist) twist_roots (phase_at s twist) u (on_places z) v) (sym (unit_on_places c));
   }
 
-  central_from_places : (z : ℕ → A) → centre.IsCentral R (places s twist) (place_group s twist) twist_roots (phase_at s twist) (on_places z) → IsCentral R U s z
+  pub central_from_places : (z : ℕ → A) → centre.IsCentral R (places s twist) (place_group s twist) twist_roots (phase_at s twist) (on_places z) → IsCentral R U s z
   central_from_places z h = record {
     commutes = λ y x y_below x_below.
         let c : Below (size s) = record { value = y; below = y_below } in

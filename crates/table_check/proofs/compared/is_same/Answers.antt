@@ -1,5 +1,5 @@
 -- Arrays that stand for one value are one, so their equality is that of the values.
-use Rattle.std.proofs.Common.{◌≡◌, ap, sym, ◌∙◌}
+use Rattle.std.proofs.Common.{ap, sym, ◌∙◌}
 use Rattle.std.specs.Bool.{one_answer}
 use Rattle.std.specs.Cmp.Rules.{signed_items}
 use Rattle.cyclotomic.specs.CyclotomicRing.{cyclotomic_value}

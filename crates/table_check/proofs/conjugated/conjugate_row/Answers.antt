@@ -1,11 +1,11 @@
-use Rattle.std.proofs.Common.{◌≡◌, ◌<◌, ap, sym, ◌∙◌, subst, map, refl, arith, true, false, Some}
+use Rattle.std.proofs.Common.{ap, ◌∙◌, map, arith}
 use Rattle.std.proofs.lemmas.Bool.{false≢true}
 use Rattle.std.specs.List.{range_with_len}
-use Rattle.cyclotomic.specs.CyclotomicRing.{cyclotomic_value, conjugate}
+use Rattle.cyclotomic.specs.CyclotomicRing.{conjugate}
 use Rattle.cyclotomic.specs.Fit.{value_fits}
 use Rattle.twisted.specs.Twist.{size}
 use Rattle.table_check.specs.Characters.{characters_of}
-use Rattle.table_check.specs.Conjugates.{values_of, conjugate_row}
+use Rattle.table_check.specs.Conjugates.{values_of}
 use Rattle.table_check.proofs.Conjugates.{conjugate_fits, values_more}
 use Rattle.table_check.proofs.conjugated.conjugate_row.Goals as goal
 

@@ -1,4 +1,4 @@
-use Rattle.std.proofs.Common.{rules, ◌≡◌, Some, sym, ◌∙◌, subst}
+use Rattle.std.proofs.Common.{rules, sym, ◌∙◌, subst}
 use Rattle.table_check.specs.Answers.{Refuses}
 use Rattle.table_check.specs.Characters.{characters_of}
 use Rattle.table_check.proofs.Found.{column_found}

@@ -1,8 +1,6 @@
-use Rattle.std.proofs.Common.{subst, ◌≡◌, ℕ, None, Some, arith, ap, ◌∙◌, length}
+use Rattle.std.proofs.Common.{subst, arith, ap}
 use Rattle.cyclotomic.specs.CyclotomicRing.{cyclotomic_value}
 use Rattle.twisted.specs.Twist.{size}
-use Rattle.table_check.specs.Characters.{characters_of}
-use Rattle.table_check.specs.Formed.{Forms, listed}
 use Rattle.table_check.specs.Sides.{column_term}
 use Rattle.table_check.specs.Totals.{IsTotal}
 use Rattle.table_check.proofs.sides.column_right.Goals as goal

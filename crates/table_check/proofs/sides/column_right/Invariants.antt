@@ -1,5 +1,4 @@
 use Rattle.cyclotomic.specs.CyclotomicRing.{cyclotomic_value}
-use Rattle.table_check.specs.Characters.{characters_of}
 use Rattle.table_check.specs.Sides.{column_term}
 use Rattle.table_check.specs.Totals.{IsTotal}
 use Rattle.table_check.proofs.sides.column_right.Given as goal

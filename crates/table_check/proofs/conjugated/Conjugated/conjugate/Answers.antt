@@ -1,4 +1,4 @@
-use Rattle.std.proofs.Common.{◌≡◌, ◌<◌, Some, vec_len, length, subst, sym, arith}
+use Rattle.std.proofs.Common.{◌<◌, Some, vec_len, length, subst, arith}
 use Rattle.twisted.specs.Twist.{size}
 use Rattle.table_check.specs.Characters.{RowsOver, characters_of}
 use Rattle.table_check.specs.Formed.{Forms}
@@ -14,8 +14,12 @@ index-requires g c =
 pub index-requires-2 : goal.index-requires-2
 index-requires-2 g c =
     subst (λ (t : RowsOver). c.args.i < length t.rows → c.args.x < size t.over → c.args.x < vec_len c.index.result.now) c.self.view_is
-    (λ row place. omega (arith, place,
-    kept_width g.row.K c.self.inside.candidate c.self.inside.conjugates.items c.self.invariant.1 c.args.i c.index.result.now row c.index.ensures, c.index.result.now.ok.0))
+    (λ row place. omega (
+      arith,
+      place,
+      kept_width g.row.K c.self.inside.candidate c.self.inside.conjugates.items c.self.invariant.1 c.args.i c.index.result.now row c.index.ensures,
+      c.index.result.now.ok.0,
+    ))
     c.requires.i_below c.requires.x_below
 
 pub returns : goal.returns

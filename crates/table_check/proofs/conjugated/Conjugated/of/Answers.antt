@@ -1,6 +1,6 @@
-use Rattle.std.proofs.Common.{◌≡◌, ap, ◌∙◌, map, length, arith, subst}
+use Rattle.std.proofs.Common.{ap, ◌∙◌, map, arith, subst}
 use Rattle.twisted.specs.Twist.{size}
-use Rattle.table_check.specs.Characters.{RowsOver, IsShaped, characters_of}
+use Rattle.table_check.specs.Characters.{IsShaped, characters_of}
 use Rattle.table_check.specs.Conjugates.{values_of, conjugate_rows}
 use Rattle.table_check.proofs.Conjugates.{rows_more}
 use Rattle.table_check.proofs.conjugated.Conjugated.of.Goals as goal

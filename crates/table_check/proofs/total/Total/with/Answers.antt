@@ -1,5 +1,5 @@
 use Rattle.std.proofs.Common.{ap, sym, ◌∙◌, subst, arith, ◌+◌, ◌<◌, ◌≤◌, ◌≡◌}
-use Rattle.cyclotomic.specs.Fit.{value_size, value_fits, greatest_magnitude}
+use Rattle.cyclotomic.specs.Fit.{value_size, greatest_magnitude}
 use Rattle.cyclotomic.specs.Ring.{value_sum}
 use Rattle.cyclotomic.specs.CyclotomicRing.{cyclotomic_value}
 use Rattle.table_check.specs.Formed.{Forms}

@@ -1,4 +1,3 @@
-use Rattle.cyclotomic.specs.CyclotomicRing.{cyclotomic_value}
 use Rattle.std.proofs.Common.{subst, sym}
 use Rattle.table_check.specs.Totals.{IsTotal}
 use Rattle.table_check.proofs.Totals.{total_none}

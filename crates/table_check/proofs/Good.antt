@@ -1,0 +1,144 @@
+-- Where nothing is missed, the table is good.
+use Rattle.std.proofs.Common.{◌≡◌, ◌<◌, ◌*◌, ◌&&◌, ℕ, suc, Bool, true, false, Option, Some, None, refl, ap, subst, unwrap_or, nat_le, eqb-true, eq-eqb, if◌then◌else◌}
+use Rattle.std.specs.Prelude.{is_some}
+use Rattle.std.proofs.lemmas.Bool.{leb-true}
+use Rattle.scan.specs.First.{first}
+use Rattle.scan.proofs.Places.{first_none-at, first_some, or_none, and_true, all_below-at}
+use Rattle.group_table.specs.Group.{identity_of}
+use Rattle.cyclotomic.specs.Cyclotomic.{cyclotomic}
+use Rattle.cyclotomic.specs.Ring.{value_one}
+use Rattle.cyclotomic.specs.CyclotomicRing.{CyclotomicValue}
+use Rattle.twisted.specs.Twist.{TwistedSubgroup, size, element}
+use Rattle.twisted.specs.Regular.{rank}
+use Rattle.table_check.specs.Characters.{Characters}
+use Rattle.table_check.specs.Formed.{Formed, whole}
+use Rattle.table_check.specs.Sides.{unitary_left, unitary_right, twist_left, twist_right, central_left, central_right, product_left, product_right, sum_left, sum_right, column_left, column_right}
+use Rattle.table_check.specs.Good.{IsDegree, HasTwist, IsVacuum, IsGood}
+use Rattle.table_check.specs.Check.{is_same, where_holds, unless_holds, agree, degree_of, twist_of, is_vacuum, has_vacuum, count_miss, degree_at, degree_miss, unitary_at, unitary_miss, twists_fit, twist_at, twist_miss, central_at, central_miss, product_at, product_miss, sum_at, sum_miss, column_at, column_miss, vacuum_miss, row_miss, algebra_miss, table_miss}
+use Rattle.table_check.specs.declared.miss.Clause.TheVariants.{Count, Degree, Unitary, Twist, Central, Product, Sum, Column, Vacuum}
+use Rattle.table_check.proofs.Same.{is_same-Decides}
+use Rattle.table_check.proofs.Conjugates.{unless_none}
+
+-- what is there
+some_there : {A : Type 0} (o : Option A) → is_some o ≡ true → (x : A) × (o ≡ Some x)
+some_there (Some x) e = (x, refl)
+some_there None e = cc
+
+-- a number that was found passes the test
+holds_there : (test : Bool) (n d : ℕ) → where_holds test n ≡ Some d → (test ≡ true) × (n ≡ d)
+holds_there true n d e = (refl, ap (λ o. unwrap_or o n) e)
+holds_there false n d e = cc
+
+-- two sides that agree have one value
+same_sides : {k : ℕ} (left right : Formed k) → agree left right ≡ true → left.value ≡ right.value
+same_sides left right e = (is_same-Decides left.value right.value).0 (and_true (left.fits && right.fits) (is_same left.value right.value) e).1
+
+pub degree_there : (k m d : ℕ) (u : CyclotomicValue k) → degree_of k m u ≡ Some d → IsDegree k m u
+degree_there k m d u found =
+    let at = first_some (suc m) (λ n. where_holds ((nat_le 1 n && nat_le (n * n) m) && is_same u (whole k n)) n) d found in
+    let test = and_true (nat_le 1 at.place && nat_le (at.place * at.place) m) (is_same u (whole k at.place)) (holds_there _ at.place d at.here).0 in
+    let sizes = and_true (nat_le 1 at.place) (nat_le (at.place * at.place) m) test.0 in
+    record {
+      degree = at.place;
+      positive = leb-true 1 at.place sizes.0;
+      square = leb-true (at.place * at.place) m sizes.1;
+      same = (is_same-Decides u (whole k at.place)).0 test.1;
+    }
+
+module _ {k : ℕ} (s : TwistedSubgroup) (table : Characters k) where
+  twist_there : (i t : ℕ) → twist_of s table i ≡ Some t → HasTwist s table i
+  twist_there i t found =
+      let at = first_some k (λ v. where_holds (is_same (twist_left s table i).value (twist_right s table i v).value) v) t found in
+      record {
+        twist = at.place;
+        below = at.below;
+        same = (is_same-Decides (twist_left s table i).value (twist_right s table i at.place).value).0 (holds_there _ at.place t at.here).0;
+      }
+
+  vacuum_there : has_vacuum s table ≡ true → (i : ℕ) × (i < table.count) × IsVacuum s table i
+  vacuum_there holds =
+      let found = some_there (first table.count (λ i. where_holds (is_vacuum s table i) i)) holds in
+      let at = first_some table.count (λ i. where_holds (is_vacuum s table i) i) found.0 found.1 in (
+        at.place,
+        at.below,
+        λ x place. (is_same-Decides (table.chi at.place x) (value_one (cyclotomic k))).0
+            (all_below-at (size s) x (λ y. is_same (table.chi at.place y) (value_one (cyclotomic k))) (holds_there _ at.place found.0 at.here).0 place),
+      )
+
+  vacuum_asked : vacuum_miss s table ≡ None → element s (identity_of s.group) ≡ s.at → has_vacuum s table ≡ true
+  vacuum_asked none here =
+      unless_none (has_vacuum s table) Vacuum 0 0 0
+      (subst (λ b. (if b then unless_holds (has_vacuum s table) Vacuum 0 0 0 else None) ≡ None) (eq-eqb (element s (identity_of s.group)) s.at here) none)
+
+  -- the parts of what is not missed
+  pub record Clauses : Type 0 where
+    pub count : count_miss s table ≡ None
+    pub degree : degree_miss s table ≡ None
+    pub unitary : unitary_miss s table ≡ None
+    pub twist : twist_miss s table ≡ None
+    pub central : central_miss s table ≡ None
+    pub product : product_miss s table ≡ None
+    pub sum : sum_miss s table ≡ None
+    pub column : column_miss s table ≡ None
+    pub vacuum : vacuum_miss s table ≡ None
+
+  pub clauses : table_miss s table ≡ None → Clauses
+  unfolding table_miss
+  clauses none =
+      let both = or_none (row_miss s table) (algebra_miss s table) none in
+      let row = or_none (count_miss s table) _ both.0 in
+      let later_row = or_none (degree_miss s table) _ row.1 in
+      let last_row = or_none (unitary_miss s table) (twist_miss s table) later_row.1 in
+      let central = or_none (central_miss s table) _ both.1 in
+      let product = or_none (product_miss s table) _ central.1 in
+      let sum = or_none (sum_miss s table) _ product.1 in
+      let column = or_none (column_miss s table) (vacuum_miss s table) sum.1 in
+      record {
+        count = row.0;
+        degree = later_row.0;
+        unitary = last_row.0;
+        twist = last_row.1;
+        central = central.0;
+        product = product.0;
+        sum = sum.0;
+        column = column.0;
+        vacuum = column.1;
+      }
+
+  -- row i has a degree
+  pub degree_is : (i : ℕ) → degree_miss s table ≡ None → i < table.count → is_some (degree_of k (size s) (table.chi i (identity_of s.group))) ≡ true
+  degree_is i none row = unless_none _ Degree i 0 (identity_of s.group) (first_none-at table.count i (degree_at s table) none row)
+
+  -- row i has a twist, and no root multiple of its degree overflows
+  pub twist_is : (i : ℕ) → twist_miss s table ≡ None → i < table.count → (twists_fit s table i ≡ true) × (is_some (twist_of s table i) ≡ true)
+  twist_is i none row = and_true (twists_fit s table i) (is_some (twist_of s table i)) (unless_none _ Twist i 0 0 (first_none-at table.count i (twist_at s table) none row))
+
+  -- where nothing is missed, the table is good
+  pub nothing_missed : table_miss s table ≡ None → IsGood s table
+  nothing_missed none =
+      let e = identity_of s.group in
+      let c = clauses none in
+      record {
+        count = eqb-true table.count (rank s) (unless_none _ Count 0 0 0 c.count);
+        degree = λ i row.
+            let there = some_there (degree_of k (size s) (table.chi i e)) (degree_is i c.degree row) in
+            degree_there k (size s) there.0 (table.chi i e) there.1;
+        unitary = λ i x row place.
+            same_sides (unitary_left s table i x) (unitary_right s table i x) (unless_none _ Unitary i 0 x
+            (first_none-at (size s) x (unitary_at s table i) (first_none-at table.count i (λ j. first (size s) (unitary_at s table j)) c.unitary row) place));
+        twist = λ i row. let there = some_there (twist_of s table i) (twist_is i c.twist row).1 in twist_there i there.0 there.1;
+        central = λ i y x row column place.
+            same_sides (central_left s table i y x) (central_right s table i y x) (unless_none _ Central i y x
+            (first_none-at (size s) x (central_at s table i y) (first_none-at (size s) y (λ z. first (size s) (central_at s table i z))
+            (first_none-at table.count i (λ j. first (size s) (λ z. first (size s) (central_at s table j z))) c.central row) column) place));
+        product = λ i j x row other place.
+            same_sides (product_left s table i j x) (product_right s table i j x) (unless_none _ Product i j x
+            (first_none-at (size s) x (product_at s table i j) (first_none-at table.count j (λ l. first (size s) (product_at s table i l))
+            (first_none-at table.count i (λ h. first table.count (λ l. first (size s) (product_at s table h l))) c.product row) other) place));
+        sum = λ x place.
+            same_sides (sum_left s table x) (sum_right s table x) (unless_none _ Sum 0 0 x (first_none-at (size s) x (sum_at s table) c.sum place));
+        column = λ x y place other.
+            same_sides (column_left s table x y) (column_right s table x y) (unless_none _ Column 0 y x
+            (first_none-at (size s) y (column_at s table x) (first_none-at (size s) x (λ z. first (size s) (column_at s table z)) c.column place) other));
+        vacuum = λ here. vacuum_there (vacuum_asked c.vacuum here);
+      }

@@ -1,0 +1,20 @@
+use Rattle.std.proofs.Common.{rules, ◌<◌, length, subst, sym, ◌∙◌, ap}
+use Rattle.std.specs.Prelude.{is_some}
+use Rattle.std.proofs.lemmas.Bool.{false≢true}
+use Rattle.table_check.specs.Characters.{RowsOver, characters_of}
+use Rattle.table_check.proofs.Good.{clauses, twist_is}
+use Rattle.table_check.proofs.table.Table.twist.Goals as goal
+
+pub twist_of-requires : goal.twist_of-requires
+twist_of-requires g c =
+    let t = c.self.inside.candidate in
+    let table = characters_of g.row.K t.rows in
+    let row : c.args.i < length t.rows = subst (λ (u : RowsOver). c.args.i < length u.rows) (sym c.self.view_is) c.requires.i_below in
+    (search rules, (row, (twist_is t.over table c.args.i (clauses t.over table c.self.invariant.1).twist row).0))
+
+pub unreachable-requires : goal.unreachable-requires
+unreachable-requires g c =
+    let t = c.self.inside.candidate in
+    let table = characters_of g.row.K t.rows in
+    let row : c.args.i < length t.rows = subst (λ (u : RowsOver). c.args.i < length u.rows) (sym c.self.view_is) c.requires.i_below in
+    false≢true (ap is_some c.in-None.ensures.twist ∙ (twist_is t.over table c.args.i (clauses t.over table c.self.invariant.1).twist row).1)
