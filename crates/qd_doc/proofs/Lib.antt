@@ -6,3 +6,9 @@ pub mod Places
 pub mod Lines
 pub mod RoundTrip
 pub mod Shapes
+pub mod BlockSteps
+pub mod Entries
+pub mod Parts
+pub mod ValueWords
+pub mod Sections
+pub mod ValueTexts

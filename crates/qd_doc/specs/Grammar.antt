@@ -1,12 +1,13 @@
 -- What may stand at each token of a document of version 1, and where a text first departs from it.
-use Rattle.std.specs.Prelude.{ℕ, zero, suc, ◌+◌, ◌-◌, ◌*◌, nat_lt, if◌then◌else◌, List, [], ◌∷◌, ◌++◌, length, take, codes, slice_get, slice_index_or, Option}
+use Rattle.std.specs.Prelude.{ℕ, zero, suc, ◌+◌, ◌-◌, ◌*◌, nat_lt, if◌then◌else◌, List, [], ◌∷◌, ◌++◌, length, take, codes, slice_get, slice_index_or, drop, fold, Option}
 use Rattle.scan.specs.First.{first}
 use Rattle.qd_text.specs.Tokens.{Lexeme, tokens}
 use Rattle.qd_text.specs.Numbers.{value}
-use Rattle.qd_text.specs.declared.expected.Expected.TheVariants.{Qdouble, One, Order, Table, Roots, Omega}
-use Rattle.qd_doc.specs.Kinds.{What, Word, Natural, OrderNumber, RootsNumber, FormWord, ElementBelow, EndWord, NoToken, is_word, judgement}
+use Rattle.qd_text.specs.declared.expected.Expected.TheVariants.{Qdouble, One, Order, Table, Roots, Omega, Characters}
+use Rattle.cyclotomic.specs.Conductors.{phi_of}
+use Rattle.qd_doc.specs.Kinds.{What, Word, Natural, OrderNumber, RootsNumber, FormWord, ElementBelow, EndWord, NoToken, ConductorNumber, ClassOrEnd, RowClassOrEnd, ValueRowClassOrEnd, is_word, judgement}
 use Rattle.qd_doc.specs.declared.document.Form.{Form}
-use Rattle.qd_doc.specs.declared.document.Form.TheVariants.{Bare}
+use Rattle.qd_doc.specs.declared.document.Form.TheVariants.{Bare, WithCharacters}
 use Rattle.qd_doc.specs.declared.refusal.DocRefusal.{DocRefusal}
 
 -- so many tokens one after the other, of one kind
@@ -61,14 +62,33 @@ kind_at [] later place = later place
 kind_at (run ∷ runs) later place =
     if nat_lt place run.count then run.kind else kind_at runs later (place - run.count)
 
--- what follows the exponents: in a bare document the word `end`, and no token after it
-abbrev pub ending : Form → ℕ → What
-ending Bare zero = EndWord
-ending Bare (suc place) = NoToken
+-- what may stand after a token of the blocks of rows, by what may stand there and by the token's text.
+-- `row` and a value lead to the values of the row, which have phi coefficients
+abbrev pub what_after : ℕ → What → List ℕ → What
+what_after phi Natural text = RowClassOrEnd
+what_after phi kind text =
+    if is_word text (codes "class") then Natural
+    else if is_word text (codes "end") then NoToken
+    else ValueRowClassOrEnd phi
+
+-- what may stand after these tokens, the first of which follows the exponents: the word `characters`, a
+-- conductor, and the blocks up to the word `end`
+abbrev pub after_characters : List Lexeme → What
+after_characters [] = Word Characters
+after_characters (word ∷ []) = ConductorNumber
+after_characters (word ∷ number ∷ more) =
+    fold (λ kind (token : Lexeme). what_after (phi_of (value number.text)) kind token.text) ClassOrEnd more
+
+-- what follows the exponents, after so many of the tokens `before`: in a bare document the word `end`, and
+-- no token after it
+abbrev pub ending : Form → List Lexeme → ℕ → What
+ending Bare before zero = EndWord
+ending Bare before (suc count) = NoToken
+ending WithCharacters before count = after_characters (drop (length before - count) before)
 
 -- what may stand at a token, as a function of the tokens before it
 unfoldable pub expected : Form → List Lexeme → What
-expected form before = kind_at (runs_after before) (ending form) (length before)
+expected form before = kind_at (runs_after before) (ending form before) (length before)
 
 -- the refusal at a place of the tokens of a text that ends at `offset`
 abbrev pub refusal_at : Form → ℕ → List Lexeme → ℕ → Option DocRefusal

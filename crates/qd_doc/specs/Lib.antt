@@ -1,6 +1,9 @@
+pub mod Blocks
+pub mod Values
 pub mod Kinds
 pub mod Numerals
 pub mod Grammar
 pub mod Contents
+pub mod Section
 pub mod Reading
 pub mod Canonical

@@ -4,8 +4,17 @@
 use Rattle.std.specs.Prelude.{◌≡◌, ℕ, zero, suc, ◌+◌, ◌*◌, if◌then◌else◌, List, [], ◌∷◌, length, replicate, codes, slice_set, Option, Some, None, Result, Ok, Err, ◌≤◌, ◌<◌, ◌^◌}
 use Rattle.qd_text.specs.Tokens.{Lexeme}
 use Rattle.qd_text.specs.Numbers.{value}
-use Rattle.qd_text.specs.declared.expected.Expected.TheVariants.{Qdouble, One, Order, Table, Roots, Omega}
-use Rattle.qd_doc.specs.Kinds.{What, Word, Natural, OrderNumber, RootsNumber, FormWord, ElementBelow, EndWord, NoToken, is_word, refusal, missing}
+use Rattle.qd_text.specs.declared.expected.Expected.TheVariants.{Qdouble, One, Order, Table, Roots, Omega, Characters}
+use Rattle.qd_doc.specs.Kinds.{What, Word, Natural, OrderNumber, RootsNumber, FormWord, ElementBelow, EndWord, NoToken, ConductorNumber, is_word, refusal, missing}
+use Rattle.cyclotomic.specs.Conductors.{phi_of}
+use Rattle.qd_doc.specs.Blocks.{Block}
+pub use Rattle.qd_doc.specs.Section.{unless}
+use Rattle.qd_doc.specs.Section.{kind_after, part_of, stage_of, is_end, with_part}
+use Rattle.qd_doc.specs.declared.part.Stage.{Stage}
+use Rattle.qd_doc.specs.declared.part.Stage.TheVariants as stages
+use Rattle.qd_doc.specs.declared.document.Form.{Form}
+use Rattle.qd_doc.specs.declared.document.Form.TheVariants.{Bare, WithCharacters}
+use Rattle.qd_doc.specs.declared.document.Given.{Given}
 use Rattle.qd_doc.specs.declared.listing.Listing.{Listing}
 use Rattle.qd_doc.specs.declared.listing.Listing.TheVariants.{Trivial, Dense, Sparse}
 use Rattle.qd_doc.specs.declared.document.Document.{Document}
@@ -16,11 +25,6 @@ infixl 10 ◌>>=◌
 abbrev pub ◌>>=◌ : {A B : Type 0} → Result A DocRefusal → (A → Result B DocRefusal) → Result B DocRefusal
 (Ok x) >>= f = f x
 (Err e) >>= f = Err e
-
--- an answer that a refusal may stand in the place of
-abbrev pub unless : {A : Type 0} → Option DocRefusal → A → Result A DocRefusal
-unless None x = Ok x
-unless (Some r) x = Err r
 
 -- one token of a kind, seen by `view`, of a text that ends at an offset
 unfoldable pub read : {A : Type 0} → (List ℕ → A) → ℕ → What → List Lexeme → Result (A × List Lexeme) DocRefusal
@@ -105,15 +109,40 @@ read_end offset left = do
   after_end ← skip offset EndWord left
   skip offset NoToken after_end
 
+-- the parts that are left, put into the blocks so far, up to the end
+unfoldable pub read_blocks : ℕ → ℕ → Stage → List Block → List Lexeme → Result (List Block × List Lexeme) DocRefusal
+read_blocks offset phi stage blocks [] = unless (missing (kind_after phi stage) offset) (blocks, [])
+read_blocks offset phi stage blocks (token ∷ rest) = do
+  part ← unless (refusal (kind_after phi stage) token) (part_of phi stage token.text)
+  if is_end part then Ok (blocks, rest) else read_blocks offset phi (stage_of part) (with_part part blocks) rest
+
+-- the section of characters
+unfoldable pub read_given : ℕ → List Lexeme → Result (Given × List Lexeme) DocRefusal
+read_given offset left = do
+  after_word ← skip offset (Word Characters) left
+  conductor ← read_number offset ConductorNumber after_word
+  blocks ← read_blocks offset (phi_of conductor.0) stages.Conductor [] conductor.1
+  Ok (record { conductor = conductor.0; blocks = blocks.0 }, blocks.1)
+
+-- what follows the exponents
+unfoldable pub read_characters : ℕ → Form → List Lexeme → Result (Option Given) DocRefusal
+read_characters offset Bare left = do
+  rest ← read_end offset left
+  Ok None
+read_characters offset WithCharacters left = do
+  given ← read_given offset left
+  rest ← skip offset NoToken given.1
+  Ok (Some given.0)
+
 -- a whole document
-unfoldable pub read_document : ℕ → List Lexeme → Result Document DocRefusal
-read_document offset left = do
+unfoldable pub read_document : ℕ → Form → List Lexeme → Result Document DocRefusal
+read_document offset form left = do
   n ← read_order offset left
   table ← read_numbers offset (n.0 * n.0) n.1
   roots ← read_roots offset table.1
   exponents ← read_exponents offset n.0 roots.1
-  rest ← read_end offset exponents.1
-  Ok (record { order = n.0; table = table.0; roots = roots.0; exponents = exponents.0 })
+  characters ← read_characters offset form exponents.1
+  Ok (record { order = n.0; table = table.0; roots = roots.0; exponents = exponents.0; characters = characters })
 
 -- a refusal that a step returned is what reading gives, unless there was no memory
 abbrev pub Fails : {Y : Type 0} → DocRefusal → Result Y DocRefusal → Type 0

@@ -9,4 +9,6 @@ pub enum Kind {
     Roots,
     /// An element: one below the order.
     Element { order: u32 },
+    /// An entry of the table of conductors.
+    Conductor,
 }

@@ -1,15 +1,22 @@
 //! Documents: a finite group's table and the exponents of a cochain, as text.
 #![tactic(auto)]
 
+mod block_text;
+mod blocks;
+mod characters;
 mod document;
 mod kind;
 mod listing;
+mod part;
+mod plain_rows;
 mod printing;
 mod reading;
 mod refusal;
 mod steps;
 
-pub use document::{Document, Form};
+pub use blocks::Blocks;
+pub use characters::values_are_spelled;
+pub use document::{Document, Form, Given};
 pub use printing::{print, printed_is_read};
 pub use qd_text::Memory;
 pub use reading::parse;

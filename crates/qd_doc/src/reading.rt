@@ -1,9 +1,10 @@
 ghost use Rattle.std.specs.Prelude.{◌≡◌, ◌<◌, ◌≤◌, ◌^◌, ◌*◌, [], length, vec_len, IfOk};
 ghost use Rattle.qd_text.specs.Tokens.{tokens_from};
 ghost use Rattle.qd_doc.specs.Contents.{Parses, IsInRange};
-ghost use Rattle.qd_doc.specs.Reading.{Gives, IsOffset, read_order, read_roots, read_end, read_document};
+ghost use Rattle.qd_doc.specs.Reading.{Gives, IsOffset, read_order, read_roots, read_end, read_characters, read_document};
 
-use crate::document::{Document, Form};
+use crate::characters::given;
+use crate::document::{Document, Form, Given};
 use crate::kind::Kind;
 use crate::listing::{exponents, numbers};
 use crate::refusal::DocRefusal;
@@ -18,9 +19,7 @@ pub fn parse(alloc: Global, bytes: &Vec<u8>, form: Form) -> Result<Document, Doc
     ensures parses { Parses form bytes.now.items result }
     ensures in_range { IfOk result IsInRange }
 {
-    match form {
-        Form::Bare => bare(alloc, bytes),
-    }
+    document(alloc, bytes, form)
 }
 
 /// The order, and the offset after the word `table`.
@@ -72,23 +71,48 @@ fn end(bytes: &Vec<u8>, at: u32) -> Result<(), DocRefusal>
     nothing(bytes, at)
 }
 
-/// A bare document.
+/// What follows the exponents.
+#[tactic(auto, unfolding(crate::specs::Reading::read_characters))]
+fn characters(
+    alloc: Global,
+    bytes: &Vec<u8>,
+    at: u32,
+    form: Form,
+) -> Result<Option<Given>, DocRefusal>
+    requires offset { IsOffset bytes.now.items at }
+    ensures gives { Gives (λ characters. characters) result
+        (read_characters (length bytes.now.items) form (tokens_from at bytes.now.items)) }
+{
+    match form {
+        Form::Bare => {
+            end(bytes, at)?;
+            Ok(None)
+        }
+        Form::WithCharacters => {
+            let (given, at) = given(alloc, bytes, at)?;
+            nothing(bytes, at)?;
+            Ok(Some(given))
+        }
+    }
+}
+
+/// A document, read token after token.
 #[tactic(auto, unfolding(crate::specs::Reading::read_document))]
-fn bare(alloc: Global, bytes: &Vec<u8>) -> Result<Document, DocRefusal>
+fn document(alloc: Global, bytes: &Vec<u8>, form: Form) -> Result<Document, DocRefusal>
     requires offset { IsOffset bytes.now.items 0 }
     ensures gives { Gives (λ document. document) result
-        (read_document (length bytes.now.items) (tokens_from 0 bytes.now.items)) }
-    ensures in_range { IfOk result IsInRange }
+        (read_document (length bytes.now.items) form (tokens_from 0 bytes.now.items)) }
 {
     let order = order(bytes)?;
     let (table, at) = numbers(alloc, bytes, order.next, order.value * order.value)?;
     let roots = roots(bytes, at)?;
     let (exponents, at) = exponents(alloc, bytes, roots.next, order.value)?;
-    end(bytes, at)?;
+    let characters = characters(alloc, bytes, at, form)?;
     Ok(Document {
         order: order.value,
         table,
         roots: roots.value,
         exponents,
+        characters,
     })
 }

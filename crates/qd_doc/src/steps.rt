@@ -1,6 +1,7 @@
 ghost use Rattle.std.specs.Prelude.{◌≡◌, ℕ, ◌+◌, ◌<◌, ◌≤◌, ◌^◌, List, ◌∷◌, [], length, vec_len, IfOk, IfErr, OnOk, Bool};
 ghost use Rattle.qd_text.specs.Tokens.{tokens_from, lexeme_of, text_of, IsWithin};
 ghost use Rattle.qd_text.specs.Numbers.{value};
+ghost use Rattle.cyclotomic.specs.Conductors.{is_conductor};
 ghost use Rattle.qd_text.specs.declared.expected.Expected.{Expected};
 ghost use Rattle.qd_doc.specs.Kinds.{Word, FormWord, EndWord, NoToken, is_word, value_refusal};
 ghost use Rattle.qd_doc.specs.Numerals.{what_of, IsOf};
@@ -9,6 +10,7 @@ ghost use Rattle.qd_doc.specs.Reading.{Gives, IsOffset, read, skip, read_number,
 use crate::kind::Kind;
 use crate::listing::Listing;
 use crate::refusal::DocRefusal;
+use qd_ring::conductor;
 use qd_text::{Expected, NumberFault, Token, next_token, number};
 
 /// A number that was read, and the offset at which reading goes on.
@@ -26,6 +28,7 @@ pub fn token(bytes: &Vec<u8>, at: u32, expected: Expected) -> Result<Token, DocR
     ensures inside { IfOk result (IsWithin bytes.now.items) }
     ensures nothing { IfErr result (λ _. tokens_from at bytes.now.items ≡ []) }
     ensures refusal { IfErr result (λ refusal. refusal ≡ DocRefusal.Syntax (length bytes.now.items) expected) }
+    ensures later { IfOk result (λ token. at < token.start + token.len) }
 {
     match next_token(bytes, at) {
         Some(token) => Ok(token),
@@ -64,6 +67,16 @@ pub fn word(bytes: &Vec<u8>, at: u32, expected: Expected) -> Result<u32, DocRefu
     }
 }
 
+/// Whether a number is an entry of the table of conductors: it is its own least multiple there.
+fn is_conductor(k: u32) -> bool
+    ensures entry { result ≡ is_conductor k }
+{
+    match conductor(k) {
+        Ok(least) => least == k,
+        Err(_) => false,
+    }
+}
+
 /// The refusal of a number, which stands at `start`, by its value.
 #[tactic(auto, unfolding(crate::specs::Kinds::refusal))]
 fn check_value(kind: Kind, start: u32, value: u32) -> Result<(), DocRefusal>
@@ -77,6 +90,10 @@ fn check_value(kind: Kind, start: u32, value: u32) -> Result<(), DocRefusal>
             offset: start,
             expected: Expected::Element,
         }),
+        Kind::Conductor if !is_conductor(value) => Err(DocRefusal::Syntax {
+            offset: start,
+            expected: Expected::Conductor,
+        }),
         _ => Ok(()),
     }
 }
@@ -89,6 +106,7 @@ pub fn natural(bytes: &Vec<u8>, at: u32, kind: Kind) -> Result<Numeral, DocRefus
         (read_number (length bytes.now.items) (what_of kind) (tokens_from at bytes.now.items)) }
     ensures offset { IfOk result (λ numeral. IsOffset bytes.now.items numeral.next) }
     ensures of_kind { IfOk result (λ numeral. IsOf kind numeral.value) }
+    ensures later { IfOk result (λ numeral. at < numeral.next) }
 {
     let token = token(bytes, at, Expected::Number)?;
     match number(bytes, token) {
