@@ -9,7 +9,7 @@ use Rattle.qd_doc.specs.declared.document.Document.{Document}
 use Rattle.qd_doc.specs.Canonical.{line, rows, omega_lines, row_words, block_lines, characters_lines, canonical_lines, canonical_text}
 use Rattle.std.specs.Prelude.{ℤ}
 use Rattle.qd_ring.specs.ValueText.{value_text}
-use Rattle.qd_doc.specs.Blocks.{Block, block}
+use Rattle.qd_doc.specs.Blocks.{Block}
 
 -- numbers that follow another in a line
 abbrev pub spaced : List ℕ → List ℕ

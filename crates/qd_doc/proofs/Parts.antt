@@ -1,14 +1,12 @@
 -- What the tokens of the section of characters say, one after the other.
-use Rattle.std.proofs.Common.{◌≡◌, ℕ, suc, ◌-◌, ◌+◌, ◌≤◌, ◌<◌, Bool, true, false, ◌&&◌, ◌||◌, ◌==◌, not, cond, nat_eq, List, [], ◌∷◌, ◌++◌, ◌^◌, length, map, get_or, set, codes, Option, Some, None, Result, Ok, Err, refl, sym, ap, ◌∙◌, subst, ◌⊎◌, inl, inr, arith, length-append, append_assoc}
+use Rattle.std.proofs.Common.{◌≡◌, ℕ, ◌-◌, ◌+◌, ◌≤◌, ◌<◌, Bool, true, false, ◌&&◌, ◌||◌, ◌==◌, not, cond, nat_eq, List, [], ◌∷◌, ◌++◌, ◌^◌, length, map, get_or, set, codes, Some, None, Result, Ok, Err, refl, sym, ap, ◌∙◌, subst, ◌⊎◌, inl, inr, arith, length-append, append_assoc}
 use Rattle.std.specs.Prelude.{ℤ}
 use Rattle.std.specs.List.{list_all, before_first}
 use Rattle.std.proofs.lemmas.Bool.{ne_eqb, true≢false}
 use Rattle.std.proofs.lemmas.List.{append-nil}
 use Rattle.std.proofs.Math.Seq.{set-append_seam, get_or-append_seam}
-use lib.Pointwise.{pointwise}
 use Rattle.std.proofs.lemmas.List.Sums.{take_while-cons}
-use Rattle.cyclotomic.specs.Conductors.{phi_of}
-use Rattle.qd_ring.specs.RowLists.{row_at, with_value as rows_with_value}
+use Rattle.qd_ring.specs.RowLists.{with_value as rows_with_value}
 use Rattle.qd_text.specs.Tokens.{Lexeme}
 use Rattle.qd_text.specs.Numbers.{value, number_of, is_digit}
 use Rattle.qd_text.specs.declared.natural.NumberFault.{NumberFault}
@@ -16,7 +14,7 @@ use Rattle.qd_text.specs.declared.natural.NumberFault.TheVariants as faults
 use Rattle.qd_doc.specs.Blocks.{Block, block, last_rows, with_last_rows, with_row, with_value}
 use Rattle.qd_doc.specs.Values.{begins_value, coefficients, plain, value_of}
 use Rattle.qd_text.specs.declared.expected.Expected.TheVariants.{End}
-use Rattle.qd_doc.specs.Kinds.{What, Natural, ClassOrEnd, RowClassOrEnd, ValueRowClassOrEnd, NoToken, is_word, is_class_or_end, is_row_class_or_end, fault_refusal, refusal, number_refusal}
+use Rattle.qd_doc.specs.Kinds.{Natural, ClassOrEnd, RowClassOrEnd, ValueRowClassOrEnd, NoToken, is_word, is_class_or_end, is_row_class_or_end, fault_refusal, refusal, number_refusal}
 use Rattle.qd_doc.specs.Grammar.{what_after}
 use Rattle.qd_doc.specs.Contents.{words_before, pieces, block_of, blocks_of}
 use Rattle.qd_doc.specs.Section.{unless, kind_after, row_or_end, value_or_row, word_part, part_of, stage_of, is_end, with_part, HasRoom}
@@ -24,7 +22,6 @@ use Rattle.qd_doc.specs.declared.part.Stage.{Stage}
 use Rattle.qd_doc.specs.declared.part.Stage.TheVariants as stages
 use Rattle.qd_doc.specs.declared.part.Part.{Part}
 use Rattle.qd_doc.specs.declared.part.Part.TheVariants as parts
-use Rattle.qd_doc.specs.declared.refusal.DocRefusal.{DocRefusal}
 use Rattle.qd_doc.specs.declared.refusal.DocRefusal.TheVariants.{Syntax}
 use Rattle.qd_doc.proofs.ValueWords.{same_word}
 

@@ -10,14 +10,12 @@ use Rattle.qd_text.specs.Numbers.{value}
 use Rattle.qd_text.specs.declared.expected.Expected.TheVariants.{Qdouble, One, Order, Number, Table, Roots, Omega, Form as A_form, End, Nothing}
 use Rattle.qd_text.specs.declared.expected.Expected.{Expected}
 use Rattle.qd_doc.specs.declared.document.Form.{Form}
-use Rattle.qd_doc.specs.declared.document.Form.TheVariants.{Bare, WithCharacters}
-use Rattle.qd_doc.specs.declared.document.Document.{Document}
 use Rattle.qd_doc.specs.declared.refusal.DocRefusal.{DocRefusal}
 use Rattle.qd_doc.specs.declared.refusal.DocRefusal.TheVariants.{Syntax}
 use Rattle.qd_doc.specs.Kinds.{What, Word, Natural, OrderNumber, RootsNumber, FormWord, ElementBelow, EndWord, NoToken, is_word, refusal, missing, judgement}
 use Rattle.qd_doc.specs.Grammar.{text_at, number_at, expected, ending, refusal_at, first_refusal}
-use Rattle.qd_doc.specs.Contents.{numbers_at, sparse_exponents, exponents_of, exponents_end, blocks_of, characters_of, document_of}
-use Rattle.qd_doc.specs.Reading.{◌>>=◌, unless, read, skip, read_number, read_numbers, read_entry, read_entries, read_sparse, read_listing, read_exponents, listing_of, read_order, read_roots, read_end, read_document}
+use Rattle.qd_doc.specs.Contents.{numbers_at, sparse_exponents, exponents_of, exponents_end}
+use Rattle.qd_doc.specs.Reading.{◌>>=◌, unless, read, skip, read_number, read_numbers, read_entry, read_entries, read_sparse, read_listing, read_exponents, listing_of, read_order, read_roots}
 use Rattle.qd_doc.specs.declared.listing.Listing.TheVariants.{Trivial, Dense, Sparse}
 use Rattle.qd_doc.proofs.Sparse.{place_of, sparse_exponents-suc, sparse_exponents-zero}
 use Rattle.qd_doc.proofs.Kinds_at.{expected-0, expected-1, expected-2, expected-3, expected-4, expected-table, expected-roots, expected-roots_number, expected-omega, expected-form, expected-trivial, expected-dense, expected_after_dense, expected-sparse, expected_in_entries, kind_at-element, kind_at-exponent, kind_at-after_entries, end-trivial, end-dense, end-sparse}
@@ -385,4 +383,3 @@ module _ (form : Form) (offset : ℕ) (all : List Lexeme) where
   pub reached_fits : (place : ℕ) (kind : What) → Reached (place + 1) → expected form (take place all) ≡ kind → refusal kind (lexeme_at place) ≡ None
   reached_fits place kind reached stands =
       sym (refusal_at-within place kind stands (omega (arith, reached.within))) ∙ refused_nothing (place + 1) reached place (omega arith)
-

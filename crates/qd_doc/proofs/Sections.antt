@@ -1,29 +1,26 @@
 -- Reading what follows the exponents, and so a whole document, finds the first refusal, and the contents by
 -- their places.
-use Rattle.std.proofs.Common.{◌≡◌, ℕ, zero, suc, ◌-◌, ◌+◌, ◌*◌, ◌≤◌, ◌<◌, true, false, cond, List, [], ◌∷◌, ◌++◌, length, take, drop, map, get_or, Option, Some, None, Result, Ok, Err, refl, sym, ap, ◌∙◌, subst, ◌⊎◌, inl, inr, arith, add-one, drop-cons, length-drop}
+use Rattle.std.proofs.Common.{◌≡◌, ℕ, zero, suc, ◌-◌, ◌+◌, ◌*◌, ◌≤◌, ◌<◌, cond, List, [], ◌∷◌, ◌++◌, length, take, drop, map, get_or, Option, Some, None, Ok, refl, sym, ap, ◌∙◌, ◌⊎◌, inl, inr, arith, add-one, length-drop}
 use Rattle.std.specs.Prelude.{fold}
 use Rattle.std.proofs.lemmas.List.{length-take-le, drop-take, take_more, get_or-drop}
 use Rattle.std.proofs.lemmas.List.Sums.{fold-append}
 use Rattle.cyclotomic.specs.Conductors.{phi_of}
 use Rattle.qd_text.specs.Tokens.{Lexeme}
-use Rattle.qd_text.specs.Numbers.{value}
 use Rattle.qd_text.specs.declared.expected.Expected.TheVariants.{Characters, Number, End}
 use Rattle.qd_doc.specs.declared.document.Form.{Form}
 use Rattle.qd_doc.specs.declared.document.Form.TheVariants.{Bare, WithCharacters}
 use Rattle.qd_doc.specs.declared.document.Document.{Document}
 use Rattle.qd_doc.specs.declared.document.Given.{Given}
-use Rattle.qd_doc.specs.declared.refusal.DocRefusal.{DocRefusal}
 use Rattle.qd_doc.specs.declared.refusal.DocRefusal.TheVariants.{Syntax}
-use Rattle.qd_doc.specs.declared.part.Stage.{Stage}
 use Rattle.qd_doc.specs.Blocks.{Block}
-use Rattle.qd_doc.specs.Kinds.{What, Word, ConductorNumber, ClassOrEnd, EndWord, NoToken, refusal, missing}
+use Rattle.qd_doc.specs.Kinds.{What, Word, ConductorNumber, ClassOrEnd, EndWord, NoToken, missing}
 use Rattle.qd_doc.specs.Grammar.{text_at, number_at, what_after, after_characters, ending, expected, first_refusal}
-use Rattle.qd_doc.specs.Contents.{blocks_of, characters_of, document_of, exponents_end}
+use Rattle.qd_doc.specs.Contents.{blocks_of, characters_of, document_of}
 use Rattle.qd_doc.specs.Section.{kind_after, part_of, stage_of, is_end, with_part}
-use Rattle.qd_doc.specs.Reading.{◌>>=◌, read, skip, read_number, read_numbers, read_order, read_roots, read_exponents, read_end, read_blocks, read_given, read_characters, read_document}
+use Rattle.qd_doc.specs.Reading.{read, skip, read_number, read_numbers, read_order, read_roots, read_exponents, read_end, read_blocks, read_given, read_characters, read_document}
 use Rattle.qd_doc.proofs.Loops.{missing_end, blocks_step}
 use Rattle.qd_doc.proofs.Parts.{State, Between, stage_in, blocks_in, whole, Ends as Section_ends, Goes, move}
-use Rattle.qd_doc.proofs.Places.{no_lexeme, lexeme_at, Reads, Reached, Ends, reads_bind, reached_at, reached_fits, drop_here, step, skip_step, word_step, number_step, end_step, missing-end, order_step, table_step, roots_step, exponents_step}
+use Rattle.qd_doc.proofs.Places.{no_lexeme, Reads, Reached, Ends, reads_bind, reached_fits, drop_here, step, skip_step, word_step, number_step, end_step, missing-end, order_step, table_step, roots_step, exponents_step}
 
 -- the words of tokens
 abbrev pub texts : List Lexeme → List (List ℕ)

@@ -1,5 +1,5 @@
 -- What is read has the shape of a document: its numbers are in their ranges, and its lists have their lengths.
-use Rattle.std.proofs.Common.{◌≡◌, ℕ, zero, suc, ◌-◌, ◌+◌, ◌*◌, ◌<◌, ◌≤◌, Bool, true, false, ◌&&◌, cond, nat_lt, List, [], ◌∷◌, length, drop, map, Option, Some, None, Result, Ok, Err, refl, sym, ap, subst, ◌∙◌, arith}
+use Rattle.std.proofs.Common.{◌≡◌, ℕ, zero, suc, ◌-◌, ◌+◌, ◌*◌, ◌≤◌, Bool, true, false, ◌&&◌, cond, List, [], ◌∷◌, length, drop, map, Option, Some, None, Result, Ok, Err, refl, sym, ap, subst, ◌∙◌, arith}
 use Rattle.std.specs.Prelude.{nat_le, slice_set, replicate, All, IfSome, ℤ, pos, codes, ◌==◌}
 use Rattle.std.specs.List.{list_all}
 use Rattle.std.proofs.lemmas.Bool.{leb-true, eq-eqb}
@@ -11,7 +11,7 @@ use Rattle.qd_text.specs.Numbers.{value, number_of}
 use Rattle.qd_text.specs.declared.natural.NumberFault.{NumberFault}
 use Rattle.qd_text.specs.declared.natural.NumberFault.TheVariants as faults
 use Rattle.qd_doc.specs.declared.refusal.DocRefusal.TheVariants as stops
-use Rattle.qd_doc.specs.Kinds.{What, OrderNumber, RootsNumber, Natural, Word, FormWord, ConductorNumber, NoToken, refusal, missing, number_refusal}
+use Rattle.qd_doc.specs.Kinds.{OrderNumber, RootsNumber, Natural, Word, FormWord, ConductorNumber, NoToken, refusal, missing, number_refusal}
 use Rattle.qd_doc.specs.Reading.{◌>>=◌, unless, skip, read, listing_of, read_number, read_entry, read_end, read_numbers, read_order, read_roots, read_entries, read_sparse, read_listing, read_exponents, read_blocks, read_given, read_characters, read_document}
 use Rattle.qd_text.specs.declared.expected.Expected.TheVariants.{Qdouble, One, Order, Table, Roots, Omega, Characters, Conductor}
 use Rattle.qd_doc.specs.declared.document.Form.TheVariants.{Bare, WithCharacters}

@@ -1,21 +1,20 @@
 -- The text of a value is one word of a row, and is read as the value.
-use Rattle.std.proofs.Common.{◌≡◌, ℕ, zero, suc, ◌-◌, ◌<◌, ◌≤◌, Bool, true, false, ◌&&◌, ◌||◌, ◌==◌, nat_le, nat_lt, cond, List, [], ◌∷◌, ◌++◌, length, get_or, drop, replicate, codes, Ok, Err, None, Some, refl, sym, ap, ◌∙◌, subst, ◌⊎◌, inl, inr, arith, length-append, eqb-true, length-drop}
+use Rattle.std.proofs.Common.{◌≡◌, ℕ, zero, suc, ◌-◌, ◌<◌, ◌≤◌, Bool, true, false, ◌==◌, nat_le, nat_lt, List, [], ◌∷◌, ◌++◌, length, get_or, drop, replicate, codes, Ok, None, refl, sym, ap, ◌∙◌, subst, ◌⊎◌, inl, inr, arith, length-append, eqb-true, length-drop}
 use Rattle.std.specs.Prelude.{ℤ, pos, negsuc, nat_abs}
 use Rattle.std.specs.List.{list_all}
 use Rattle.std.proofs.lemmas.Bool.{cases_Bool, eqb-false, and_parts, le-leb, lt-ltb}
 use Rattle.std.proofs.lemmas.List.{get_or_append_left}
 use Rattle.std.proofs.lemmas.List.Folds.{list_all-append}
 use Rattle.cyclotomic.specs.Conductors.{is_conductor, phi_of}
-use Rattle.qd_ring.specs.CycArrays.{is_array, is_nought, is_small}
+use Rattle.qd_ring.specs.CycArrays.{is_array, is_nought}
 use Rattle.qd_ring.specs.ValueText.{numeral, sign_text, power_text, term_text, terms_text, or_nought, value_text, Spells}
 use Rattle.qd_ring.proofs.NumeralLaws.{digits_numeral, leading_numeral}
-use Rattle.qd_ring.proofs.ValueTextLaws.{terms_nil, terms_nought, terms_term, term_nonempty, numeral_nonempty}
+use Rattle.qd_ring.proofs.ValueTextLaws.{terms_nil, terms_nought, terms_term, numeral_nonempty}
 use Rattle.qd_text.specs.Tokens.{is_token_byte}
-use Rattle.qd_text.specs.Numbers.{is_digit}
 use Rattle.qd_text.proofs.Decimals.{digits_are_word}
 use Rattle.qd_text.proofs.Texts.{is_plain}
-use Rattle.qd_doc.specs.Values.{begins_value, plain, value_of, coefficients, plain_or_zeros}
-use Rattle.qd_doc.specs.Kinds.{ValueRowClassOrEnd, is_word, refusal, fault_refusal}
+use Rattle.qd_doc.specs.Values.{begins_value, plain, value_of, plain_or_zeros}
+use Rattle.qd_doc.specs.Kinds.{ValueRowClassOrEnd, is_word, refusal}
 use Rattle.qd_doc.specs.Contents.{IsValueOf}
 use Rattle.qd_doc.specs.Section.{word_part}
 use Rattle.qd_doc.specs.declared.part.Part.TheVariants as parts

@@ -1,7 +1,7 @@
 -- What a token says as a value is the value whose text it is.
-use Rattle.std.proofs.Common.{◌≡◌, ℕ, ◌-◌, ◌+◌, ◌≤◌, ◌<◌, Bool, true, false, cond, nat_eq, List, [], ◌∷◌, ◌++◌, length, take, drop, map, replicate, codes, Option, Some, None, Result, Ok, Err, refl, sym, ap, ◌∙◌, subst, inl, inr, arith, length-append, eqb-true}
-use Rattle.std.specs.Prelude.{ℤ, pos, ◌↔◌}
-use Rattle.std.proofs.lemmas.Bool.{cases_Bool, eq-eqb, true≢false}
+use Rattle.std.proofs.Common.{◌≡◌, ℕ, ◌-◌, ◌≤◌, Bool, true, false, cond, nat_eq, List, length, take, drop, replicate, codes, Option, Some, None, Result, Ok, Err, refl, sym, ap, ◌∙◌, subst, arith, length-append, eqb-true}
+use Rattle.std.specs.Prelude.{ℤ, pos}
+use Rattle.std.proofs.lemmas.Bool.{eq-eqb, true≢false}
 use Rattle.std.proofs.lemmas.List.{length-map, length-replicate}
 use Rattle.std.proofs.Math.Seq.{take-append_seam, drop-append_seam}
 use lib.Pointwise.{pointwise, pointwise_decides}
@@ -14,7 +14,7 @@ use Rattle.qd_ring.specs.ValueReading.{coefficients_of}
 use Rattle.qd_ring.specs.ValueOutcome.{IsRead}
 use Rattle.qd_ring.proofs.CoefficientLaws.{coefficients_read}
 use Rattle.qd_ring.proofs.TermLaws.{capped}
-use Rattle.qd_ring.proofs.ValueLaws.{nought_spelled, nought_small, small_all, unread, found_small, found_wide}
+use Rattle.qd_ring.proofs.ValueLaws.{nought_spelled, nought_small, unread, found_small, found_wide}
 use Rattle.qd_ring.proofs.ValueOutcomeLaws.{outcome_value, outcome_wide, outcome_not_value}
 use Rattle.qd_doc.specs.Values.{value_of, small_value, padded, plain}
 

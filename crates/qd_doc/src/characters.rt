@@ -80,12 +80,7 @@ fn value_or_row(bytes: &Vec<u8>, token: Token, phi: u32) -> Result<Part, DocRefu
 }
 
 /// What a token says that isn't the number of a block.
-fn word_part(
-    bytes: &Vec<u8>,
-    token: Token,
-    phi: u32,
-    stage: Stage,
-) -> Result<Part, DocRefusal>
+fn word_part(bytes: &Vec<u8>, token: Token, phi: u32, stage: Stage) -> Result<Part, DocRefusal>
     requires inside { IsWithin bytes.now.items token }
     requires powers { phi ≤ 42 }
     requires word { stage ≢ Stage.Class }
@@ -188,12 +183,7 @@ fn stage_of(part: Part) -> Stage
 }
 
 /// The blocks up to the word `end`, and the offset after it.
-fn blocks(
-    alloc: Global,
-    bytes: &Vec<u8>,
-    at: u32,
-    phi: u32,
-) -> Result<(Blocks, u32), DocRefusal>
+fn blocks(alloc: Global, bytes: &Vec<u8>, at: u32, phi: u32) -> Result<(Blocks, u32), DocRefusal>
     requires offset { IsOffset bytes.now.items at }
     requires powers { phi ≤ 42 }
     ensures gives { Gives (λ found. (found.0, tokens_from found.1 bytes.now.items)) result

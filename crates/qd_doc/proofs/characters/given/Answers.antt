@@ -1,4 +1,3 @@
-use Rattle.std.proofs.Common.{◌≤◌}
 use Rattle.qd_doc.proofs.Entries.{few_coefficients}
 use Rattle.qd_doc.proofs.characters.given.Goals as goal
 

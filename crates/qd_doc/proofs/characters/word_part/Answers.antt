@@ -16,8 +16,8 @@ returns-then-is_text-2 c = record {
 pub returns-in-Conductor : goal.returns-in-Conductor
 returns-in-Conductor c = elim c.in-Conductor.is [
   | inl is ↦ record {
-      said = rw is (said_neither c.args.phi c.args.token.start (text_of c.args.bytes.now.items c.args.token) (sym c.if-is_text.ensures.same) (sym c.if-is_text-2.ensures.same));
-    }
+    said = rw is (said_neither c.args.phi c.args.token.start (text_of c.args.bytes.now.items c.args.token) (sym c.if-is_text.ensures.same) (sym c.if-is_text-2.ensures.same));
+  }
   | inr is ↦ absurd (c.requires.word is)
 ]
 
