@@ -60,6 +60,7 @@ stage_of parts.Row = stages.Row
 stage_of (parts.Value v) = stages.Row
 stage_of parts.End = stages.Conductor
 
+-- whether the document ends
 abbrev pub is_end : Part → Bool
 is_end parts.End = true
 is_end part = false

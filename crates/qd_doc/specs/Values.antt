@@ -17,6 +17,7 @@ begins_value text = is_digit (slice_index text 0) || slice_index text 0 == 45
 abbrev pub padded : ℕ → List ℤ → List ℤ
 padded phi front = front ++ replicate (42 - phi) (pos 0)
 
+-- the value with these 42 coefficients
 abbrev pub plain : List ℤ → Plain
 plain cs = record { coefficients = cs }
 
@@ -31,11 +32,12 @@ value_of phi text =
     if pointwise nat_eq text (codes "0") then Ok (plain (replicate 42 (pos 0)))
     else small_value phi (coefficients_of phi 0 false text)
 
--- the coefficients of that value; zeros where there is none
+-- the coefficients of a value; zeros where there is none
 abbrev pub plain_or_zeros : Result Plain ValueFault → List ℤ
 plain_or_zeros (Ok p) = p.coefficients
 plain_or_zeros (Err fault) = replicate 42 (pos 0)
 
+-- the 42 coefficients of the value that a text spells
 abbrev pub coefficients : ℕ → List ℕ → List ℤ
 coefficients phi text = plain_or_zeros (value_of phi text)
 
