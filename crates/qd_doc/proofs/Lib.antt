@@ -7,3 +7,8 @@ pub mod Lines
 pub mod RoundTrip
 pub mod Shapes
 pub mod BlockSteps
+pub mod Entries
+pub mod Parts
+pub mod ValueWords
+pub mod Sections
+pub mod ValueTexts

@@ -6,7 +6,10 @@ use Rattle.std.proofs.lemmas.List.{append-nil, take_more, take_all, map-append}
 use Rattle.std.proofs.lemmas.Grind.{flat_map-append}
 use Rattle.std.proofs.lemmas.List.Concat.{flat_map-cons}
 use Rattle.qd_doc.specs.declared.document.Document.{Document}
-use Rattle.qd_doc.specs.Canonical.{line, rows, omega_lines, canonical_lines, canonical_text}
+use Rattle.qd_doc.specs.Canonical.{line, rows, omega_lines, row_words, block_lines, characters_lines, canonical_lines, canonical_text}
+use Rattle.std.specs.Prelude.{ℤ}
+use Rattle.qd_ring.specs.ValueText.{value_text}
+use Rattle.qd_doc.specs.Blocks.{Block}
 
 -- numbers that follow another in a line
 abbrev pub spaced : List ℕ → List ℕ
@@ -74,6 +77,18 @@ rows_fit left width count i listed e =
 last_number : (digits rest : List ℕ) → ((digits ++ []) ++ 10 ∷ []) ++ rest ≡ digits ++ 10 ∷ rest
 last_number digits rest = ap (λ text. (text ++ 10 ∷ []) ++ rest) (append-nil digits) ∙ append_assoc digits (10 ∷ []) rest
 
+-- the values of a row, each after a space
+abbrev pub values_text : List (List ℤ) → List ℕ
+values_text values = flat_map (λ next. 32 ∷ next) (map value_text values)
+
+-- the lines of rows
+abbrev pub rows_text : List (List (List ℤ)) → List ℕ
+rows_text values = flat_map line (map row_words values)
+
+-- the lines of blocks
+abbrev pub blocks_text : List Block → List ℕ
+blocks_text blocks = flat_map line (flat_map block_lines blocks)
+
 front_text : (n : ℕ) (rest : List (List (List ℕ))) → flat_map line ((codes "qdouble" ∷ codes "1" ∷ []) ∷ (codes "order" ∷ decimal n ∷ []) ∷ (codes "table" ∷ []) ∷ rest)
     ≡ (codes "qdouble 1\norder " ++ (decimal n ++ codes "\ntable\n")) ++ flat_map line rest
 front_text n rest =
@@ -86,32 +101,34 @@ roots_text roots rest =
     ap (λ text. codes "roots " ++ text)
     (last_number (decimal roots) (flat_map line rest) ∙ sym (append_assoc (decimal roots) (codes "\n") (flat_map line rest)))
 
-regroup : (a t r o e : List ℕ) → (((a ++ t) ++ r) ++ o) ++ e ≡ (a ++ t) ++ ((r ++ o) ++ e)
-regroup a t r o e = simp append_assoc
+regroup : (a t r o k e : List ℕ) → ((((a ++ t) ++ r) ++ o) ++ k) ++ e ≡ (a ++ t) ++ ((r ++ o) ++ (k ++ e))
+regroup a t r o k e = simp append_assoc
 
 -- the pieces of a canonical text, put one after the other
-pub canonical_pieces : (document : Document) (a b c d e : List ℕ)
+pub canonical_pieces : (document : Document) (a b c d k e : List ℕ)
     → a ≡ codes "qdouble 1\norder " ++ (decimal document.order ++ codes "\ntable\n")
     → b ≡ a ++ flat_map line (rows document.order document.order document.table)
     → c ≡ b ++ (codes "roots " ++ (decimal document.roots ++ codes "\n"))
     → d ≡ c ++ flat_map line (omega_lines document.order document.roots document.exponents)
-    → e ≡ d ++ codes "end\n"
+    → k ≡ d ++ flat_map line (characters_lines document.characters)
+    → e ≡ k ++ codes "end\n"
     → e ≡ canonical_text document
 unfolding canonical_lines
-canonical_pieces document a b c d e ea eb ec ed ee =
+canonical_pieces document a b c d k e ea eb ec ed ek ee =
     let n = document.order in
     let table = rows n n document.table in
     let exponents = omega_lines n document.roots document.exponents in
     let front = (codes "qdouble" ∷ codes "1" ∷ []) ∷ (codes "order" ∷ decimal n ∷ []) ∷ (codes "table" ∷ []) ∷ table in
     let middle = (codes "roots" ∷ decimal document.roots ∷ []) ∷ exponents in
+    let given = characters_lines document.characters in
     let last = (codes "end" ∷ []) ∷ [] in
-    let text : flat_map line (front ++ (middle ++ last)) ≡ flat_map line front ++ (flat_map line middle ++ flat_map line last) =
-    flat_map-append line front (middle ++ last) ∙ ap (λ more. flat_map line front ++ more) (flat_map-append line middle last) in
-    let whole : flat_map line (front ++ (middle ++ last)) ≡
-    ((codes "qdouble 1\norder " ++ (decimal n ++ codes "\ntable\n")) ++ flat_map line table) ++ (((codes "roots " ++ (decimal document.roots ++ codes "\n")) ++ flat_map line exponents) ++ codes "end\n") =
-    text ∙ ap (λ t. t ++ (flat_map line middle ++ flat_map line last)) (front_text n table)
-    ∙ ap (λ t. ((codes "qdouble 1\norder " ++ (decimal n ++ codes "\ntable\n")) ++ flat_map line table) ++ (t ++ flat_map line last)) (roots_text document.roots exponents) in
+    let text : flat_map line (front ++ (middle ++ (given ++ last))) ≡ flat_map line front ++ (flat_map line middle ++ (flat_map line given ++ flat_map line last)) =
+    flat_map-append line front (middle ++ (given ++ last)) ∙ ap (λ more. flat_map line front ++ more) (flat_map-append line middle (given ++ last) ∙ ap (λ more. flat_map line middle ++ more) (flat_map-append line given last)) in
+    let whole : flat_map line (front ++ (middle ++ (given ++ last))) ≡
+    ((codes "qdouble 1\norder " ++ (decimal n ++ codes "\ntable\n")) ++ flat_map line table) ++ (((codes "roots " ++ (decimal document.roots ++ codes "\n")) ++ flat_map line exponents) ++ (flat_map line given ++ codes "end\n")) =
+    text ∙ ap (λ t. t ++ (flat_map line middle ++ (flat_map line given ++ flat_map line last))) (front_text n table)
+    ∙ ap (λ t. ((codes "qdouble 1\norder " ++ (decimal n ++ codes "\ntable\n")) ++ flat_map line table) ++ (t ++ (flat_map line given ++ flat_map line last))) (roots_text document.roots exponents) in
     let start = codes "qdouble 1\norder " ++ (decimal n ++ codes "\ntable\n") in
     let roots = codes "roots " ++ (decimal document.roots ++ codes "\n") in
-    ee ∙ ap (λ text. text ++ codes "end\n") (ed ∙ ap (λ text. text ++ flat_map line exponents) (ec ∙ ap (λ text. text ++ roots) (eb ∙ ap (λ text. text ++ flat_map line table) ea)))
-    ∙ regroup start (flat_map line table) roots (flat_map line exponents) (codes "end\n") ∙ sym whole
+    ee ∙ ap (λ text. text ++ codes "end\n") (ek ∙ ap (λ text. text ++ flat_map line given) (ed ∙ ap (λ text. text ++ flat_map line exponents) (ec ∙ ap (λ text. text ++ roots) (eb ∙ ap (λ text. text ++ flat_map line table) ea))))
+    ∙ regroup start (flat_map line table) roots (flat_map line exponents) (flat_map line given) (codes "end\n") ∙ sym whole

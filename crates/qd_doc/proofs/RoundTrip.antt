@@ -1,10 +1,10 @@
 -- The canonical text of a document is read as the document.
-use Rattle.std.proofs.Common.{◌≡◌, ℕ, zero, suc, ◌*◌, ◌%◌, ◌≤◌, ◌<◌, ◌^◌, Bool, true, false, ◌==◌, cond, nat_lt, nat_le, nat_eq, List, [], ◌∷◌, ◌++◌, length, take, drop, map, codes, Option, Some, None, Result, Ok, Err, refl, sym, ap, ◌∙◌, subst, arith, append_assoc, length-drop}
-use Rattle.std.specs.Prelude.{replicate, All, MatchResult}
+use Rattle.std.proofs.Common.{◌≡◌, ℕ, zero, suc, ◌*◌, ◌%◌, ◌≤◌, ◌<◌, ◌^◌, Bool, true, false, ◌==◌, cond, nat_lt, nat_le, nat_eq, List, [], ◌∷◌, ◌++◌, length, take, drop, map, codes, Option, Some, None, Result, Ok, Err, refl, sym, ap, ◌∙◌, subst, ◌⊎◌, inl, inr, arith, append_assoc, length-drop}
+use Rattle.std.specs.Prelude.{replicate, All, IfSome, ℤ, MatchResult}
 use Rattle.std.specs.List.{flat_map, list_all, AllByRecursion}
 use Rattle.std.specs.Fmt.{decimal}
 use Rattle.std.proofs.lemmas.Bool.{ltb-true, lt-ltb, le-leb, eqb-true, eq-eqb}
-use Rattle.std.proofs.lemmas.List.{map-append, take-append-drop, length-map}
+use Rattle.std.proofs.lemmas.List.{map-append, append-nil, take-append-drop, length-map}
 use Rattle.std.proofs.lemmas.List.Folds.{list_all-append}
 use Rattle.std.proofs.lemmas.Grind.{flat_map-append}
 use Rattle.std.proofs.lemmas.List.Elements.{recursion_from_All}
@@ -12,20 +12,34 @@ use Rattle.qd_text.specs.Tokens.{Lexeme, tokens, is_token_byte}
 use Rattle.qd_text.specs.Numbers.{value}
 use Rattle.qd_text.specs.Words.{word_of}
 use Rattle.qd_text.specs.declared.expected.Expected.{Expected}
-use Rattle.qd_text.specs.declared.expected.Expected.TheVariants.{Qdouble, One, Order, Table, Roots, Omega}
+use Rattle.qd_text.specs.declared.expected.Expected.TheVariants.{Qdouble, One, Order, Table, Roots, Omega, Characters}
 use Rattle.qd_text.proofs.Decimals.{decimal_spells, number_of-decimal, digits_are_word}
 use Rattle.qd_text.proofs.Texts.{text, words_of, words_of-nil, words_of-word, words_of-blank, is_plain}
 use Rattle.qd_text.proofs.Lexemes.{and-true}
-use Rattle.qd_doc.specs.declared.document.Form.TheVariants.{Bare}
+use Rattle.cyclotomic.specs.Conductors.{is_conductor, phi_of}
+use Rattle.qd_ring.specs.ValueText.{value_text}
+use Rattle.qd_doc.specs.Blocks.{Block, block}
+use Rattle.qd_doc.specs.Values.{plain}
+use Rattle.qd_doc.specs.Section.{kind_after, word_part, part_of, stage_of, is_end, with_part}
+use Rattle.qd_doc.specs.declared.part.Stage.{Stage}
+use Rattle.qd_doc.specs.declared.part.Stage.TheVariants as stages
+use Rattle.qd_doc.specs.declared.part.Part.{Part}
+use Rattle.qd_doc.specs.declared.part.Part.TheVariants as parts
+use Rattle.qd_doc.specs.declared.document.Given.{Given}
+use Rattle.qd_doc.specs.declared.document.Form.TheVariants.{Bare, WithCharacters}
+use Rattle.qd_doc.proofs.Entries.{small_entry}
+use Rattle.qd_doc.proofs.Parts.{with_row_is, with_value_is}
 use Rattle.qd_doc.specs.declared.document.Document.{Document}
 use Rattle.qd_doc.specs.declared.refusal.DocRefusal.{DocRefusal}
 use Rattle.qd_doc.specs.declared.refusal.DocRefusal.TheVariants as refusals
-use Rattle.qd_doc.specs.Kinds.{What, Word, Natural, OrderNumber, RootsNumber, FormWord, EndWord, NoToken, is_word, is_form, refusal, missing, number_refusal}
+use Rattle.qd_doc.specs.Kinds.{What, Word, Natural, OrderNumber, RootsNumber, FormWord, EndWord, NoToken, ConductorNumber, is_word, is_form, refusal, missing, number_refusal}
 use Rattle.qd_doc.specs.Grammar.{first_refusal, stop_of}
-use Rattle.qd_doc.specs.Contents.{Parses, document_of, IsInRange}
-use Rattle.qd_doc.specs.Reading.{◌>>=◌, read, skip, read_number, read_numbers, read_order, read_roots, listing_of, read_exponents, read_end, read_document}
-use Rattle.qd_doc.specs.Canonical.{line, rows, reduced, are_trivial, omega_lines, canonical_lines, canonical_text, reduced_document, PrintedIsRead}
-use Rattle.qd_doc.proofs.Places.{Reads, reads_document}
+use Rattle.qd_doc.specs.Contents.{Parses, document_of, IsValueOf, IsGivenInRange, IsInRange}
+use Rattle.qd_doc.specs.Reading.{◌>>=◌, read, skip, read_number, read_numbers, read_order, read_roots, listing_of, read_exponents, read_end, read_blocks, read_given, read_characters, read_document}
+use Rattle.qd_doc.specs.Canonical.{line, rows, reduced, are_trivial, omega_lines, row_words, block_lines, characters_lines, canonical_lines, canonical_text, reduced_document, form_of, IsNarrow, PrintedIsRead}
+use Rattle.qd_doc.proofs.Places.{Reads}
+use Rattle.qd_doc.proofs.Sections.{reads_document}
+use Rattle.qd_doc.proofs.ValueTexts.{plain-value, value_fits, value_said}
 
 -- ---- the words of lines
 
@@ -118,11 +132,15 @@ words_in-omega : (n roots : ℕ) (exponents : List ℕ) → length exponents ≡
 unfolding omega_lines exponent_words
 words_in-omega n roots exponents e = omega_by n roots exponents (are_trivial roots exponents) e
 
+-- the words of what follows the exponents
+characters_words : Option Given → List (List ℕ)
+characters_words characters = words_in (characters_lines characters)
+
 -- the words of a document
 document_words : Document → List (List ℕ)
 document_words document =
     codes "qdouble" ∷ codes "1" ∷ codes "order" ∷ decimal document.order ∷ codes "table" ∷ (map decimal document.table
-    ++ (codes "roots" ∷ decimal document.roots ∷ codes "omega" ∷ (exponent_words document.roots document.exponents ++ codes "end" ∷ [])))
+    ++ (codes "roots" ∷ decimal document.roots ∷ codes "omega" ∷ (exponent_words document.roots document.exponents ++ (characters_words document.characters ++ codes "end" ∷ []))))
 
 words_in-append : (a b : List (List (List ℕ))) → words_in (a ++ b) ≡ words_in a ++ words_in b
 unfolding words_in
@@ -142,23 +160,26 @@ unfolding words_in
 words_in-end = refl
 
 words_in-document : (document : Document) → IsInRange document → words_in (canonical_lines document) ≡ document_words document
-unfolding canonical_lines document_words
+unfolding canonical_lines document_words characters_words
 words_in-document document in_range =
     let n = document.order in
     let table = rows n n document.table in
     let exponents = omega_lines n document.roots document.exponents in
     let front = (codes "qdouble" ∷ codes "1" ∷ []) ∷ (codes "order" ∷ decimal n ∷ []) ∷ (codes "table" ∷ []) ∷ table in
     let middle = (codes "roots" ∷ decimal document.roots ∷ []) ∷ exponents in
+    let given = characters_lines document.characters in
     let last = (codes "end" ∷ []) ∷ [] in
     let front_words : words_in front ≡ codes "qdouble" ∷ codes "1" ∷ codes "order" ∷ decimal n ∷ codes "table" ∷ map decimal document.table =
     words_in-front n table ∙ ap (λ words. codes "qdouble" ∷ codes "1" ∷ codes "order" ∷ decimal n ∷ codes "table" ∷ words) (words_in-rows n n document.table in_range.table) in
     let middle_words : words_in middle ≡ codes "roots" ∷ decimal document.roots ∷ codes "omega" ∷ exponent_words document.roots document.exponents =
     words_in-roots document.roots exponents ∙ ap (λ words. codes "roots" ∷ decimal document.roots ∷ words) (words_in-omega n document.roots document.exponents in_range.exponents) in
-    words_in-append front (middle ++ last)
-    ∙ ap (λ words. words_in front ++ words) (words_in-append middle last)
-    ∙ ap (λ words. words ++ (words_in middle ++ words_in last)) front_words
-    ∙ ap (λ words. (codes "qdouble" ∷ codes "1" ∷ codes "order" ∷ decimal n ∷ codes "table" ∷ map decimal document.table) ++ (words ++ words_in last)) middle_words
-    ∙ ap (λ words. (codes "qdouble" ∷ codes "1" ∷ codes "order" ∷ decimal n ∷ codes "table" ∷ map decimal document.table) ++ ((codes "roots" ∷ decimal document.roots ∷ codes "omega" ∷ exponent_words document.roots document.exponents) ++ words)) words_in-end
+    let last_words : words_in (given ++ last) ≡ words_in given ++ codes "end" ∷ [] =
+    words_in-append given last ∙ ap (λ words. words_in given ++ words) words_in-end in
+    words_in-append front (middle ++ (given ++ last))
+    ∙ ap (λ words. words_in front ++ words) (words_in-append middle (given ++ last))
+    ∙ ap (λ words. words ++ (words_in middle ++ words_in (given ++ last))) front_words
+    ∙ ap (λ words. (codes "qdouble" ∷ codes "1" ∷ codes "order" ∷ decimal n ∷ codes "table" ∷ map decimal document.table) ++ (words ++ words_in (given ++ last))) middle_words
+    ∙ ap (λ words. (codes "qdouble" ∷ codes "1" ∷ codes "order" ∷ decimal n ∷ codes "table" ∷ map decimal document.table) ++ ((codes "roots" ∷ decimal document.roots ∷ codes "omega" ∷ exponent_words document.roots document.exponents) ++ words)) last_words
 
 small-reduced : (roots : ℕ) (exponents : List ℕ) → 1 ≤ roots → roots ≤ 64 → AreSmall (reduced roots exponents)
 small-reduced roots [] low high = tt
@@ -169,25 +190,91 @@ plain-exponents : (roots : ℕ) (exponents : List ℕ) (b : Bool) → 1 ≤ root
 plain-exponents roots exponents true low high = refl
 plain-exponents roots exponents false low high = plain-numbers (reduced roots exponents) (small-reduced roots exponents low high)
 
-plain-document : (document : Document) → IsInRange document → AreSmall document.table → list_all is_plain (document_words document) ≡ true
+-- ---- blocks
+
+first_of : {X : Type 0} (P : X → Type 0) (x : X) (xs : List X) → All P (x ∷ xs) → P x
+first_of P x xs all = all 0 x (omega arith)
+
+rest_of : {X : Type 0} (P : X → Type 0) (x : X) (xs : List X) → All P (x ∷ xs) → All P xs
+rest_of P x xs all = λ k d within. all (suc k) d (omega arith)
+
+-- all words are plain
+abbrev ArePlain : List (List ℕ) → Type 0
+ArePlain words = list_all is_plain words ≡ true
+
+plain-append : (a b : List (List ℕ)) → ArePlain a → ArePlain b → ArePlain (a ++ b)
+plain-append a b x y = list_all-append is_plain a b ∙ rw (x, y) refl
+
+plain-values : (values : List (List ℤ)) → ArePlain (map value_text values)
+plain-values [] = refl
+plain-values (v ∷ values) = rw (plain-value v, plain-values values) refl
+
+words_in-row : (row : List (List ℤ)) (rows : List (List (List ℤ))) → words_in (map row_words (row ∷ rows)) ≡ codes "row" ∷ (map value_text row ++ words_in (map row_words rows))
+unfolding words_in
+words_in-row row rows = refl
+
+words_in-nil : words_in [] ≡ []
+unfolding words_in
+words_in-nil = refl
+
+plain-rows : (rows : List (List (List ℤ))) → ArePlain (words_in (map row_words rows))
+plain-rows [] = ap (list_all is_plain) words_in-nil
+plain-rows (row ∷ rows) = ap (list_all is_plain) (words_in-row row rows) ∙ plain-append (map value_text row) (words_in (map row_words rows)) (plain-values row) (plain-rows rows)
+
+words_in-block : (b : Block) (blocks : List Block) → words_in (flat_map block_lines (b ∷ blocks)) ≡ codes "class" ∷ decimal b.representative ∷ (words_in (map row_words b.rows) ++ words_in (flat_map block_lines blocks))
+unfolding words_in
+words_in-block b blocks = flat_map-append (λ words. words) (block_lines b) (flat_map block_lines blocks)
+
+-- the numbers of blocks fit in 32 bits
+abbrev HasSmallNumber : Block → Type 0
+HasSmallNumber b = b.representative < 2 ^ 32
+
+plain-blocks : (blocks : List Block) → All HasSmallNumber blocks → ArePlain (words_in (flat_map block_lines blocks))
+plain-blocks [] small = ap (list_all is_plain) words_in-nil
+plain-blocks (b ∷ blocks) small =
+    let number = is_plain-decimal b.representative (omega (arith, first_of HasSmallNumber b blocks small)) in
+    let later = plain-append (words_in (map row_words b.rows)) (words_in (flat_map block_lines blocks)) (plain-rows b.rows) (plain-blocks blocks (rest_of HasSmallNumber b blocks small)) in
+    ap (list_all is_plain) (words_in-block b blocks) ∙ rw (number, later) refl
+
+words_in-given : (given : Given) → characters_words (Some given) ≡ codes "characters" ∷ decimal given.conductor ∷ words_in (flat_map block_lines given.blocks)
+unfolding characters_words characters_lines words_in
+words_in-given given = refl
+
+words_in-bare : characters_words None ≡ []
+unfolding characters_words characters_lines words_in
+words_in-bare = refl
+
+plain-characters : (characters : Option Given) → IfSome characters IsGivenInRange → IfSome characters (λ given. All HasSmallNumber given.blocks) → ArePlain (characters_words characters)
+plain-characters None in_range small = ap (list_all is_plain) words_in-bare
+plain-characters (Some given) in_range small =
+    let conductor = is_plain-decimal given.conductor (omega (arith, small_entry given.conductor in_range.conductor)) in
+    let blocks = plain-blocks given.blocks small in
+    ap (list_all is_plain) (words_in-given given) ∙ rw (conductor, blocks) refl
+
+-- what is asked of the numbers of a document
+record IsFine (document : Document) : Type 0 where
+  in_range : IsInRange document
+  table : AreSmall document.table
+  classes : IfSome document.characters (λ given. All HasSmallNumber given.blocks)
+
+plain-document : (document : Document) → IsFine document → list_all is_plain (document_words document) ≡ true
 unfolding document_words exponent_words
-plain-document document in_range small =
+plain-document document fine =
+    let in_range = fine.in_range in
     let order = is_plain-decimal document.order (omega (arith, in_range.order.1)) in
     let roots = is_plain-decimal document.roots (omega (arith, in_range.roots.1)) in
-    let table = plain-numbers document.table small in
     let exponents = plain-exponents document.roots document.exponents (are_trivial document.roots document.exponents) in_range.roots.0 in_range.roots.1 in
-    let end_words : list_all is_plain (exponent_words document.roots document.exponents ++ codes "end" ∷ []) ≡ true =
-    list_all-append is_plain (exponent_words document.roots document.exponents) (codes "end" ∷ []) ∙ rw exponents refl in
-    let later : list_all is_plain (codes "roots" ∷ decimal document.roots ∷ codes "omega" ∷ (exponent_words document.roots document.exponents ++ codes "end" ∷ [])) ≡ true = rw (roots, end_words) refl in
-    let table_words : list_all is_plain (map decimal document.table ++ (codes "roots" ∷ decimal document.roots ∷ codes "omega" ∷ (exponent_words document.roots document.exponents ++ codes "end" ∷ []))) ≡ true =
-    list_all-append is_plain (map decimal document.table) (codes "roots" ∷ decimal document.roots ∷ codes "omega" ∷ (exponent_words document.roots document.exponents ++ codes "end" ∷ [])) ∙ rw (table, later) refl in
+    let end_words = plain-append (characters_words document.characters) (codes "end" ∷ []) (plain-characters document.characters in_range.characters fine.classes) refl in
+    let later_words = plain-append (exponent_words document.roots document.exponents) (characters_words document.characters ++ codes "end" ∷ []) exponents end_words in
+    let later : ArePlain (codes "roots" ∷ decimal document.roots ∷ codes "omega" ∷ (exponent_words document.roots document.exponents ++ (characters_words document.characters ++ codes "end" ∷ []))) = rw (roots, later_words) refl in
+    let table_words = plain-append (map decimal document.table) (codes "roots" ∷ decimal document.roots ∷ codes "omega" ∷ (exponent_words document.roots document.exponents ++ (characters_words document.characters ++ codes "end" ∷ []))) (plain-numbers document.table fine.table) later in
     rw (order, table_words) refl
 
 -- the tokens of a canonical text spell the words of the document
-words_of-document : (document : Document) → IsInRange document → AreSmall document.table → words_of (canonical_text document) ≡ document_words document
-words_of-document document in_range small =
-    let words = words_in-document document in_range in
-    let plain : list_all is_plain (words_in (canonical_lines document)) ≡ true = rw words (plain-document document in_range small) in
+words_of-document : (document : Document) → IsFine document → words_of (canonical_text document) ≡ document_words document
+words_of-document document fine =
+    let words = words_in-document document fine.in_range in
+    let plain : list_all is_plain (words_in (canonical_lines document)) ≡ true = rw words (plain-document document fine) in
     words_of-lines (canonical_lines document) (plain-lines (canonical_lines document) plain) ∙ words
 
 -- exponents that are all 0
@@ -345,45 +432,201 @@ module _ (offset : ℕ) where
   nothing_ok [] Q e on = on
   nothing_ok (token ∷ left) Q e on = absurd cc
 
-  end_ok : (left : List Lexeme) (Q : List Lexeme → Type 0) → map text left ≡ codes "end" ∷ [] → Q [] → ReadsTo (read_end offset left) Q
-  unfolding read_end
-  end_ok left Q e on =
-      reads_bind (skip offset EndWord left) _ Q (skip_ok EndWord left (codes "end") [] _ e end_fits (λ rest more. nothing_ok rest Q more on))
+  bare_ok : (left : List Lexeme) (Q : Option Given → Type 0) → map text left ≡ codes "end" ∷ [] → Q None → ReadsTo (read_characters offset Bare left) Q
+  unfolding read_characters read_end
+  bare_ok left Q e on =
+      reads_bind (read_end offset left) (λ rest. Ok None) Q
+      (reads_bind (skip offset EndWord left) _ _ (skip_ok EndWord left (codes "end") [] _ e end_fits (λ rest more. nothing_ok rest (λ rest. Q None) more on)))
+
+  -- ---- the section of characters
+
+  module _ (k : ℕ) (entry : is_conductor k ≡ true) (Q : (List Block × List Lexeme) → Type 0) where
+    phi : ℕ
+    phi = phi_of k
+
+    -- reading goes on from these blocks
+    GoesOn : Stage → List Block → List (List ℕ) → Type 0
+    GoesOn stage blocks words = (left : List Lexeme) → map text left ≡ words → ReadsTo (read_blocks offset phi stage blocks left) Q
+
+    -- one word that isn't the last
+    part_ok : (stage : Stage) (blocks : List Block) (word : List ℕ) (words : List (List ℕ)) (part : Part)
+        → ((start : ℕ) → refusal (kind_after phi stage) (record { start = start; text = word }) ≡ None) → part_of phi stage word ≡ part → is_end part ≡ false
+        → GoesOn (stage_of part) (with_part part blocks) words → GoesOn stage blocks (word ∷ words)
+    unfolding GoesOn read_blocks
+    part_ok stage blocks word words part fits said no_end on [] e = absurd cc
+    part_ok stage blocks word words part fits said no_end on (token ∷ left) e =
+        let ends = cons_parts token.text word (map text left) words e in
+        let fit : refusal (kind_after phi stage) token ≡ None = subst (λ (v : List ℕ). refusal (kind_after phi stage) (record { start = token.start; text = v }) ≡ None) (sym ends.0) (fits token.start) in
+        let here : part_of phi stage token.text ≡ part = ap (part_of phi stage) ends.0 ∙ said in
+        rw (fit, here, no_end) (on left ends.1)
+
+    end_by : (stage : Stage) (blocks : List Block) → ((start : ℕ) → refusal (kind_after phi stage) (record { start = start; text = codes "end" }) ≡ None) → part_of phi stage (codes "end") ≡ parts.End
+        → ((rest : List Lexeme) → map text rest ≡ [] → Q (blocks, rest)) → GoesOn stage blocks (codes "end" ∷ [])
+    unfolding GoesOn read_blocks
+    end_by stage blocks fits said on [] e = absurd cc
+    end_by stage blocks fits said on (token ∷ left) e =
+        let ends = cons_parts token.text (codes "end") (map text left) [] e in
+        let fit : refusal (kind_after phi stage) token ≡ None = subst (λ (v : List ℕ). refusal (kind_after phi stage) (record { start = token.start; text = v }) ≡ None) (sym ends.0) (fits token.start) in
+        let here : part_of phi stage token.text ≡ parts.End = ap (part_of phi stage) ends.0 ∙ said in
+        rw (fit, here) (on left ends.1)
+
+    -- the values of a row
+    values_ok : (front : List Block) (number : ℕ) (rows : List (List (List ℤ))) (done values : List (List ℤ)) (words : List (List ℕ)) → All (IsValueOf k) values
+        → GoesOn stages.Row (front ++ block number (rows ++ (done ++ values) ∷ []) ∷ []) words
+        → GoesOn stages.Row (front ++ block number (rows ++ done ∷ []) ∷ []) (map value_text values ++ words)
+    unfolding phi
+    values_ok front number rows done [] words are on =
+        subst (λ (row : List (List ℤ)). GoesOn stages.Row (front ++ block number (rows ++ row ∷ []) ∷ []) words) (append-nil done) on
+    values_ok front number rows done (v ∷ values) words are on =
+        let is = first_of (IsValueOf k) v values are in
+        let longer : (done ++ v ∷ []) ++ values ≡ done ++ v ∷ values = append_assoc done (v ∷ []) values in
+        part_ok stages.Row (front ++ block number (rows ++ done ∷ []) ∷ []) (value_text v) (map value_text values ++ words) (parts.Value (plain v)) (value_fits k entry v is) (value_said k entry v is) refl
+        (subst (λ (blocks : List Block). GoesOn stages.Row blocks (map value_text values ++ words)) (sym (with_value_is front number rows done v))
+        (values_ok front number rows (done ++ v ∷ []) values words (rest_of (IsValueOf k) v values are)
+        (subst (λ (row : List (List ℤ)). GoesOn stages.Row (front ++ block number (rows ++ row ∷ []) ∷ []) words) (sym longer) on)))
+
+    -- a stage at which a row, a block or the end may follow
+    abbrev IsLate : Stage → Type 0
+    IsLate stage = (stage ≡ stages.Number) ⊎ (stage ≡ stages.Row)
+
+    late_fits : (stage : Stage) → IsLate stage → (word : List ℕ) → ((start : ℕ) → refusal (kind_after phi stages.Number) (record { start = start; text = word }) ≡ None)
+        → ((start : ℕ) → refusal (kind_after phi stages.Row) (record { start = start; text = word }) ≡ None) → (start : ℕ) → refusal (kind_after phi stage) (record { start = start; text = word }) ≡ None
+    late_fits stage (inl e) word a b start = rw e (a start)
+    late_fits stage (inr e) word a b start = rw e (b start)
+
+    late_said : (stage : Stage) → IsLate stage → (word : List ℕ) → part_of phi stage word ≡ word_part phi word
+    late_said stage (inl e) word = rw e refl
+    late_said stage (inr e) word = rw e refl
+
+    row_fits : (stage : Stage) → IsLate stage → (start : ℕ) → refusal (kind_after phi stage) (record { start = start; text = codes "row" }) ≡ None
+    unfolding refusal
+    row_fits stage late = late_fits stage late (codes "row") (λ start. refl) (λ start. refl)
+
+    class_fits : (stage : Stage) → IsLate stage → (start : ℕ) → refusal (kind_after phi stage) (record { start = start; text = codes "class" }) ≡ None
+    unfolding refusal
+    class_fits stage late = late_fits stage late (codes "class") (λ start. refl) (λ start. refl)
+
+    finish_fits : (stage : Stage) → IsLate stage → (start : ℕ) → refusal (kind_after phi stage) (record { start = start; text = codes "end" }) ≡ None
+    unfolding refusal
+    finish_fits stage late = late_fits stage late (codes "end") (λ start. refl) (λ start. refl)
+
+    -- the rows of a block
+    rows_ok : (stage : Stage) (front : List Block) (number : ℕ) (done rows : List (List (List ℤ))) (words : List (List ℕ)) → IsLate stage → All (λ row. All (IsValueOf k) row) rows
+        → ((later : Stage) → IsLate later → GoesOn later (front ++ block number (done ++ rows) ∷ []) words)
+        → GoesOn stage (front ++ block number done ∷ []) (words_in (map row_words rows) ++ words)
+    rows_ok stage front number done [] words late are on =
+        rw words_in-nil (subst (λ (rows : List (List (List ℤ))). GoesOn stage (front ++ block number rows ∷ []) words) (append-nil done) (on stage late))
+    rows_ok stage front number done (row ∷ rows) words late are on =
+        let longer : (done ++ row ∷ []) ++ rows ≡ done ++ row ∷ rows = append_assoc done (row ∷ []) rows in
+        let regrouped : (codes "row" ∷ (map value_text row ++ words_in (map row_words rows))) ++ words ≡ codes "row" ∷ (map value_text row ++ (words_in (map row_words rows) ++ words)) =
+        ap (λ more. codes "row" ∷ more) (append_assoc (map value_text row) (words_in (map row_words rows)) words) in
+        rw (words_in-row row rows, regrouped)
+        (part_ok stage (front ++ block number done ∷ []) (codes "row") (map value_text row ++ (words_in (map row_words rows) ++ words)) parts.Row (row_fits stage late) (late_said stage late (codes "row")) refl
+        (subst (λ (blocks : List Block). GoesOn stages.Row blocks (map value_text row ++ (words_in (map row_words rows) ++ words))) (sym (with_row_is front number done))
+        (values_ok front number done [] row (words_in (map row_words rows) ++ words) (first_of (λ row. All (IsValueOf k) row) row rows are)
+        (rows_ok stages.Row front number (done ++ row ∷ []) rows words (inr refl) (rest_of (λ row. All (IsValueOf k) row) row rows are)
+        (λ later is. subst (λ (rows : List (List (List ℤ))). GoesOn later (front ++ block number rows ∷ []) words) (sym longer) (on later is))))))
+
+    -- a block and what follows it, from a stage at which its first word may stand
+    block_ok : (stage : Stage) (front : List Block) (b : Block) (words : List (List ℕ)) → ((start : ℕ) → refusal (kind_after phi stage) (record { start = start; text = codes "class" }) ≡ None) → part_of phi stage (codes "class") ≡ parts.Class
+        → HasSmallNumber b → All (λ row. All (IsValueOf k) row) b.rows
+        → ((later : Stage) → IsLate later → GoesOn later (front ++ b ∷ []) words)
+        → GoesOn stage front (codes "class" ∷ decimal b.representative ∷ (words_in (map row_words b.rows) ++ words))
+    block_ok stage front b words fits said small are on =
+        let number : parts.Number (value (decimal b.representative)) ≡ parts.Number b.representative = ap parts.Number (decimal_spells b.representative (omega (arith, small))).value_is in
+        part_ok stage front (codes "class") (decimal b.representative ∷ (words_in (map row_words b.rows) ++ words)) parts.Class fits said refl
+        (part_ok stages.Class front (decimal b.representative) (words_in (map row_words b.rows) ++ words) (parts.Number b.representative) (λ start. natural_fits b.representative start small) number refl
+        (rows_ok stages.Number front b.representative [] b.rows words (inl refl) are on))
+
+    blocks_ok : (stage : Stage) (front blocks : List Block) → IsLate stage → All HasSmallNumber blocks → All (λ (b : Block). All (λ row. All (IsValueOf k) row) b.rows) blocks
+        → ((rest : List Lexeme) → map text rest ≡ [] → Q (front ++ blocks, rest))
+        → GoesOn stage front (words_in (flat_map block_lines blocks) ++ codes "end" ∷ [])
+    blocks_ok stage front [] late small are on =
+        rw words_in-nil (end_by stage front (finish_fits stage late) (late_said stage late (codes "end"))
+        (λ rest e. subst (λ (blocks : List Block). Q (blocks, rest)) (append-nil front) (on rest e)))
+    blocks_ok stage front (b ∷ blocks) late small are on =
+        let regrouped : (codes "class" ∷ decimal b.representative ∷ (words_in (map row_words b.rows) ++ words_in (flat_map block_lines blocks))) ++ codes "end" ∷ []
+        ≡ codes "class" ∷ decimal b.representative ∷ (words_in (map row_words b.rows) ++ (words_in (flat_map block_lines blocks) ++ codes "end" ∷ [])) =
+        ap (λ more. codes "class" ∷ decimal b.representative ∷ more) (append_assoc (words_in (map row_words b.rows)) (words_in (flat_map block_lines blocks)) (codes "end" ∷ [])) in
+        rw (words_in-block b blocks, regrouped)
+        (block_ok stage front b (words_in (flat_map block_lines blocks) ++ codes "end" ∷ []) (class_fits stage late) (late_said stage late (codes "class"))
+        (first_of HasSmallNumber b blocks small) (first_of (λ (b : Block). All (λ row. All (IsValueOf k) row) b.rows) b blocks are)
+        (λ later is. blocks_ok later (front ++ b ∷ []) blocks is (rest_of HasSmallNumber b blocks small) (rest_of (λ (b : Block). All (λ row. All (IsValueOf k) row) b.rows) b blocks are)
+        (λ rest e. subst (λ (all : List Block). Q (all, rest)) (sym (append_assoc front (b ∷ []) blocks)) (on rest e))))
+
+    -- the blocks after the conductor
+    all_blocks_ok : (blocks : List Block) → All HasSmallNumber blocks → All (λ (b : Block). All (λ row. All (IsValueOf k) row) b.rows) blocks
+        → ((rest : List Lexeme) → map text rest ≡ [] → Q (blocks, rest))
+        → GoesOn stages.Conductor [] (words_in (flat_map block_lines blocks) ++ codes "end" ∷ [])
+    unfolding refusal
+    all_blocks_ok [] small are on = rw words_in-nil (end_by stages.Conductor [] (λ start. refl) refl on)
+    all_blocks_ok (b ∷ blocks) small are on =
+        let regrouped : (codes "class" ∷ decimal b.representative ∷ (words_in (map row_words b.rows) ++ words_in (flat_map block_lines blocks))) ++ codes "end" ∷ []
+        ≡ codes "class" ∷ decimal b.representative ∷ (words_in (map row_words b.rows) ++ (words_in (flat_map block_lines blocks) ++ codes "end" ∷ [])) =
+        ap (λ more. codes "class" ∷ decimal b.representative ∷ more) (append_assoc (words_in (map row_words b.rows)) (words_in (flat_map block_lines blocks)) (codes "end" ∷ [])) in
+        rw (words_in-block b blocks, regrouped)
+        (block_ok stages.Conductor [] b (words_in (flat_map block_lines blocks) ++ codes "end" ∷ []) (λ start. refl) refl
+        (first_of HasSmallNumber b blocks small) (first_of (λ (b : Block). All (λ row. All (IsValueOf k) row) b.rows) b blocks are)
+        (λ later is. blocks_ok later (b ∷ []) blocks is (rest_of HasSmallNumber b blocks small) (rest_of (λ (b : Block). All (λ row. All (IsValueOf k) row) b.rows) b blocks are) on))
+
+  conductor_fits : (k start : ℕ) → is_conductor k ≡ true → refusal ConductorNumber (record { start = start; text = decimal k }) ≡ None
+  unfolding refusal
+  conductor_fits k start entry = ap (number_refusal ConductorNumber start) (number_of-decimal k (omega (arith, small_entry k entry))) ∙ rw entry refl
+
+  given_ok : (given : Given) (left : List Lexeme) (Q : Option Given → Type 0) → IsGivenInRange given → All HasSmallNumber given.blocks
+      → map text left ≡ (codes "characters" ∷ decimal given.conductor ∷ words_in (flat_map block_lines given.blocks)) ++ codes "end" ∷ []
+      → Q (Some given) → ReadsTo (read_characters offset WithCharacters left) Q
+  unfolding read_characters read_given GoesOn phi
+  given_ok given left Q in_range small e on =
+      let k = given.conductor in
+      reads_bind (read_given offset left) _ Q
+      (reads_bind (skip offset (Word Characters) left) _ _ (word_ok Characters left _ _ e (λ left1 e1.
+      reads_bind (read_number offset ConductorNumber left1) _ _ (number_ok ConductorNumber k left1 _ _ (omega (arith, small_entry k in_range.conductor)) e1 (λ start. conductor_fits k start in_range.conductor) (λ left2 e2.
+      reads_bind (read_blocks offset (phi_of k) stages.Conductor [] left2) _ _ (all_blocks_ok k in_range.conductor _ given.blocks small in_range.values
+      (λ rest none. reads_bind (skip offset NoToken rest) _ Q (nothing_ok rest _ none on)) left2 e2))))))
+
+  characters_ok : (characters : Option Given) (left : List Lexeme) (Q : Option Given → Type 0) → IfSome characters IsGivenInRange → IfSome characters (λ given. All HasSmallNumber given.blocks)
+      → map text left ≡ characters_words characters ++ codes "end" ∷ [] → Q characters → ReadsTo (read_characters offset (form_of characters) left) Q
+  characters_ok None left Q in_range small e on = bare_ok left Q (e ∙ ap (λ words. words ++ codes "end" ∷ []) words_in-bare) on
+  characters_ok (Some given) left Q in_range small e on = given_ok given left Q in_range small (e ∙ ap (λ words. words ++ codes "end" ∷ []) (words_in-given given)) on
 
   -- the words of a document are read as the document
-  document_ok : (document : Document) (all : List Lexeme) → IsInRange document → AreSmall document.table
-      → map text all ≡ document_words document → ReadsTo (read_document offset all) (λ read. read ≡ reduced_document document)
+  document_ok : (document : Document) (all : List Lexeme) → IsFine document
+      → map text all ≡ document_words document → ReadsTo (read_document offset (form_of document.characters) all) (λ read. read ≡ reduced_document document)
   unfolding read_document document_words exponent_words
-  document_ok document all in_range small e =
+  document_ok document all fine e =
       let n = document.order in
+      let in_range = fine.in_range in
+      let form = form_of document.characters in
       let Q : Document → Type 0 = λ read. read ≡ reduced_document document in
       reads_bind (read_order offset all) _ Q (order_ok n all _ _ in_range.order.0 in_range.order.1 e (λ left1 e1.
-      reads_bind (read_numbers offset (n * n) left1) _ Q (count_ok (n * n) document.table left1 _ _ in_range.table small e1 (λ left2 e2.
+      reads_bind (read_numbers offset (n * n) left1) _ Q (count_ok (n * n) document.table left1 _ _ in_range.table fine.table e1 (λ left2 e2.
       reads_bind (read_roots offset left2) _ Q (roots_ok document.roots left2 _ _ in_range.roots.0 in_range.roots.1 e2 (λ left3 e3.
-      reads_bind (read_exponents offset n left3) _ Q (exponents_by n document.roots document.exponents (are_trivial document.roots document.exponents) left3 (codes "end" ∷ []) _ refl in_range.exponents in_range.roots.0 in_range.roots.1 e3 (λ left4 e4.
-      reads_bind (read_end offset left4) _ Q (end_ok left4 _ e4 refl)))))))))
+      reads_bind (read_exponents offset n left3) _ Q (exponents_by n document.roots document.exponents (are_trivial document.roots document.exponents) left3 (characters_words document.characters ++ codes "end" ∷ []) _ refl in_range.exponents in_range.roots.0 in_range.roots.1 e3 (λ left4 e4.
+      reads_bind (read_characters offset form left4) _ Q (characters_ok document.characters left4 _ in_range.characters fine.classes e4 refl)))))))))
 
 -- what is known of a canonical text: no token is refused, and its contents are the document's
 pub record IsReadBack (document : Document) : Type 0 where
-  pub whole : stop_of Bare (canonical_text document) ≡ None
-  pub contents : document_of (tokens (canonical_text document)) ≡ reduced_document document
+  pub whole : stop_of (form_of document.characters) (canonical_text document) ≡ None
+  pub contents : document_of (form_of document.characters) (tokens (canonical_text document)) ≡ reduced_document document
 
-pub read_back : (document : Document) → IsInRange document → All (λ number. number < 2 ^ 32) document.table → IsReadBack document
+pub read_back : (document : Document) → IsInRange document → IsNarrow document → IsReadBack document
 unfolding stop_of
-read_back document in_range small =
+read_back document in_range narrow =
     let bytes = canonical_text document in
     let all = tokens bytes in
     let offset = length bytes in
-    let few = recursion_from_All (λ number. number < 2 ^ 32) document.table small in
-    let found = reads_ok offset (read_document offset all) (λ read. read ≡ reduced_document document)
-    (document_ok offset document all in_range few (words_of-document document in_range few)) in
-    let known : Reads offset all (Ok found.0) (λ read. (first_refusal Bare offset all ≡ None) × (read ≡ document_of all)) = rw found.1 at (reads_document offset all) in
+    let form = form_of document.characters in
+    let fine : IsFine document = record { in_range = in_range; table = recursion_from_All (λ number. number < 2 ^ 32) document.table narrow.table; classes = narrow.classes } in
+    let found = reads_ok offset (read_document offset form all) (λ read. read ≡ reduced_document document)
+    (document_ok offset document all fine (words_of-document document fine)) in
+    let known : Reads form offset all (Ok found.0) (λ read. (first_refusal form offset all ≡ None) × (read ≡ document_of form all)) = rw found.1 at (reads_document offset all form) in
     record { whole = known.0; contents = sym known.1 ∙ found.2 }
 
 none_refused : {o : Option DocRefusal} {r : DocRefusal} → o ≡ None → o ≡ Some r → ⊥
 none_refused e f = cc
 
-read_by : (document : Document) (answer : Result Document DocRefusal) → IsReadBack document → Parses Bare (canonical_text document) answer
+read_by : (document : Document) (answer : Result Document DocRefusal) → IsReadBack document → Parses (form_of document.characters) (canonical_text document) answer
     → MatchResult answer (λ read. read ≡ reduced_document document) (λ refusal. refusal ≡ refusals.Memory)
 read_by document (Ok read) back parses = parses.1 ∙ back.contents
 read_by document (Err (refusals.Syntax offset expected)) back parses = absurd (none_refused back.whole parses)
@@ -394,6 +637,6 @@ read_by document (Err (refusals.Roots number)) back parses = absurd (none_refuse
 read_by document (Err refusals.Memory) back parses = refl
 
 pub printed_is_read : PrintedIsRead
-printed_is_read document in_range small =
-    let back = read_back document in_range small in
+printed_is_read document in_range narrow =
+    let back = read_back document in_range narrow in
     (back.whole, λ answer parses. read_by document answer back parses)

@@ -7,6 +7,7 @@ pub record Block : Type 0 where
   pub representative : ℕ
   pub rows : List (List (List ℤ))
 
+-- the block with this number and these rows
 abbrev pub block : ℕ → List (List (List ℤ)) → Block
 block representative rows = record { representative = representative; rows = rows }
 

@@ -1,5 +1,5 @@
 -- The canonical text of a document.
-use Rattle.std.specs.Prelude.{◌≡◌, None, ℕ, zero, suc, ◌*◌, ◌%◌, ◌<◌, ◌^◌, Bool, nat_eq, if◌then◌else◌, List, [], ◌∷◌, ◌++◌, take, drop, map, codes, All, Option, Some, IfSome, Result, MatchResult}
+use Rattle.std.specs.Prelude.{◌≡◌, None, ℕ, zero, suc, ◌*◌, ◌%◌, ◌<◌, ◌^◌, Bool, nat_eq, if◌then◌else◌, List, [], ◌∷◌, ◌++◌, take, drop, map, codes, All, Option, Some, IfSome, ℤ, Result, MatchResult}
 use Rattle.std.specs.List.{flat_map, list_all}
 use Rattle.std.specs.Fmt.{decimal}
 use Rattle.qd_ring.specs.ValueText.{value_text}
@@ -37,10 +37,13 @@ omega_lines n roots exponents =
     if are_trivial roots exponents then (codes "omega" ∷ codes "trivial" ∷ []) ∷ []
     else (codes "omega" ∷ codes "dense" ∷ []) ∷ rows (n * n) n (reduced roots exponents)
 
+-- the words of a row of values
+abbrev pub row_words : List (List ℤ) → List (List ℕ)
+row_words row = codes "row" ∷ map value_text row
+
 -- the lines of a block: its number, and one for each row
 abbrev pub block_lines : Block → List (List (List ℕ))
-block_lines block =
-    (codes "class" ∷ decimal block.representative ∷ []) ∷ map (λ row. codes "row" ∷ map value_text row) block.rows
+block_lines block = (codes "class" ∷ decimal block.representative ∷ []) ∷ map row_words block.rows
 
 -- the lines between the exponents and the end
 unfoldable pub characters_lines : Option Given → List (List (List ℕ))

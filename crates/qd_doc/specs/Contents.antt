@@ -1,6 +1,6 @@
 -- What a document says, read off its tokens by their places.
-use Rattle.std.specs.Prelude.{◌≡◌, ℕ, zero, suc, ◌+◌, ◌*◌, ◌≤◌, ℤ, true, not, nat_eq, if◌then◌else◌, List, [], ◌∷◌, length, map, take, drop, take_while, sum_by, All, replicate, codes, Option, Some, None, IfSome, unwrap_or, Result, Ok, Err}
-use Rattle.std.specs.List.{range_with_len}
+use Rattle.std.specs.Prelude.{◌≡◌, ℕ, zero, suc, ◌+◌, ◌*◌, ◌≤◌, ℤ, true, nat_eq, if◌then◌else◌, List, [], ◌∷◌, length, map, take, drop, sum_by, All, replicate, codes, Option, Some, None, IfSome, unwrap_or, Result, Ok, Err}
+use Rattle.std.specs.List.{range_with_len, before_first}
 use Rattle.scan.specs.First.{option_or}
 use Rattle.qd_text.specs.Tokens.{Lexeme, tokens}
 use Rattle.qd_text.specs.Numbers.{value}
@@ -55,7 +55,7 @@ exponents_end all = sum_by (λ (run : Run). run.count) (runs_after all)
 
 -- the words before the first that is this word
 abbrev pub words_before : List ℕ → List (List ℕ) → List (List ℕ)
-words_before word words = take_while (λ other. not (is_word other word)) words
+words_before word words = before_first (λ other. is_word other word) words
 
 -- for each occurrence of this word, the words after it up to the next occurrence
 unfoldable pub pieces : List ℕ → List (List ℕ) → List (List (List ℕ))

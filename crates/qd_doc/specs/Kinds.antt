@@ -64,14 +64,15 @@ number_refusal kind start (Ok n) = value_refusal kind start n
 number_refusal kind start (Err NotNumber) = Some (Syntax start Number)
 number_refusal kind start (Err Is_wide) = Some (Wide start)
 
--- one of the words that may stand after a block of rows, or after a row
+-- one of the words that may stand between blocks
 abbrev pub is_class_or_end : List ℕ → Bool
 is_class_or_end text = is_word text (codes "class") || is_word text (codes "end")
 
+-- one of the words that may stand after the number of a block, or after a row
 abbrev pub is_row_class_or_end : List ℕ → Bool
 is_row_class_or_end text = is_word text (codes "row") || is_class_or_end text
 
--- the refusal of a token that has to be a value
+-- the refusal of a token that has to be a value, by what it says as one
 abbrev pub fault_refusal : ℕ → Result Plain ValueFault → Option DocRefusal
 fault_refusal start (Ok p) = None
 fault_refusal start (Err faults.NotValue) = Some (Syntax start Value)

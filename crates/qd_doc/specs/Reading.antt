@@ -8,6 +8,7 @@ use Rattle.qd_text.specs.declared.expected.Expected.TheVariants.{Qdouble, One, O
 use Rattle.qd_doc.specs.Kinds.{What, Word, Natural, OrderNumber, RootsNumber, FormWord, ElementBelow, EndWord, NoToken, ConductorNumber, is_word, refusal, missing}
 use Rattle.cyclotomic.specs.Conductors.{phi_of}
 use Rattle.qd_doc.specs.Blocks.{Block}
+pub use Rattle.qd_doc.specs.Section.{unless}
 use Rattle.qd_doc.specs.Section.{kind_after, part_of, stage_of, is_end, with_part}
 use Rattle.qd_doc.specs.declared.part.Stage.{Stage}
 use Rattle.qd_doc.specs.declared.part.Stage.TheVariants as stages
@@ -24,11 +25,6 @@ infixl 10 ◌>>=◌
 abbrev pub ◌>>=◌ : {A B : Type 0} → Result A DocRefusal → (A → Result B DocRefusal) → Result B DocRefusal
 (Ok x) >>= f = f x
 (Err e) >>= f = Err e
-
--- an answer that a refusal may stand in the place of
-abbrev pub unless : {A : Type 0} → Option DocRefusal → A → Result A DocRefusal
-unless None x = Ok x
-unless (Some r) x = Err r
 
 -- one token of a kind, seen by `view`, of a text that ends at an offset
 unfoldable pub read : {A : Type 0} → (List ℕ → A) → ℕ → What → List Lexeme → Result (A × List Lexeme) DocRefusal

@@ -1,15 +1,24 @@
 -- The parts that a reader takes the section of characters apart into, for the contracts of the private
 -- steps. What the section is stands in Grammar and Contents.
-use Rattle.std.specs.Prelude.{ℕ, ◌+◌, ◌-◌, ◌<◌, ◌^◌, Bool, true, false, if◌then◌else◌, List, [], ◌∷◌, ◌++◌, length, codes}
+use Rattle.std.specs.Prelude.{ℕ, ◌+◌, ◌-◌, ◌<◌, ◌^◌, Bool, true, false, if◌then◌else◌, List, [], ◌∷◌, ◌++◌, length, codes, Option, Some, None, Result, Ok, Err}
+use Rattle.qd_text.specs.Tokens.{Lexeme}
+use Rattle.qd_text.specs.declared.expected.Expected.TheVariants.{End}
+use Rattle.qd_doc.specs.declared.refusal.DocRefusal.{DocRefusal}
+use Rattle.qd_doc.specs.declared.refusal.DocRefusal.TheVariants.{Syntax}
 use Rattle.qd_ring.specs.RowLists.{row_at}
 use Rattle.qd_text.specs.Numbers.{value}
 use Rattle.qd_doc.specs.Blocks.{Block, block, last_rows, with_row, with_value}
-use Rattle.qd_doc.specs.Values.{plain, coefficients}
-use Rattle.qd_doc.specs.Kinds.{What, Natural, ClassOrEnd, RowClassOrEnd, ValueRowClassOrEnd, is_word}
+use Rattle.qd_doc.specs.Values.{begins_value, plain, coefficients, value_of}
+use Rattle.qd_doc.specs.Kinds.{What, Natural, ClassOrEnd, RowClassOrEnd, ValueRowClassOrEnd, is_word, fault_refusal}
 use Rattle.qd_doc.specs.declared.part.Stage.{Stage}
 use Rattle.qd_doc.specs.declared.part.Stage.TheVariants as stages
 use Rattle.qd_doc.specs.declared.part.Part.{Part}
 use Rattle.qd_doc.specs.declared.part.Part.TheVariants as parts
+
+-- an answer that a refusal may stand in the place of
+abbrev pub unless : {A : Type 0} → Option DocRefusal → A → Result A DocRefusal
+unless None x = Ok x
+unless (Some r) x = Err r
 
 -- what may stand next, by what was read last; values have phi coefficients
 abbrev pub kind_after : ℕ → Stage → What
@@ -26,6 +35,16 @@ word_part phi text =
     else if is_word text (codes "row") then parts.Row
     else parts.Value (plain (coefficients phi text))
 
+-- that a row begins
+abbrev pub row_or_end : ℕ → List ℕ → Result Part DocRefusal
+row_or_end start text = if is_word text (codes "row") then Ok parts.Row else Err (Syntax start End)
+
+-- a value, or that a row begins
+abbrev pub value_or_row : ℕ → Lexeme → Result Part DocRefusal
+value_or_row phi token =
+    if begins_value token.text then unless (fault_refusal token.start (value_of phi token.text)) (parts.Value (plain (coefficients phi token.text)))
+    else row_or_end token.start token.text
+
 -- what a token says, by what was read last
 abbrev pub part_of : ℕ → Stage → List ℕ → Part
 part_of phi stages.Class text = parts.Number (value text)
@@ -41,6 +60,7 @@ stage_of parts.Row = stages.Row
 stage_of (parts.Value v) = stages.Row
 stage_of parts.End = stages.Conductor
 
+-- whether the document ends
 abbrev pub is_end : Part → Bool
 is_end parts.End = true
 is_end part = false
@@ -60,11 +80,3 @@ HasRoom (parts.Number n) blocks = length blocks + 1 < 2 ^ 32
 HasRoom parts.Row blocks = (0 < length blocks) × (length (last_rows blocks) + 1 < 2 ^ 32)
 HasRoom (parts.Value v) blocks = (0 < length blocks) × (0 < length (last_rows blocks)) × (length (row_at (last_rows blocks) (length (last_rows blocks) - 1)) + 1 < 2 ^ 32)
 HasRoom parts.End blocks = Unit {0}
-
--- a part may follow what was read last: rows stand in blocks, and values in rows
-abbrev pub MayFollow : Stage → Part → Type 0
-MayFollow stages.Row part = Unit {0}
-MayFollow stage (parts.Value v) = ⊥
-MayFollow stages.Number part = Unit {0}
-MayFollow stage parts.Row = ⊥
-MayFollow stage part = Unit {0}

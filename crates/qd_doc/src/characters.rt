@@ -1,9 +1,10 @@
-ghost use Rattle.std.specs.Prelude.{◌≡◌, ◌+◌, ◌<◌, ◌≤◌, ◌^◌, ◌||◌, List, [], Bool, length, IfOk, OnOk};
+ghost use Rattle.std.specs.Prelude.{◌≡◌, ◌≢◌, ◌+◌, ◌<◌, ◌≤◌, ◌^◌, ◌||◌, List, [], Bool, length, IfOk, OnOk};
 ghost use Rattle.cyclotomic.specs.Conductors.{phi_of};
 ghost use Rattle.qd_text.specs.Tokens.{tokens_from, lexeme_of, text_of, IsWithin};
-ghost use Rattle.qd_doc.specs.Values.{begins_value, value_of, coefficients, plain};
-ghost use Rattle.qd_doc.specs.Kinds.{fault_refusal, refusal};
-ghost use Rattle.qd_doc.specs.Section.{kind_after, part_of, word_part, stage_of, with_part, HasRoom, MayFollow};
+ghost use Rattle.qd_doc.specs.Values.{begins_value, value_of, coefficients, plain, ValuesAreSpelled};
+ghost use Rattle.qd_text.specs.Numbers.{value};
+ghost use Rattle.qd_doc.specs.Kinds.{Natural, fault_refusal, refusal};
+ghost use Rattle.qd_doc.specs.Section.{kind_after, part_of, row_or_end, value_or_row, word_part, is_end, stage_of, with_part, HasRoom};
 ghost use Rattle.qd_doc.specs.Reading.{Gives, IsOffset, read, read_blocks, read_given, unless};
 
 use crate::blocks::Blocks;
@@ -15,6 +16,11 @@ use crate::steps::{is_text, natural, token, word};
 use qd_ring::{Plain, ValueFault, phi, read_plain};
 use qd_text::{Expected, Memory, Token};
 use std::alloc::Global;
+
+/// A law: what a token says as a value is the value that is written so.
+pub fn values_are_spelled()
+    ensures law { ValuesAreSpelled }
+{}
 
 /// Whether a token of a row is a value: it begins with a digit or with `-`.
 fn begins_value(bytes: &Vec<u8>, token: Token) -> bool
@@ -43,36 +49,91 @@ fn value(bytes: &Vec<u8>, token: Token, phi: u32) -> Result<Plain, DocRefusal>
     }
 }
 
-/// What a token says that isn't the number of a block.
-fn word_part(
-    bytes: &Vec<u8>,
-    token: Token,
-    phi: u32,
-    stage: Stage,
-) -> Result<Part, DocRefusal>
+/// That a row begins at this token.
+fn row(bytes: &Vec<u8>, token: Token) -> Result<Part, DocRefusal>
     requires inside { IsWithin bytes.now.items token }
-    requires powers { phi ≤ 42 }
-    requires word { stage ≡ Stage.Class → ⊥ }
-    ensures said { result ≡ unless (refusal (kind_after phi stage) (lexeme_of bytes.now.items token))
-        (word_part phi (text_of bytes.now.items token)) }
-    ensures follows { IfOk result (MayFollow stage) }
+    ensures row { result ≡ row_or_end token.start (text_of bytes.now.items token) }
 {
-    if is_text(bytes, token, "class") {
-        Ok(Part::Class)
-    } else if is_text(bytes, token, "end") {
-        Ok(Part::End)
-    } else if stage != Stage::Conductor && is_text(bytes, token, "row") {
+    if is_text(bytes, token, "row") {
         Ok(Part::Row)
-    } else if stage == Stage::Row && begins_value(bytes, token) {
-        Ok(Part::Value {
-            value: value(bytes, token, phi)?,
-        })
     } else {
         Err(DocRefusal::Syntax {
             offset: token.start,
             expected: Expected::End,
         })
     }
+}
+
+/// The value that a token says, or that a row begins at it.
+fn value_or_row(bytes: &Vec<u8>, token: Token, phi: u32) -> Result<Part, DocRefusal>
+    requires inside { IsWithin bytes.now.items token }
+    requires powers { phi ≤ 42 }
+    ensures said { result ≡ value_or_row phi (lexeme_of bytes.now.items token) }
+{
+    if begins_value(bytes, token) {
+        Ok(Part::Value {
+            value: value(bytes, token, phi)?,
+        })
+    } else {
+        row(bytes, token)
+    }
+}
+
+/// What a token says that isn't the number of a block.
+fn word_part(bytes: &Vec<u8>, token: Token, phi: u32, stage: Stage) -> Result<Part, DocRefusal>
+    requires inside { IsWithin bytes.now.items token }
+    requires powers { phi ≤ 42 }
+    requires word { stage ≢ Stage.Class }
+    ensures said { result ≡ unless (refusal (kind_after phi stage) (lexeme_of bytes.now.items token))
+        (word_part phi (text_of bytes.now.items token)) }
+{
+    if is_text(bytes, token, "class") {
+        return Ok(Part::Class);
+    }
+    if is_text(bytes, token, "end") {
+        return Ok(Part::End);
+    }
+    match stage {
+        Stage::Conductor | Stage::Class => Err(DocRefusal::Syntax {
+            offset: token.start,
+            expected: Expected::End,
+        }),
+        Stage::Number => row(bytes, token),
+        Stage::Row => value_or_row(bytes, token, phi),
+    }
+}
+
+/// The number of a block, and the offset after it.
+fn number_part(bytes: &Vec<u8>, at: u32) -> Result<(Part, u32), DocRefusal>
+    requires offset { IsOffset bytes.now.items at }
+    ensures gives { Gives (λ found. (found.0, tokens_from found.1 bytes.now.items)) result
+        (read (λ text. Part.Number (value text)) (length bytes.now.items) Natural (tokens_from at bytes.now.items)) }
+    ensures offset { IfOk result (λ found. IsOffset bytes.now.items found.1) }
+    ensures later { IfOk result (λ found. at < found.1) }
+{
+    let numeral = natural(bytes, at, Kind::Any)?;
+    Ok((
+        Part::Number {
+            number: numeral.value,
+        },
+        numeral.next,
+    ))
+}
+
+/// What the next token says, which isn't the number of a block, and the offset after it.
+#[tactic(auto, unfolding(crate::specs::Reading::read, crate::specs::Kinds::missing))]
+fn next_part(bytes: &Vec<u8>, at: u32, phi: u32, stage: Stage) -> Result<(Part, u32), DocRefusal>
+    requires offset { IsOffset bytes.now.items at }
+    requires powers { phi ≤ 42 }
+    requires word { stage ≢ Stage.Class }
+    ensures gives { Gives (λ found. (found.0, tokens_from found.1 bytes.now.items)) result
+        (read (word_part phi) (length bytes.now.items) (kind_after phi stage) (tokens_from at bytes.now.items)) }
+    ensures offset { IfOk result (λ found. IsOffset bytes.now.items found.1) }
+    ensures later { IfOk result (λ found. at < found.1) }
+{
+    let token = token(bytes, at, Expected::End)?;
+    let part = word_part(bytes, token, phi, stage)?;
+    Ok((part, token.start + token.len))
 }
 
 /// What the next token says, by what was read last, and the offset after it.
@@ -83,22 +144,11 @@ fn part(bytes: &Vec<u8>, at: u32, phi: u32, stage: Stage) -> Result<(Part, u32),
         (read (part_of phi stage) (length bytes.now.items) (kind_after phi stage) (tokens_from at bytes.now.items)) }
     ensures offset { IfOk result (λ found. IsOffset bytes.now.items found.1) }
     ensures later { IfOk result (λ found. at < found.1) }
-    ensures follows { IfOk result (λ found. MayFollow stage found.0) }
 {
-    if stage == Stage::Class {
-        let numeral = natural(bytes, at, Kind::Any)?;
-        return Ok((
-            Part::Number {
-                number: numeral.value,
-            },
-            numeral.next,
-        ));
+    match stage {
+        Stage::Class => number_part(bytes, at),
+        _ => next_part(bytes, at, phi, stage),
     }
-    let token = token(bytes, at, Expected::End)?;
-    Ok((
-        word_part(bytes, token, phi, stage)?,
-        token.start + token.len,
-    ))
 }
 
 /// Puts what a part says into the blocks.
@@ -114,6 +164,12 @@ fn add(blocks: &mut Blocks, part: Part) -> Result<(), Memory>
     }
 }
 
+fn is_end(part: Part) -> bool
+    ensures end { result ≡ is_end part }
+{
+    matches!(part, Part::End)
+}
+
 /// What was read last, after a part.
 fn stage_of(part: Part) -> Stage
     ensures stage { result ≡ stage_of part }
@@ -127,12 +183,7 @@ fn stage_of(part: Part) -> Stage
 }
 
 /// The blocks up to the word `end`, and the offset after it.
-fn blocks(
-    alloc: Global,
-    bytes: &Vec<u8>,
-    at: u32,
-    phi: u32,
-) -> Result<(Blocks, u32), DocRefusal>
+fn blocks(alloc: Global, bytes: &Vec<u8>, at: u32, phi: u32) -> Result<(Blocks, u32), DocRefusal>
     requires offset { IsOffset bytes.now.items at }
     requires powers { phi ≤ 42 }
     ensures gives { Gives (λ found. (found.0, tokens_from found.1 bytes.now.items)) result
@@ -145,7 +196,7 @@ fn blocks(
     loop {
         let (part, after) = part(bytes, next, phi, stage)?;
         next = after;
-        if matches!(part, Part::End) {
+        if is_end(part) {
             return Ok((blocks, next));
         }
         add(&mut blocks, part)?;

@@ -1,6 +1,7 @@
 //! Documents: a finite group's table and the exponents of a cochain, as text.
 #![tactic(auto)]
 
+mod block_text;
 mod blocks;
 mod characters;
 mod document;
@@ -14,6 +15,7 @@ mod refusal;
 mod steps;
 
 pub use blocks::Blocks;
+pub use characters::values_are_spelled;
 pub use document::{Document, Form, Given};
 pub use printing::{print, printed_is_read};
 pub use qd_text::Memory;

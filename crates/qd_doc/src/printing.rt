@@ -4,6 +4,7 @@ ghost use Rattle.std.specs.Fmt.{decimal};
 ghost use Rattle.qd_doc.specs.Contents.{IsInRange};
 ghost use Rattle.qd_doc.specs.Canonical.{line, rows, reduced, are_trivial, omega_lines, canonical_text, PrintedIsRead};
 
+use crate::block_text::append_characters;
 use crate::document::Document;
 use qd_text::{Memory, append_number, append_word};
 use std::alloc::Global;
@@ -26,6 +27,7 @@ pub fn print(alloc: Global, document: &Document) -> Result<Vec<u8>, Memory>
         document.roots,
         document.exponents.as_slice(),
     )?;
+    append_characters(&mut out, &document.characters)?;
     append_word(&mut out, "end\n")?;
     Ok(out)
 }

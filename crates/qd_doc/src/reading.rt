@@ -89,8 +89,8 @@ fn characters(
             Ok(None)
         }
         Form::WithCharacters => {
-            let (given, at) = given(alloc, bytes, at)?;
-            nothing(bytes, at)?;
+            let (given, next) = given(alloc, bytes, at)?;
+            nothing(bytes, next)?;
             Ok(Some(given))
         }
     }

@@ -7,6 +7,12 @@ use std::test::*;
 const SEMION: &str =
     "qdouble 1\norder 2\ntable\n0 1\n1 0\nroots 2\nomega dense\n0 0\n0 0\n0 0\n0 1\nend\n";
 
+const CERT: &str =
+    "qdouble 1\norder 2\ntable\n0 1\n1 0\nroots 2\nomega dense\n0 0\n0 0\n0 0\n0 1\ncharacters 4\nclass 0\nrow 1 1\nrow 1 -1\nclass 1\nrow 1 -1z1\nrow 1 1z1\nend\n";
+
+const ZCERT: &str =
+    "qdouble 1\norder 2\ntable\n0 1\n1 0\nroots 1\nomega trivial\ncharacters 4\nclass 0\nrow 1 1\nrow 1 -1\nclass 1\nrow 1 -1\nrow 1 1\nend\n";
+
 fn bytes_of(rt: &HostRuntime, text: &str) -> Result<Vec<u8>, DocRefusal>
     ensures few { IfOk result (λ bytes. vec_len bytes < 2 ^ 32) }
 {
@@ -18,14 +24,28 @@ fn bytes_of(rt: &HostRuntime, text: &str) -> Result<Vec<u8>, DocRefusal>
     }
 }
 
-fn read(rt: &HostRuntime, text: &str) -> Result<Document, DocRefusal> {
+fn read_as(rt: &HostRuntime, text: &str, form: Form) -> Result<Document, DocRefusal> {
     let bytes = bytes_of(rt, text)?;
-    parse(rt.alloc(), &bytes, Form::Bare)
+    parse(rt.alloc(), &bytes, form)
 }
 
-fn printed(rt: &HostRuntime, text: &str) -> Result<Vec<u8>, DocRefusal> {
+fn read(rt: &HostRuntime, text: &str) -> Result<Document, DocRefusal> {
+    read_as(rt, text, Form::Bare)
+}
+
+/// The first two coefficients of a value, where it is there.
+fn front(blocks: &Blocks, b: u32, r: u32, p: u32) -> Option<(i128, i128)> {
+    if b < blocks.blocks() && r < blocks.rows(b) && p < blocks.width(b, r) {
+        let value = blocks.value(b, r, p);
+        Some((value.coefficients[0], value.coefficients[1]))
+    } else {
+        None
+    }
+}
+
+fn printed(rt: &HostRuntime, text: &str, form: Form) -> Result<Vec<u8>, DocRefusal> {
     let bytes = bytes_of(rt, text)?;
-    let document = parse(rt.alloc(), &bytes, Form::Bare)?;
+    let document = parse(rt.alloc(), &bytes, form)?;
     Ok(print(rt.alloc(), &document)?)
 }
 
@@ -109,18 +129,160 @@ fn refusals(rt: HostRuntime) {
 }
 
 #[test]
+fn characters(rt: HostRuntime) -> Result<(), Fail> {
+    for (text, last) in [(CERT, [(0, -1), (0, 1)]), (ZCERT, [(-1, 0), (1, 0)])] {
+        let document = read_as(&rt, text, Form::WithCharacters)
+            .ok()
+            .ok_or("the text is a document")?;
+        let given = document.characters.ok_or("it has characters")?;
+        assert_eq!(rt; given.conductor, 4);
+        assert_eq!(rt; given.blocks.blocks(), 2);
+        for (b, r, p, value) in [
+            (0, 0, 0, Some((1, 0))),
+            (0, 0, 1, Some((1, 0))),
+            (0, 1, 0, Some((1, 0))),
+            (0, 1, 1, Some((-1, 0))),
+            (1, 0, 0, Some((1, 0))),
+            (1, 0, 1, Some(last[0])),
+            (1, 1, 0, Some((1, 0))),
+            (1, 1, 1, Some(last[1])),
+            (0, 0, 2, None),
+            (1, 2, 0, None),
+        ] {
+            assert_eq!(rt;
+                front(&given.blocks, b, r, p),
+                value,
+                "value {p} of row {r} of block {b}"
+            );
+        }
+    }
+    let bytes =
+        "qdouble 1 order 1 table 0 roots 1 omega trivial characters 8 class 7 class 9 row end";
+    let document = read_as(&rt, bytes, Form::WithCharacters)
+        .ok()
+        .ok_or("the text is a document")?;
+    let given = document.characters.ok_or("it has characters")?;
+    assert_eq!(rt; given.conductor, 8);
+    let blocks = given.blocks;
+    if blocks.blocks() == 2 {
+        assert_eq!(rt; (blocks.representative(0), blocks.rows(0)), (7, 0));
+        assert_eq!(rt; (blocks.representative(1), blocks.rows(1)), (9, 1));
+    } else {
+        assert_eq!(rt; blocks.blocks(), 2);
+    }
+    Ok(())
+}
+
+#[test]
+fn refusals_of_characters(rt: HostRuntime) {
+    for (text, refusal) in [
+        (
+            "qdouble 1 order 1 table 0 roots 1 omega trivial end",
+            DocRefusal::Syntax {
+                offset: 48,
+                expected: Expected::Characters,
+            },
+        ),
+        (
+            "qdouble 1 order 1 table 0 roots 1 omega trivial characters 5",
+            DocRefusal::Syntax {
+                offset: 59,
+                expected: Expected::Conductor,
+            },
+        ),
+        (
+            "qdouble 1 order 1 table 0 roots 1 omega trivial characters class",
+            DocRefusal::Syntax {
+                offset: 59,
+                expected: Expected::Number,
+            },
+        ),
+        (
+            "qdouble 1 order 1 table 0 roots 1 omega trivial characters 4294967296",
+            DocRefusal::Wide { offset: 59 },
+        ),
+        (
+            "qdouble 1 order 1 table 0 roots 1 omega trivial characters 4 row 1 end",
+            DocRefusal::Syntax {
+                offset: 61,
+                expected: Expected::End,
+            },
+        ),
+        (
+            "qdouble 1 order 1 table 0 roots 1 omega trivial characters 4 class 0 5 end",
+            DocRefusal::Syntax {
+                offset: 69,
+                expected: Expected::End,
+            },
+        ),
+        (
+            "qdouble 1 order 1 table 0 roots 1 omega trivial characters 4 class 0 row +1 end",
+            DocRefusal::Syntax {
+                offset: 73,
+                expected: Expected::End,
+            },
+        ),
+        (
+            "qdouble 1 order 1 table 0 roots 1 omega trivial characters 4 class 0 row -x end",
+            DocRefusal::Syntax {
+                offset: 73,
+                expected: Expected::Value,
+            },
+        ),
+        (
+            "qdouble 1 order 1 table 0 roots 1 omega trivial characters 4 class 0 row 01 end",
+            DocRefusal::Syntax {
+                offset: 73,
+                expected: Expected::Value,
+            },
+        ),
+        (
+            "qdouble 1 order 1 table 0 roots 1 omega trivial characters 4 class 0 row 1329227995784915872903807060280344576z9 end",
+            DocRefusal::Syntax {
+                offset: 73,
+                expected: Expected::Value,
+            },
+        ),
+        (
+            "qdouble 1\norder 2\ntable\n0 1\n1 0\nroots 2\nomega dense\n0 0\n0 0\n0 0\n0 1\ncharacters 4\nclass 0\nrow 1 1\nrow 1 1329227995784915872903807060280344576\n",
+            DocRefusal::Wide { offset: 103 },
+        ),
+    ] {
+        assert_eq!(rt;
+            read_as(&rt, text, Form::WithCharacters).err(),
+            Some(refusal),
+            "at {text}"
+        );
+    }
+    assert_eq!(rt;
+        read(&rt, CERT).err(),
+        Some(DocRefusal::Section { offset: 68 })
+    );
+}
+
+#[test]
 fn canonical(rt: HostRuntime) -> Result<(), Fail> {
-    for (text, canonical) in [
+    for (text, form, canonical) in [
+        (CERT, Form::WithCharacters, CERT),
+        (
+            "qdouble 1 order 1 table 0 roots 1 omega trivial characters 8 class 07 class 9 row row 0 end",
+            Form::WithCharacters,
+            "qdouble 1\norder 1\ntable\n0\nroots 1\nomega trivial\ncharacters 8\nclass 7\nclass 9\nrow\nrow 0\nend\n",
+        ),
         (
             "qdouble 1 order 2 table 0 1 1 0 roots 2 omega sparse 2 0 0 1 4 1 1 1 131 end",
+            Form::Bare,
             SEMION,
         ),
         (
             "qdouble 1 order 1 table 0 roots 3 omega dense 6 end",
+            Form::Bare,
             "qdouble 1\norder 1\ntable\n0\nroots 3\nomega trivial\nend\n",
         ),
     ] {
-        let out = printed(&rt, text).ok().ok_or("the text is a document")?;
+        let out = printed(&rt, text, form)
+            .ok()
+            .ok_or("the text is a document")?;
         assert_eq!(rt; out.as_slice(), canonical.as_bytes());
     }
     Ok(())

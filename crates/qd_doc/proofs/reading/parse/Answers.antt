@@ -1,30 +1,40 @@
-use Rattle.std.proofs.Common.{◌≡◌, ℕ, List, length, None, Result, Ok, Err}
+use Rattle.std.proofs.Common.{◌≡◌, ℕ, List, length, None, Result, Ok, Err, subst, sym}
+use Rattle.std.specs.Prelude.{IfOk}
 use Rattle.qd_text.specs.Tokens.{tokens}
 use Rattle.qd_doc.specs.declared.document.Document.{Document}
 use Rattle.qd_doc.specs.declared.document.Form.{Form}
-use Rattle.qd_doc.specs.declared.document.Form.TheVariants.{Bare}
 use Rattle.qd_doc.specs.declared.refusal.DocRefusal.{DocRefusal}
 use Rattle.qd_doc.specs.declared.refusal.DocRefusal.TheVariants.{Syntax, Wide, Section, Order, Roots, Memory}
 use Rattle.qd_doc.specs.Grammar.{first_refusal, stop_of}
-use Rattle.qd_doc.specs.Contents.{Parses, document_of}
+use Rattle.qd_doc.specs.Contents.{Parses, document_of, IsInRange}
 use Rattle.qd_doc.specs.Reading.{Gives, read_document}
-use Rattle.qd_doc.proofs.Places.{Reads, reads_document}
+use Rattle.qd_doc.proofs.Places.{Reads}
+use Rattle.qd_doc.proofs.Sections.{reads_document}
+use Rattle.qd_doc.proofs.Shapes.{document_in_range}
 use Rattle.qd_doc.proofs.reading.parse.Goals as goal
 
 -- what reading says of a text, at an equation
-reads_at : (bytes : List ℕ) (r : Result Document DocRefusal) → read_document (length bytes) (tokens bytes) ≡ r
-    → Reads (length bytes) (tokens bytes) r (λ document. (first_refusal Bare (length bytes) (tokens bytes) ≡ None) × (document ≡ document_of (tokens bytes)))
-reads_at bytes r e = rw e at (reads_document (length bytes) (tokens bytes))
+reads_at : (bytes : List ℕ) (form : Form) (r : Result Document DocRefusal) → read_document (length bytes) form (tokens bytes) ≡ r
+    → Reads form (length bytes) (tokens bytes) r (λ document. (first_refusal form (length bytes) (tokens bytes) ≡ None) × (document ≡ document_of form (tokens bytes)))
+reads_at bytes form r e = rw e at (reads_document (length bytes) (tokens bytes) form)
 
-parses : (bytes : List ℕ) (form : Form) (r : Result Document DocRefusal) → Gives (λ document. document) r (read_document (length bytes) (tokens bytes)) → Parses form bytes r
+parses : (bytes : List ℕ) (form : Form) (r : Result Document DocRefusal) → Gives (λ document. document) r (read_document (length bytes) form (tokens bytes)) → Parses form bytes r
 unfolding stop_of
-parses bytes Bare (Ok document) gives = reads_at bytes (Ok document) gives
-parses bytes Bare (Err (Syntax offset expected)) gives = reads_at bytes (Err (Syntax offset expected)) gives
-parses bytes Bare (Err (Wide offset)) gives = reads_at bytes (Err (Wide offset)) gives
-parses bytes Bare (Err (Section offset)) gives = reads_at bytes (Err (Section offset)) gives
-parses bytes Bare (Err (Order number)) gives = reads_at bytes (Err (Order number)) gives
-parses bytes Bare (Err (Roots number)) gives = reads_at bytes (Err (Roots number)) gives
-parses bytes Bare (Err Memory) gives = tt
+parses bytes form (Ok document) gives = reads_at bytes form (Ok document) gives
+parses bytes form (Err (Syntax offset expected)) gives = reads_at bytes form (Err (Syntax offset expected)) gives
+parses bytes form (Err (Wide offset)) gives = reads_at bytes form (Err (Wide offset)) gives
+parses bytes form (Err (Section offset)) gives = reads_at bytes form (Err (Section offset)) gives
+parses bytes form (Err (Order number)) gives = reads_at bytes form (Err (Order number)) gives
+parses bytes form (Err (Roots number)) gives = reads_at bytes form (Err (Roots number)) gives
+parses bytes form (Err Memory) gives = tt
+
+in_range : (bytes : List ℕ) (form : Form) (r : Result Document DocRefusal) → Parses form bytes r → IfOk r IsInRange
+in_range bytes form (Ok document) parsed = subst IsInRange (sym parsed.1) (document_in_range form bytes parsed.0)
+in_range bytes form (Err refusal) parsed = tt
 
 pub returns-clause-parses : goal.returns-clause-parses
-returns-clause-parses c = parses c.args.bytes.now.items c.args.form c.bare.result c.bare.ensures.gives
+returns-clause-parses c = parses c.args.bytes.now.items c.args.form c.document.result c.document.ensures.gives
+
+pub returns-clause-in_range : goal.returns-clause-in_range
+returns-clause-in_range c =
+    in_range c.args.bytes.now.items c.args.form c.document.result (parses c.args.bytes.now.items c.args.form c.document.result c.document.ensures.gives)

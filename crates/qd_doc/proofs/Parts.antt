@@ -1,0 +1,571 @@
+-- What the tokens of the section of characters say, one after the other.
+use Rattle.std.proofs.Common.{◌≡◌, ℕ, ◌-◌, ◌+◌, ◌≤◌, ◌<◌, Bool, true, false, ◌&&◌, ◌||◌, ◌==◌, not, cond, nat_eq, List, [], ◌∷◌, ◌++◌, ◌^◌, length, map, get_or, set, codes, Some, None, Result, Ok, Err, refl, sym, ap, ◌∙◌, subst, ◌⊎◌, inl, inr, arith, length-append, append_assoc}
+use Rattle.std.specs.Prelude.{ℤ}
+use Rattle.std.specs.List.{list_all, before_first}
+use Rattle.std.proofs.lemmas.Bool.{ne_eqb, true≢false}
+use Rattle.std.proofs.lemmas.List.{append-nil}
+use Rattle.std.proofs.Math.Seq.{set-append_seam, get_or-append_seam}
+use Rattle.std.proofs.lemmas.List.Sums.{take_while-cons}
+use Rattle.qd_ring.specs.RowLists.{with_value as rows_with_value}
+use Rattle.qd_text.specs.Tokens.{Lexeme}
+use Rattle.qd_text.specs.Numbers.{value, number_of, is_digit}
+use Rattle.qd_text.specs.declared.natural.NumberFault.{NumberFault}
+use Rattle.qd_text.specs.declared.natural.NumberFault.TheVariants as faults
+use Rattle.qd_doc.specs.Blocks.{Block, block, last_rows, with_last_rows, with_row, with_value}
+use Rattle.qd_doc.specs.Values.{begins_value, coefficients, plain, value_of}
+use Rattle.qd_text.specs.declared.expected.Expected.TheVariants.{End}
+use Rattle.qd_doc.specs.Kinds.{Natural, ClassOrEnd, RowClassOrEnd, ValueRowClassOrEnd, NoToken, is_word, is_class_or_end, is_row_class_or_end, fault_refusal, refusal, number_refusal}
+use Rattle.qd_doc.specs.Grammar.{what_after}
+use Rattle.qd_doc.specs.Contents.{words_before, pieces, block_of, blocks_of}
+use Rattle.qd_doc.specs.Section.{unless, kind_after, row_or_end, value_or_row, word_part, part_of, stage_of, is_end, with_part, HasRoom}
+use Rattle.qd_doc.specs.declared.part.Stage.{Stage}
+use Rattle.qd_doc.specs.declared.part.Stage.TheVariants as stages
+use Rattle.qd_doc.specs.declared.part.Part.{Part}
+use Rattle.qd_doc.specs.declared.part.Part.TheVariants as parts
+use Rattle.qd_doc.specs.declared.refusal.DocRefusal.TheVariants.{Syntax}
+use Rattle.qd_doc.proofs.ValueWords.{same_word}
+
+-- ---- words
+
+-- a byte that begins a value is none of the letters
+apart : (byte k : ℕ) → (is_digit byte || byte == 45) ≡ true → (is_digit k || k == 45) ≡ false → nat_eq byte k ≡ false
+apart byte k begins letter =
+    ne_eqb byte k (λ e. let f : (is_digit k || k == 45) ≡ true = rw e at begins in absurd (let g : true ≡ false = sym f ∙ letter in cc))
+
+-- a token that begins a value is no word that begins with a letter
+pub value_no_word : (text : List ℕ) (k : ℕ) (ks : List ℕ) → begins_value text ≡ true → (is_digit k || k == 45) ≡ false → is_word text (k ∷ ks) ≡ false
+value_no_word [] k ks begins letter = refl
+value_no_word (byte ∷ text) k ks begins letter =
+    let e : nat_eq byte k ≡ false = apart byte k begins letter in
+    rw e refl
+
+and_left : (a b : Bool) → (a && b) ≡ true → a ≡ true
+and_left true b e = refl
+and_left false b e = absurd cc
+
+or_left : (a b : Bool) → a ≡ true → (a || b) ≡ true
+or_left true b e = refl
+or_left false b e = absurd cc
+
+-- a number is no word that begins with a letter
+digits_no_word : (text : List ℕ) (k : ℕ) (ks : List ℕ) → list_all is_digit text ≡ true → (is_digit k || k == 45) ≡ false → is_word text (k ∷ ks) ≡ false
+digits_no_word [] k ks digits letter = refl
+digits_no_word (byte ∷ text) k ks digits letter =
+    value_no_word (byte ∷ text) k ks (or_left (is_digit byte) (byte == 45) (and_left (is_digit byte) (list_all is_digit text) digits)) letter
+
+digits_by : (start : ℕ) (b : Bool) (rest : Result ℕ NumberFault) → number_refusal Natural start (cond (not b) (Err faults.NotNumber) rest) ≡ None → b ≡ true
+digits_by start true rest e = refl
+digits_by start false rest e = absurd cc
+
+natural_digits : (token : Lexeme) → refusal Natural token ≡ None → list_all is_digit token.text ≡ true
+unfolding refusal number_of
+natural_digits token fits = digits_by token.start (list_all is_digit token.text) _ fits
+
+-- ---- pieces of words
+
+-- the words up to the first that passes, one word after another
+by_position : (p : List ℕ → Bool) (word : List ℕ) (words : List (List ℕ)) (b : Bool) → p word ≡ b → before_first p (word ∷ words) ≡ cond b [] (word ∷ before_first p words)
+by_position p word words b e =
+    take_while-cons (λ w. not (p w)) word words ∙ ap (λ c. cond (not c) (word ∷ before_first p words) []) e ∙ turned b
+  where
+    turned : (c : Bool) → cond (not c) (word ∷ before_first p words) [] ≡ cond c [] (word ∷ before_first p words)
+    turned true = refl
+    turned false = refl
+
+words_before-other : (word other : List ℕ) (words : List (List ℕ)) → is_word other word ≡ false → words_before word (other ∷ words) ≡ other ∷ words_before word words
+words_before-other word other words e = by_position (λ w. is_word w word) other words false e
+
+words_before-same : (word other : List ℕ) (words : List (List ℕ)) → is_word other word ≡ true → words_before word (other ∷ words) ≡ []
+words_before-same word other words e = by_position (λ w. is_word w word) other words true e
+
+pieces-other : (word other : List ℕ) (words : List (List ℕ)) → is_word other word ≡ false → pieces word (other ∷ words) ≡ pieces word words
+unfolding pieces
+pieces-other word other words e = rw e refl
+
+pieces-same : (word other : List ℕ) (words : List (List ℕ)) → is_word other word ≡ true → pieces word (other ∷ words) ≡ words_before word words ∷ pieces word words
+unfolding pieces
+pieces-same word other words e = rw e refl
+
+pieces-nil : (word : List ℕ) → pieces word [] ≡ []
+unfolding pieces
+pieces-nil word = refl
+
+-- the words of the block that is open
+abbrev pub inner : List (List ℕ) → List (List ℕ)
+inner words = words_before (codes "class") (words_before (codes "end") words)
+
+-- the rows that are still to come in it
+unfoldable pub rows_of : ℕ → List (List ℕ) → List (List (List ℤ))
+rows_of phi words = map (λ row. map (coefficients phi) row) (pieces (codes "row") (inner words))
+
+-- the values that are still to come in the row that is open
+unfoldable pub values_of : ℕ → List (List ℕ) → List (List ℤ)
+values_of phi words = map (coefficients phi) (words_before (codes "row") (inner words))
+
+-- a word that is neither `class` nor `end` stays in the block
+inner-other : (word : List ℕ) (words : List (List ℕ)) → is_word word (codes "class") ≡ false → is_word word (codes "end") ≡ false → inner (word ∷ words) ≡ word ∷ inner words
+inner-other word words no_class no_end =
+    ap (words_before (codes "class")) (words_before-other (codes "end") word words no_end)
+    ∙ words_before-other (codes "class") word (words_before (codes "end") words) no_class
+
+inner-class : (words : List (List ℕ)) → inner (codes "class" ∷ words) ≡ []
+inner-class words =
+    ap (words_before (codes "class")) (words_before-other (codes "end") (codes "class") words refl)
+    ∙ words_before-same (codes "class") (codes "class") (words_before (codes "end") words) refl
+
+inner-end : (words : List (List ℕ)) → inner (codes "end" ∷ words) ≡ []
+inner-end words = ap (words_before (codes "class")) (words_before-same (codes "end") (codes "end") words refl)
+
+rows_of-none : (phi : ℕ) (words : List (List ℕ)) → inner words ≡ [] → rows_of phi words ≡ []
+unfolding rows_of
+rows_of-none phi words e = ap (λ ws. map (λ row. map (coefficients phi) row) (pieces (codes "row") ws)) e ∙ ap (map (λ row. map (coefficients phi) row)) (pieces-nil (codes "row"))
+
+values_of-none : (phi : ℕ) (words : List (List ℕ)) → inner words ≡ [] → values_of phi words ≡ []
+unfolding values_of
+values_of-none phi words e = ap (λ ws. map (coefficients phi) (words_before (codes "row") ws)) e
+
+rows_of-row : (phi : ℕ) (words : List (List ℕ)) → rows_of phi (codes "row" ∷ words) ≡ values_of phi words ∷ rows_of phi words
+unfolding rows_of values_of
+rows_of-row phi words =
+    ap (λ ws. map (λ row. map (coefficients phi) row) (pieces (codes "row") ws)) (inner-other (codes "row") words refl refl)
+    ∙ ap (map (λ row. map (coefficients phi) row)) (pieces-same (codes "row") (codes "row") (inner words) refl)
+
+values_of-row : (phi : ℕ) (words : List (List ℕ)) → values_of phi (codes "row" ∷ words) ≡ []
+unfolding values_of
+values_of-row phi words =
+    ap (λ ws. map (coefficients phi) (words_before (codes "row") ws)) (inner-other (codes "row") words refl refl)
+    ∙ ap (map (coefficients phi)) (words_before-same (codes "row") (codes "row") (inner words) refl)
+
+-- a value, or the number of a block
+module _ (phi : ℕ) (word : List ℕ) (words : List (List ℕ)) (no_class : is_word word (codes "class") ≡ false) (no_end : is_word word (codes "end") ≡ false) (no_row : is_word word (codes "row") ≡ false) where
+  rows_of-other : rows_of phi (word ∷ words) ≡ rows_of phi words
+  unfolding rows_of
+  rows_of-other =
+      ap (λ ws. map (λ row. map (coefficients phi) row) (pieces (codes "row") ws)) (inner-other word words no_class no_end)
+      ∙ ap (map (λ row. map (coefficients phi) row)) (pieces-other (codes "row") word (inner words) no_row)
+
+  values_of-other : values_of phi (word ∷ words) ≡ coefficients phi word ∷ values_of phi words
+  unfolding values_of
+  values_of-other =
+      ap (λ ws. map (coefficients phi) (words_before (codes "row") ws)) (inner-other word words no_class no_end)
+      ∙ ap (map (coefficients phi)) (words_before-other (codes "row") word (inner words) no_row)
+
+blocks_of-class : (phi : ℕ) (words : List (List ℕ)) → blocks_of phi (codes "class" ∷ words) ≡ block_of phi (inner words) ∷ blocks_of phi words
+unfolding blocks_of
+blocks_of-class phi words =
+    ap (λ ws. map (block_of phi) (pieces (codes "class") ws)) (words_before-other (codes "end") (codes "class") words refl)
+    ∙ ap (map (block_of phi)) (pieces-same (codes "class") (codes "class") (words_before (codes "end") words) refl)
+
+blocks_of-end : (phi : ℕ) (words : List (List ℕ)) → blocks_of phi (codes "end" ∷ words) ≡ []
+unfolding blocks_of
+blocks_of-end phi words =
+    ap (λ ws. map (block_of phi) (pieces (codes "class") ws)) (words_before-same (codes "end") (codes "end") words refl)
+    ∙ ap (map (block_of phi)) (pieces-nil (codes "class"))
+
+blocks_of-other : (phi : ℕ) (word : List ℕ) (words : List (List ℕ)) → is_word word (codes "class") ≡ false → is_word word (codes "end") ≡ false → blocks_of phi (word ∷ words) ≡ blocks_of phi words
+unfolding blocks_of
+blocks_of-other phi word words no_class no_end =
+    ap (λ ws. map (block_of phi) (pieces (codes "class") ws)) (words_before-other (codes "end") word words no_end)
+    ∙ ap (map (block_of phi)) (pieces-other (codes "class") word (words_before (codes "end") words) no_class)
+
+-- ---- how far reading came
+
+-- the blocks before the one that is open, its number, its rows before the one that is open, and the
+-- values of that
+pub data State : Type 0 where
+  Between : (front : List Block) → State
+  Named : (front : List Block) → State
+  InBlock : (front : List Block) (number : ℕ) (rows : List (List (List ℤ))) → State
+  InRow : (front : List Block) (number : ℕ) (rows : List (List (List ℤ))) (values : List (List ℤ)) → State
+
+abbrev pub stage_in : State → Stage
+stage_in (Between front) = stages.Conductor
+stage_in (Named front) = stages.Class
+stage_in (InBlock front number rows) = stages.Number
+stage_in (InRow front number rows values) = stages.Row
+
+abbrev pub blocks_in : State → List Block
+blocks_in (Between front) = front
+blocks_in (Named front) = front
+blocks_in (InBlock front number rows) = front ++ block number rows ∷ []
+blocks_in (InRow front number rows values) = front ++ block number (rows ++ values ∷ []) ∷ []
+
+-- all blocks, where these words are still to come
+abbrev pub whole : ℕ → State → List (List ℕ) → List Block
+whole phi (Between front) words = front ++ blocks_of phi words
+whole phi (Named front) words = front ++ block_of phi (inner words) ∷ blocks_of phi words
+whole phi (InBlock front number rows) words = front ++ block number (rows ++ rows_of phi words) ∷ blocks_of phi words
+whole phi (InRow front number rows values) words = front ++ block number (rows ++ (values ++ values_of phi words) ∷ rows_of phi words) ∷ blocks_of phi words
+
+-- none of its lists is longer than m
+abbrev pub AreShort : State → ℕ → Type 0
+AreShort (Between front) m = length front ≤ m
+AreShort (Named front) m = length front ≤ m
+AreShort (InBlock front number rows) m = (length front + 1 ≤ m) × (length rows ≤ m)
+AreShort (InRow front number rows values) m = (length front + 1 ≤ m) × (length rows + 1 ≤ m) × (length values ≤ m)
+
+-- a token that ends the section
+pub record Ends (phi : ℕ) (s : State) (text : List ℕ) : Type 0 where
+  pub end : is_end (part_of phi (stage_in s) text) ≡ true
+  pub nothing : what_after phi (kind_after phi (stage_in s)) text ≡ NoToken
+  pub all : (words : List (List ℕ)) → whole phi s (text ∷ words) ≡ blocks_in s
+
+-- a token that reading goes on after
+pub record Goes (phi : ℕ) (s : State) (text : List ℕ) : Type 0 where
+  pub part : Part
+  pub next : State
+  pub said : part_of phi (stage_in s) text ≡ part
+  pub no_end : is_end part ≡ false
+  pub stage : stage_of part ≡ stage_in next
+  pub blocks : with_part part (blocks_in s) ≡ blocks_in next
+  pub kind : what_after phi (kind_after phi (stage_in s)) text ≡ kind_after phi (stage_in next)
+  pub same : (words : List (List ℕ)) → whole phi s (text ∷ words) ≡ whole phi next words
+  pub room : (m : ℕ) → AreShort s m → m + 1 < 2 ^ 32 → HasRoom part (blocks_in s)
+  pub short : (m : ℕ) → AreShort s m → AreShort next (m + 1)
+
+-- ---- the last of a list
+
+len_last : {A : Type 0} (front : List A) (x : A) → length (front ++ x ∷ []) - 1 ≡ length front
+len_last front x = omega (arith, length-append front (x ∷ []))
+
+at_last : {A : Type 0} (front : List A) (x d : A) → get_or (front ++ x ∷ []) (length (front ++ x ∷ []) - 1) d ≡ x
+at_last front x d = ap (λ n. get_or (front ++ x ∷ []) n d) (len_last front x) ∙ get_or-append_seam front x [] d
+
+set_last : {A : Type 0} (front : List A) (x y : A) → set (front ++ x ∷ []) (length (front ++ x ∷ []) - 1) y ≡ front ++ y ∷ []
+set_last front x y = ap (λ n. set (front ++ x ∷ []) n y) (len_last front x) ∙ set-append_seam front x [] y
+
+last_rows_are : (front : List Block) (b : Block) → last_rows (front ++ b ∷ []) ≡ b.rows
+last_rows_are front b = ap (λ (c : Block). c.rows) (at_last front b (block 0 []))
+
+with_last_rows_are : (front : List Block) (number : ℕ) (rows more : List (List (List ℤ))) → with_last_rows (front ++ block number rows ∷ []) more ≡ front ++ block number more ∷ []
+with_last_rows_are front number rows more =
+    ap (λ (b : Block). set (front ++ block number rows ∷ []) (length (front ++ block number rows ∷ []) - 1) (block b.representative more)) (at_last front (block number rows) (block 0 []))
+    ∙ set_last front (block number rows) (block number more)
+
+pub with_row_is : (front : List Block) (number : ℕ) (rows : List (List (List ℤ))) → with_row (front ++ block number rows ∷ []) ≡ front ++ block number (rows ++ [] ∷ []) ∷ []
+with_row_is front number rows =
+    with_last_rows_are front number rows (last_rows (front ++ block number rows ∷ []) ++ [] ∷ [])
+    ∙ ap (λ rows. front ++ block number (rows ++ [] ∷ []) ∷ []) (last_rows_are front (block number rows))
+
+rows_with_value_are : (rows : List (List (List ℤ))) (values : List (List ℤ)) (v : List ℤ) → rows_with_value (rows ++ values ∷ []) v ≡ rows ++ (values ++ v ∷ []) ∷ []
+rows_with_value_are rows values v =
+    ap (λ row. set (rows ++ values ∷ []) (length (rows ++ values ∷ []) - 1) (row ++ v ∷ [])) (at_last rows values [])
+    ∙ set_last rows values (values ++ v ∷ [])
+
+pub with_value_is : (front : List Block) (number : ℕ) (rows : List (List (List ℤ))) (values : List (List ℤ)) (v : List ℤ)
+    → with_value (front ++ block number (rows ++ values ∷ []) ∷ []) v ≡ front ++ block number (rows ++ (values ++ v ∷ []) ∷ []) ∷ []
+with_value_is front number rows values v =
+    with_last_rows_are front number (rows ++ values ∷ []) (rows_with_value (last_rows (front ++ block number (rows ++ values ∷ []) ∷ [])) v)
+    ∙ ap (λ rows. front ++ block number (rows_with_value rows v) ∷ []) (last_rows_are front (block number (rows ++ values ∷ [])))
+    ∙ ap (λ rows. front ++ block number rows ∷ []) (rows_with_value_are rows values v)
+
+-- ---- what a word says
+
+module _ (phi start : ℕ) where
+  abbrev token_of : List ℕ → Lexeme
+  token_of text = record { start = start; text = text }
+
+  class_by : (stage : Stage) → (stage ≡ stages.Class → ⊥) → Ok parts.Class ≡ unless (refusal (kind_after phi stage) (token_of (codes "class"))) (word_part phi (codes "class"))
+  unfolding refusal
+  class_by stages.Conductor other = refl
+  class_by stages.Class other = absurd (other refl)
+  class_by stages.Number other = refl
+  class_by stages.Row other = refl
+
+  end_by : (stage : Stage) → (stage ≡ stages.Class → ⊥) → Ok parts.End ≡ unless (refusal (kind_after phi stage) (token_of (codes "end"))) (word_part phi (codes "end"))
+  unfolding refusal
+  end_by stages.Conductor other = refl
+  end_by stages.Class other = absurd (other refl)
+  end_by stages.Number other = refl
+  end_by stages.Row other = refl
+
+  pub said_class : (stage : Stage) (text : List ℕ) → (stage ≡ stages.Class → ⊥) → is_word text (codes "class") ≡ true
+      → Ok parts.Class ≡ unless (refusal (kind_after phi stage) (token_of text)) (word_part phi text)
+  said_class stage text other is =
+      subst (λ (t : List ℕ). Ok parts.Class ≡ unless (refusal (kind_after phi stage) (token_of t)) (word_part phi t)) (sym (same_word text (codes "class") is)) (class_by stage other)
+
+  pub said_end : (stage : Stage) (text : List ℕ) → (stage ≡ stages.Class → ⊥) → is_word text (codes "end") ≡ true
+      → Ok parts.End ≡ unless (refusal (kind_after phi stage) (token_of text)) (word_part phi text)
+  said_end stage text other is =
+      subst (λ (t : List ℕ). Ok parts.End ≡ unless (refusal (kind_after phi stage) (token_of t)) (word_part phi t)) (sym (same_word text (codes "end") is)) (end_by stage other)
+
+  module _ (text : List ℕ) (no_class : is_word text (codes "class") ≡ false) (no_end : is_word text (codes "end") ≡ false) where
+    pub said_neither : Err (Syntax start End) ≡ unless (refusal ClassOrEnd (token_of text)) (word_part phi text)
+    unfolding refusal
+    said_neither = rw (no_class, no_end) refl
+
+    row_by : (b : Bool) → is_word text (codes "row") ≡ b → row_or_end start text ≡ unless (refusal RowClassOrEnd (token_of text)) (word_part phi text)
+    unfolding refusal
+    row_by true row = rw (no_class, no_end, row) refl
+    row_by false row = rw (no_class, no_end, row) refl
+
+    pub said_row : row_or_end start text ≡ unless (refusal RowClassOrEnd (token_of text)) (word_part phi text)
+    said_row = row_by (is_word text (codes "row")) refl
+
+    value_by : (b : Bool) → begins_value text ≡ b → value_or_row phi (token_of text) ≡ unless (refusal (ValueRowClassOrEnd phi) (token_of text)) (word_part phi text)
+    unfolding refusal
+    value_by true begins =
+        let no_row : is_word text (codes "row") ≡ false = value_no_word text 114 (codes "ow") begins refl in
+        rw (begins, no_class, no_end, no_row) refl
+    value_by false begins =
+        let row : row_or_end start text ≡ unless (cond (is_row_class_or_end text) None (Some (Syntax start End))) (word_part phi text) = said_row in
+        rw begins row
+
+    pub said_value : value_or_row phi (token_of text) ≡ unless (refusal (ValueRowClassOrEnd phi) (token_of text)) (word_part phi text)
+    said_value = value_by (begins_value text) refl
+
+-- ---- one token
+
+-- what a word may be where a block's number isn't expected
+data Word (stage : Stage) (text : List ℕ) : Type 0 where
+  Class : text ≡ codes "class" → Word stage text
+  End_word : text ≡ codes "end" → Word stage text
+  Row : text ≡ codes "row" → (stage ≡ stages.Conductor → ⊥) → Word stage text
+  Value : begins_value text ≡ true → stage ≡ stages.Row → Word stage text
+
+module _ (text : List ℕ) (start : ℕ) where
+  class_or_end_word : (stage : Stage) (c e : Bool) → is_word text (codes "class") ≡ c → is_word text (codes "end") ≡ e → cond (c || e) None (Some (Syntax start End)) ≡ None → Word stage text
+  class_or_end_word stage true e is_class is_end fits = Class (same_word text (codes "class") is_class)
+  class_or_end_word stage false true is_class is_end fits = End_word (same_word text (codes "end") is_end)
+  class_or_end_word stage false false is_class is_end fits = absurd cc
+
+  row_class_or_end_word : (stage : Stage) (r : Bool) → (stage ≡ stages.Conductor → ⊥) → is_word text (codes "row") ≡ r → cond (r || is_class_or_end text) None (Some (Syntax start End)) ≡ None → Word stage text
+  row_class_or_end_word stage true later is_row fits = Row (same_word text (codes "row") is_row) later
+  row_class_or_end_word stage false later is_row fits = class_or_end_word stage (is_word text (codes "class")) (is_word text (codes "end")) refl refl fits
+
+  value_word : (phi : ℕ) (b : Bool) → begins_value text ≡ b → cond b (fault_refusal start (value_of phi text)) (cond (is_row_class_or_end text) None (Some (Syntax start End))) ≡ None → Word stages.Row text
+  value_word phi true begins fits = Value begins refl
+  value_word phi false begins fits = row_class_or_end_word stages.Row (is_word text (codes "row")) (λ e. absurd cc) refl fits
+
+  word_is : (phi : ℕ) (stage : Stage) → (stage ≡ stages.Class → ⊥) → refusal (kind_after phi stage) (record { start = start; text = text }) ≡ None → Word stage text
+  unfolding refusal
+  word_is phi stages.Conductor other fits = class_or_end_word stages.Conductor (is_word text (codes "class")) (is_word text (codes "end")) refl refl fits
+  word_is phi stages.Class other fits = absurd (other refl)
+  word_is phi stages.Number other fits = row_class_or_end_word stages.Number (is_word text (codes "row")) (λ e. absurd cc) refl fits
+  word_is phi stages.Row other fits = value_word phi (begins_value text) refl fits
+
+module _ (phi : ℕ) where
+  between_class : (front : List Block) → Goes phi (Between front) (codes "class")
+  between_class front = record {
+    part = parts.Class;
+    next = Named front;
+    said = refl;
+    no_end = refl;
+    stage = refl;
+    blocks = refl;
+    kind = refl;
+    same = λ words. ap (λ more. front ++ more) (blocks_of-class phi words);
+    room = λ m short few. tt;
+    short = λ m short. omega arith;
+  }
+
+  between_end : (front : List Block) → Ends phi (Between front) (codes "end")
+  between_end front = record {
+    end = refl;
+    nothing = refl;
+    all = λ words. ap (λ more. front ++ more) (blocks_of-end phi words) ∙ append-nil front;
+  }
+
+  named_number : (front : List Block) (text : List ℕ) → list_all is_digit text ≡ true → Goes phi (Named front) text
+  unfolding rows_of
+  named_number front text digits =
+      let no_class : is_word text (codes "class") ≡ false = digits_no_word text 99 (codes "lass") digits refl in
+      let no_end : is_word text (codes "end") ≡ false = digits_no_word text 101 (codes "nd") digits refl in
+      record {
+        part = parts.Number (value text);
+        next = InBlock front (value text) [];
+        said = refl;
+        no_end = refl;
+        stage = refl;
+        blocks = refl;
+        kind = refl;
+        same = λ words. ap (λ ws. front ++ block_of phi ws ∷ blocks_of phi (text ∷ words)) (inner-other text words no_class no_end)
+            ∙ ap (λ more. front ++ block_of phi (text ∷ inner words) ∷ more) (blocks_of-other phi text words no_class no_end);
+        room = λ m short few. omega arith;
+        short = λ m short. (omega arith, omega arith);
+      }
+
+  block_class : (front : List Block) (number : ℕ) (rows : List (List (List ℤ))) → Goes phi (InBlock front number rows) (codes "class")
+  block_class front number rows = record {
+    part = parts.Class;
+    next = Named (front ++ block number rows ∷ []);
+    said = refl;
+    no_end = refl;
+    stage = refl;
+    blocks = refl;
+    kind = refl;
+    same = λ words. ap (λ more. front ++ block number (rows ++ more) ∷ blocks_of phi (codes "class" ∷ words)) (rows_of-none phi (codes "class" ∷ words) (inner-class words))
+        ∙ ap (λ rows. front ++ block number rows ∷ blocks_of phi (codes "class" ∷ words)) (append-nil rows)
+        ∙ ap (λ more. front ++ block number rows ∷ more) (blocks_of-class phi words)
+        ∙ sym (append_assoc front (block number rows ∷ []) (block_of phi (inner words) ∷ blocks_of phi words));
+    room = λ m short few. tt;
+    short = λ m short. omega (arith, short.0, length-append front (block number rows ∷ []));
+  }
+
+  block_end : (front : List Block) (number : ℕ) (rows : List (List (List ℤ))) → Ends phi (InBlock front number rows) (codes "end")
+  block_end front number rows = record {
+    end = refl;
+    nothing = refl;
+    all = λ words. ap (λ more. front ++ block number (rows ++ more) ∷ blocks_of phi (codes "end" ∷ words)) (rows_of-none phi (codes "end" ∷ words) (inner-end words))
+        ∙ ap (λ rows. front ++ block number rows ∷ blocks_of phi (codes "end" ∷ words)) (append-nil rows)
+        ∙ ap (λ more. front ++ block number rows ∷ more) (blocks_of-end phi words);
+  }
+
+  block_row : (front : List Block) (number : ℕ) (rows : List (List (List ℤ))) → Goes phi (InBlock front number rows) (codes "row")
+  block_row front number rows = record {
+    part = parts.Row;
+    next = InRow front number rows [];
+    said = refl;
+    no_end = refl;
+    stage = refl;
+    blocks = with_row_is front number rows;
+    kind = refl;
+    same = λ words. ap (λ more. front ++ block number (rows ++ more) ∷ blocks_of phi (codes "row" ∷ words)) (rows_of-row phi words)
+        ∙ ap (λ more. front ++ block number (rows ++ values_of phi words ∷ rows_of phi words) ∷ more) (blocks_of-other phi (codes "row") words refl refl);
+    room = λ m short few. (omega (arith, length-append front (block number rows ∷ [])), omega (arith, short.1, ap length (last_rows_are front (block number rows))));
+    short = λ m short. (omega (arith, short.0), omega (arith, short.1), omega arith);
+  }
+
+  row_class : (front : List Block) (number : ℕ) (rows : List (List (List ℤ))) (values : List (List ℤ)) → Goes phi (InRow front number rows values) (codes "class")
+  row_class front number rows values = record {
+    part = parts.Class;
+    next = Named (front ++ block number (rows ++ values ∷ []) ∷ []);
+    said = refl;
+    no_end = refl;
+    stage = refl;
+    blocks = refl;
+    kind = refl;
+    same = λ words. ap (λ more. front ++ block number (rows ++ (values ++ more) ∷ rows_of phi (codes "class" ∷ words)) ∷ blocks_of phi (codes "class" ∷ words)) (values_of-none phi (codes "class" ∷ words) (inner-class words))
+        ∙ ap (λ values. front ++ block number (rows ++ values ∷ rows_of phi (codes "class" ∷ words)) ∷ blocks_of phi (codes "class" ∷ words)) (append-nil values)
+        ∙ ap (λ more. front ++ block number (rows ++ values ∷ more) ∷ blocks_of phi (codes "class" ∷ words)) (rows_of-none phi (codes "class" ∷ words) (inner-class words))
+        ∙ ap (λ more. front ++ block number (rows ++ values ∷ []) ∷ more) (blocks_of-class phi words)
+        ∙ sym (append_assoc front (block number (rows ++ values ∷ []) ∷ []) (block_of phi (inner words) ∷ blocks_of phi words));
+    room = λ m short few. tt;
+    short = λ m short. omega (arith, short.0, length-append front (block number (rows ++ values ∷ []) ∷ []));
+  }
+
+  row_end : (front : List Block) (number : ℕ) (rows : List (List (List ℤ))) (values : List (List ℤ)) → Ends phi (InRow front number rows values) (codes "end")
+  row_end front number rows values = record {
+    end = refl;
+    nothing = refl;
+    all = λ words. ap (λ more. front ++ block number (rows ++ (values ++ more) ∷ rows_of phi (codes "end" ∷ words)) ∷ blocks_of phi (codes "end" ∷ words)) (values_of-none phi (codes "end" ∷ words) (inner-end words))
+        ∙ ap (λ values. front ++ block number (rows ++ values ∷ rows_of phi (codes "end" ∷ words)) ∷ blocks_of phi (codes "end" ∷ words)) (append-nil values)
+        ∙ ap (λ more. front ++ block number (rows ++ values ∷ more) ∷ blocks_of phi (codes "end" ∷ words)) (rows_of-none phi (codes "end" ∷ words) (inner-end words))
+        ∙ ap (λ more. front ++ block number (rows ++ values ∷ []) ∷ more) (blocks_of-end phi words);
+  }
+
+  row_row : (front : List Block) (number : ℕ) (rows : List (List (List ℤ))) (values : List (List ℤ)) → Goes phi (InRow front number rows values) (codes "row")
+  row_row front number rows values = record {
+    part = parts.Row;
+    next = InRow front number (rows ++ values ∷ []) [];
+    said = refl;
+    no_end = refl;
+    stage = refl;
+    blocks = with_row_is front number (rows ++ values ∷ []);
+    kind = refl;
+    same = λ words. ap (λ more. front ++ block number (rows ++ (values ++ more) ∷ rows_of phi (codes "row" ∷ words)) ∷ blocks_of phi (codes "row" ∷ words)) (values_of-row phi words)
+        ∙ ap (λ values. front ++ block number (rows ++ values ∷ rows_of phi (codes "row" ∷ words)) ∷ blocks_of phi (codes "row" ∷ words)) (append-nil values)
+        ∙ ap (λ more. front ++ block number (rows ++ values ∷ more) ∷ blocks_of phi (codes "row" ∷ words)) (rows_of-row phi words)
+        ∙ ap (λ rows. front ++ block number rows ∷ blocks_of phi (codes "row" ∷ words)) (sym (append_assoc rows (values ∷ []) (values_of phi words ∷ rows_of phi words)))
+        ∙ ap (λ more. front ++ block number ((rows ++ values ∷ []) ++ values_of phi words ∷ rows_of phi words) ∷ more) (blocks_of-other phi (codes "row") words refl refl);
+    room = λ m short few. (
+      omega (arith, length-append front (block number (rows ++ values ∷ []) ∷ [])),
+      omega (arith, short.1, length-append rows (values ∷ []), ap length (last_rows_are front (block number (rows ++ values ∷ [])))),
+    );
+    short = λ m short. (omega (arith, short.0), omega (arith, short.1, length-append rows (values ∷ [])), omega arith);
+  }
+
+  row_value : (front : List Block) (number : ℕ) (rows : List (List (List ℤ))) (values : List (List ℤ)) (text : List ℕ) → begins_value text ≡ true → Goes phi (InRow front number rows values) text
+  row_value front number rows values text begins =
+      let no_class : is_word text (codes "class") ≡ false = value_no_word text 99 (codes "lass") begins refl in
+      let no_end : is_word text (codes "end") ≡ false = value_no_word text 101 (codes "nd") begins refl in
+      let no_row : is_word text (codes "row") ≡ false = value_no_word text 114 (codes "ow") begins refl in
+      let v = coefficients phi text in
+      let open_rows = last_rows_are front (block number (rows ++ values ∷ [])) in
+      record {
+        part = parts.Value (plain v);
+        next = InRow front number rows (values ++ v ∷ []);
+        said = rw (no_class, no_end, no_row) refl;
+        no_end = refl;
+        stage = refl;
+        blocks = with_value_is front number rows values v;
+        kind = rw (no_class, no_end) refl;
+        same = λ words. ap (λ more. front ++ block number (rows ++ (values ++ more) ∷ rows_of phi (text ∷ words)) ∷ blocks_of phi (text ∷ words)) (values_of-other phi text words no_class no_end no_row)
+            ∙ ap (λ values. front ++ block number (rows ++ values ∷ rows_of phi (text ∷ words)) ∷ blocks_of phi (text ∷ words)) (sym (append_assoc values (v ∷ []) (values_of phi words)))
+            ∙ ap (λ more. front ++ block number (rows ++ ((values ++ v ∷ []) ++ values_of phi words) ∷ more) ∷ blocks_of phi (text ∷ words)) (rows_of-other phi text words no_class no_end no_row)
+            ∙ ap (λ more. front ++ block number (rows ++ ((values ++ v ∷ []) ++ values_of phi words) ∷ rows_of phi words) ∷ more) (blocks_of-other phi text words no_class no_end);
+        room = λ m short few. (
+          omega (arith, length-append front (block number (rows ++ values ∷ []) ∷ [])),
+          omega (arith, length-append rows (values ∷ []), ap length open_rows),
+          rw open_rows (omega (arith, short.2, ap length (at_last rows values []))),
+        );
+        short = λ m short. (omega (arith, short.0), omega (arith, short.1), omega (arith, short.2, length-append values (v ∷ [])));
+      }
+
+  module _ (start : ℕ) where
+    move_by : (s : State) (text : List ℕ) → (stage_in s ≡ stages.Class → ⊥) → Word (stage_in s) text → Ends phi s text ⊎ Goes phi s text
+    move_by (Between front) text other (Class e) = subst (λ (t : List ℕ). Ends phi (Between front) t ⊎ Goes phi (Between front) t) (sym e) (inr (between_class front))
+    move_by (Between front) text other (End_word e) = subst (λ (t : List ℕ). Ends phi (Between front) t ⊎ Goes phi (Between front) t) (sym e) (inl (between_end front))
+    move_by (Between front) text other (Row e later) = absurd (later refl)
+    move_by (Between front) text other (Value begins e) = absurd cc
+    move_by (Named front) text other word = absurd (other refl)
+    move_by (InBlock front number rows) text other (Class e) = subst (λ (t : List ℕ). Ends phi (InBlock front number rows) t ⊎ Goes phi (InBlock front number rows) t) (sym e) (inr (block_class front number rows))
+    move_by (InBlock front number rows) text other (End_word e) = subst (λ (t : List ℕ). Ends phi (InBlock front number rows) t ⊎ Goes phi (InBlock front number rows) t) (sym e) (inl (block_end front number rows))
+    move_by (InBlock front number rows) text other (Row e later) = subst (λ (t : List ℕ). Ends phi (InBlock front number rows) t ⊎ Goes phi (InBlock front number rows) t) (sym e) (inr (block_row front number rows))
+    move_by (InBlock front number rows) text other (Value begins e) = absurd cc
+    move_by (InRow front number rows values) text other (Class e) = subst (λ (t : List ℕ). Ends phi (InRow front number rows values) t ⊎ Goes phi (InRow front number rows values) t) (sym e) (inr (row_class front number rows values))
+    move_by (InRow front number rows values) text other (End_word e) = subst (λ (t : List ℕ). Ends phi (InRow front number rows values) t ⊎ Goes phi (InRow front number rows values) t) (sym e) (inl (row_end front number rows values))
+    move_by (InRow front number rows values) text other (Row e later) = subst (λ (t : List ℕ). Ends phi (InRow front number rows values) t ⊎ Goes phi (InRow front number rows values) t) (sym e) (inr (row_row front number rows values))
+    move_by (InRow front number rows values) text other (Value begins e) = inr (row_value front number rows values text begins)
+
+    -- a token that may stand there ends the section, or reading goes on after it
+    pub move : (s : State) (text : List ℕ) → refusal (kind_after phi (stage_in s)) (record { start = start; text = text }) ≡ None → Ends phi s text ⊎ Goes phi s text
+    move (Between front) text fits = move_by (Between front) text (λ e. absurd cc) (word_is text start phi stages.Conductor (λ e. absurd cc) fits)
+    move (Named front) text fits = inr (named_number front text (natural_digits (record { start = start; text = text }) fits))
+    move (InBlock front number rows) text fits = move_by (InBlock front number rows) text (λ e. absurd cc) (word_is text start phi stages.Number (λ e. absurd cc) fits)
+    move (InRow front number rows values) text fits = move_by (InRow front number rows values) text (λ e. absurd cc) (word_is text start phi stages.Row (λ e. absurd cc) fits)
+
+-- ---- what holds while parts are put into blocks
+
+-- longer lists are allowed
+short_more : (s : State) (m k : ℕ) → m ≤ k → AreShort s m → AreShort s k
+short_more (Between front) m k le short = omega arith
+short_more (Named front) m k le short = omega arith
+short_more (InBlock front number rows) m k le short = (omega (arith, short.0), omega (arith, short.1))
+short_more (InRow front number rows values) m k le short = (omega (arith, short.0), omega (arith, short.1), omega (arith, short.2))
+
+-- blocks that were read up to what was read last
+pub record IsOpen (stage : Stage) (blocks : List Block) (m : ℕ) : Type 0 where
+  pub state : State
+  pub stage_is : stage ≡ stage_in state
+  pub blocks_are : blocks ≡ blocks_in state
+  pub short : AreShort state m
+
+pub none_open : (m : ℕ) → IsOpen stages.Conductor [] m
+none_open m = record { state = Between []; stage_is = refl; blocks_are = refl; short = omega arith }
+
+ends_or_not : (b : Bool) → b ≡ true → b ≡ false → ⊥
+ends_or_not b e f = true≢false (sym e ∙ f)
+
+module _ (phi start m after : ℕ) (text : List ℕ) (part : Part) (later : m < after) (few : after < 2 ^ 32) where
+  go_by : (s : State) → part_of phi (stage_in s) text ≡ part → is_end part ≡ false → AreShort s m → Ends phi s text ⊎ Goes phi s text
+      → HasRoom part (blocks_in s) × IsOpen (stage_of part) (with_part part (blocks_in s)) after
+  go_by s said no_end short (inl ends) = absurd (ends_or_not (is_end part) (ap is_end (sym said) ∙ ends.end) no_end)
+  go_by s said no_end short (inr goes) =
+      let same : goes.part ≡ part = sym goes.said ∙ said in (
+        subst (λ (p : Part). HasRoom p (blocks_in s)) same (goes.room m short (omega arith)),
+        record {
+          state = goes.next;
+          stage_is = ap stage_of (sym same) ∙ goes.stage;
+          blocks_are = ap (λ (p : Part). with_part p (blocks_in s)) (sym same) ∙ goes.blocks;
+          short = short_more goes.next (m + 1) after (omega arith) (goes.short m short);
+        },
+      )
+
+  pub go : (stage : Stage) (blocks : List Block) → IsOpen stage blocks m → refusal (kind_after phi stage) (record { start = start; text = text }) ≡ None → part_of phi stage text ≡ part → is_end part ≡ false
+      → HasRoom part blocks × IsOpen (stage_of part) (with_part part blocks) after
+  go stage blocks opened fits said no_end =
+      let s = opened.state in
+      let here : HasRoom part (blocks_in s) × IsOpen (stage_of part) (with_part part (blocks_in s)) after =
+      go_by s (rw opened.stage_is at said) no_end opened.short (move phi start s text (rw opened.stage_is at fits)) in
+      rw (← opened.blocks_are) at here

@@ -1,0 +1,183 @@
+-- Reading what follows the exponents, and so a whole document, finds the first refusal, and the contents by
+-- their places.
+use Rattle.std.proofs.Common.{◌≡◌, ℕ, zero, suc, ◌-◌, ◌+◌, ◌*◌, ◌≤◌, ◌<◌, cond, List, [], ◌∷◌, ◌++◌, length, take, drop, map, get_or, Option, Some, None, Ok, refl, sym, ap, ◌∙◌, ◌⊎◌, inl, inr, arith, add-one, length-drop}
+use Rattle.std.specs.Prelude.{fold}
+use Rattle.std.proofs.lemmas.List.{length-take-le, drop-take, take_more, get_or-drop}
+use Rattle.std.proofs.lemmas.List.Sums.{fold-append}
+use Rattle.cyclotomic.specs.Conductors.{phi_of}
+use Rattle.qd_text.specs.Tokens.{Lexeme}
+use Rattle.qd_text.specs.declared.expected.Expected.TheVariants.{Characters, Number, End}
+use Rattle.qd_doc.specs.declared.document.Form.{Form}
+use Rattle.qd_doc.specs.declared.document.Form.TheVariants.{Bare, WithCharacters}
+use Rattle.qd_doc.specs.declared.document.Document.{Document}
+use Rattle.qd_doc.specs.declared.document.Given.{Given}
+use Rattle.qd_doc.specs.declared.refusal.DocRefusal.TheVariants.{Syntax}
+use Rattle.qd_doc.specs.Blocks.{Block}
+use Rattle.qd_doc.specs.Kinds.{What, Word, ConductorNumber, ClassOrEnd, EndWord, NoToken, missing}
+use Rattle.qd_doc.specs.Grammar.{text_at, number_at, what_after, after_characters, ending, expected, first_refusal}
+use Rattle.qd_doc.specs.Contents.{blocks_of, characters_of, document_of}
+use Rattle.qd_doc.specs.Section.{kind_after, part_of, stage_of, is_end, with_part}
+use Rattle.qd_doc.specs.Reading.{read, skip, read_number, read_numbers, read_order, read_roots, read_exponents, read_end, read_blocks, read_given, read_characters, read_document}
+use Rattle.qd_doc.proofs.Loops.{missing_end, blocks_step}
+use Rattle.qd_doc.proofs.Parts.{State, Between, stage_in, blocks_in, whole, Ends as Section_ends, Goes, move}
+use Rattle.qd_doc.proofs.Places.{no_lexeme, Reads, Reached, Ends, reads_bind, reached_fits, drop_here, step, skip_step, word_step, number_step, end_step, missing-end, order_step, table_step, roots_step, exponents_step}
+
+-- the words of tokens
+abbrev pub texts : List Lexeme → List (List ℕ)
+texts tokens = map (λ (token : Lexeme). token.text) tokens
+
+missing-conductor : (offset : ℕ) → missing ConductorNumber offset ≡ Some (Syntax offset Number)
+unfolding missing
+missing-conductor offset = refl
+
+module _ (offset : ℕ) (all : List Lexeme) where
+  -- a bare document ends
+  bare_step : (place : ℕ) (Q : Option Given → Type 0) → Ends Bare offset all place → (first_refusal Bare offset all ≡ None → Q None)
+      → Reads Bare offset all (read_characters offset Bare (drop place all)) Q
+  unfolding read_characters read_end
+  bare_step place Q ends on =
+      reads_bind Bare offset all (read_end offset (drop place all)) (λ rest. Ok None) Q
+      (reads_bind Bare offset all (skip offset EndWord (drop place all)) _ (λ rest. Q None)
+      (skip_step Bare offset all EndWord place (place + 1) (Syntax offset End) _ (missing-end Bare offset all) refl ends.reached (ends.later place 0 (omega arith) ends.reached.within) (λ r1.
+      end_step Bare offset all (place + 1) (λ rest. Q None) r1 (ends.later (place + 1) 1 refl r1.within) on)))
+
+  -- ---- the section of characters
+
+  -- the tokens of the section that stand before a place
+  section_before : (place other k : ℕ) → other ≡ place + k → other ≤ length all → ending WithCharacters (take other all) k ≡ after_characters (take k (drop place all))
+  section_before place other k e inside =
+      let long : length (take other all) - k ≡ place = omega (arith, length-take-le other all inside) in
+      ap (λ n. after_characters (drop n (take other all))) long
+      ∙ ap (λ n. after_characters (drop place (take n all))) e
+      ∙ ap after_characters (drop-take place k all)
+
+  module _ (place : ℕ) (ends : Ends WithCharacters offset all place) where
+    kind_of : (other k : ℕ) → other ≡ place + k → other ≤ length all → expected WithCharacters (take other all) ≡ after_characters (take k (drop place all))
+    kind_of other k e inside = ends.later other k e inside ∙ section_before place other k e inside
+
+    here : (other : ℕ) → other < length all → drop other all ≡ get_or all other no_lexeme ∷ drop (other + 1) all
+    here other within = drop_here WithCharacters offset all other within
+
+    stands-word : expected WithCharacters (take place all) ≡ Word Characters
+    stands-word = kind_of place 0 (omega arith) ends.reached.within
+
+    stands-conductor : place + 1 ≤ length all → expected WithCharacters (take (place + 1) all) ≡ ConductorNumber
+    stands-conductor inside =
+        kind_of (place + 1) 1 refl inside ∙ ap (λ left. after_characters (take 1 left)) (here place (omega arith))
+
+    phi : ℕ
+    phi = phi_of (number_at all (place + 1))
+
+    -- what may stand after j tokens of the blocks
+    folded : ℕ → What
+    folded j = fold (λ kind (token : Lexeme). what_after phi kind token.text) ClassOrEnd (take j (drop (place + 2) all))
+
+    stands : (other j : ℕ) → other ≡ place + suc (suc j) → other ≤ length all → expected WithCharacters (take other all) ≡ folded j
+    unfolding folded phi
+    stands other j e inside =
+        let two : place + 1 + 1 ≡ place + 2 = omega arith in
+        let left : drop place all ≡ get_or all place no_lexeme ∷ get_or all (place + 1) no_lexeme ∷ drop (place + 2) all =
+        here place (omega arith) ∙ ap (λ more. get_or all place no_lexeme ∷ more) (here (place + 1) (omega arith) ∙ ap (λ n. get_or all (place + 1) no_lexeme ∷ drop n all) two) in
+        kind_of other (suc (suc j)) e inside ∙ ap (λ tokens. after_characters (take (suc (suc j)) tokens)) left
+
+    folded-more : (other j : ℕ) → other ≡ place + suc (suc j) → other < length all → folded (suc j) ≡ what_after phi (folded j) (text_at all other)
+    unfolding folded
+    folded-more other j e within =
+        let rest = drop (place + 2) all in
+        let listed : j < length rest = omega (arith, length-drop (place + 2) all) in
+        let same : place + 2 + j ≡ other = omega (arith, e) in
+        let more : take (suc j) rest ≡ take j rest ++ get_or all other no_lexeme ∷ [] =
+        ap (λ n. take n rest) (sym (add-one j)) ∙ take_more rest j no_lexeme listed
+        ∙ ap (λ (token : Lexeme). take j rest ++ token ∷ []) (get_or-drop (place + 2) all j no_lexeme ∙ ap (λ n. get_or all n no_lexeme) same) in
+        ap (fold (λ kind (token : Lexeme). what_after phi kind token.text) ClassOrEnd) more
+        ∙ fold-append (λ kind (token : Lexeme). what_after phi kind token.text) ClassOrEnd (take j rest) (get_or all other no_lexeme ∷ [])
+
+    -- what reading the blocks gives, and that nothing may stand after it
+    Found : State → ℕ → ((List Block × List Lexeme) → Type 0) → Type 0
+    Found s at Q = (end : ℕ) → Reached WithCharacters offset all end → (end ≤ length all → expected WithCharacters (take end all) ≡ NoToken) → Q (whole phi s (texts (drop at all)), drop end all)
+
+    texts_here : (at : ℕ) → at < length all → texts (drop at all) ≡ text_at all at ∷ texts (drop (at + 1) all)
+    texts_here at within = ap texts (here at within)
+
+    -- after a token
+    after : (at j : ℕ) (s : State) (Q : (List Block × List Lexeme) → Type 0) → at ≡ place + suc (suc j) → Reached WithCharacters offset all (at + 1)
+        → folded j ≡ kind_after phi (stage_in s) → Found s at Q
+        → ((next : State) → folded (suc j) ≡ kind_after phi (stage_in next) → Found next (at + 1) Q → Reads WithCharacters offset all (read_blocks offset phi (stage_in next) (blocks_in next) (drop (at + 1) all)) Q)
+        → Section_ends phi s (text_at all at) ⊎ Goes phi s (text_at all at)
+        → Reads WithCharacters offset all (cond (is_end (part_of phi (stage_in s) (text_at all at))) (Ok (blocks_in s, drop (at + 1) all))
+        (read_blocks offset phi (stage_of (part_of phi (stage_in s) (text_at all at))) (with_part (part_of phi (stage_in s) (text_at all at)) (blocks_in s)) (drop (at + 1) all))) Q
+    unfolding Found
+    after at j s Q e reached kind found rest (inl ends_here) =
+        let within : at < length all = omega (arith, reached.within) in
+        let blocks : whole phi s (texts (drop at all)) ≡ blocks_in s = ap (whole phi s) (texts_here at within) ∙ ends_here.all (texts (drop (at + 1) all)) in
+        let nothing : at + 1 ≤ length all → expected WithCharacters (take (at + 1) all) ≡ NoToken =
+        (λ inside. stands (at + 1) (suc j) (omega (arith, e)) inside ∙ folded-more at j e within ∙ ap (λ k. what_after phi k (text_at all at)) kind ∙ ends_here.nothing) in
+        rw ends_here.end (rw blocks at (found (at + 1) reached nothing))
+    after at j s Q e reached kind found rest (inr goes) =
+        let within : at < length all = omega (arith, reached.within) in
+        let next_kind : folded (suc j) ≡ kind_after phi (stage_in goes.next) = folded-more at j e within ∙ ap (λ k. what_after phi k (text_at all at)) kind ∙ goes.kind in
+        let same : whole phi s (texts (drop at all)) ≡ whole phi goes.next (texts (drop (at + 1) all)) = ap (whole phi s) (texts_here at within) ∙ goes.same (texts (drop (at + 1) all)) in
+        rw (goes.said, goes.no_end, goes.stage, goes.blocks) (rest goes.next next_kind (λ end reached_end nothing. rw same at (found end reached_end nothing)))
+
+    walk : (fuel at j : ℕ) (s : State) (Q : (List Block × List Lexeme) → Type 0) → length all ≤ at + fuel → at ≡ place + suc (suc j) → Reached WithCharacters offset all at
+        → folded j ≡ kind_after phi (stage_in s) → Found s at Q
+        → Reads WithCharacters offset all (read_blocks offset phi (stage_in s) (blocks_in s) (drop at all)) Q
+    walk zero at j s Q fuel e reached kind found = one_more
+      where
+        one_more : Reads WithCharacters offset all (read_blocks offset phi (stage_in s) (blocks_in s) (drop at all)) Q
+        one_more =
+            let missing_here = missing_end offset phi (stage_in s) in
+            rw (blocks_step offset phi (stage_in s) (blocks_in s) (drop at all))
+            (reads_bind WithCharacters offset all (read (part_of phi (stage_in s)) offset (kind_after phi (stage_in s)) (drop at all)) _ Q
+            (step WithCharacters offset all (part_of phi (stage_in s)) (kind_after phi (stage_in s)) at (at + 1) missing_here.0 _ missing_here.1 refl reached (stands at j e reached.within ∙ kind)
+            (λ reached_next. absurd (omega (arith, reached_next.within)))))
+    walk (suc fuel) at j s Q enough e reached kind found =
+        let missing_here = missing_end offset phi (stage_in s) in
+        rw (blocks_step offset phi (stage_in s) (blocks_in s) (drop at all))
+        (reads_bind WithCharacters offset all (read (part_of phi (stage_in s)) offset (kind_after phi (stage_in s)) (drop at all)) _ Q
+        (step WithCharacters offset all (part_of phi (stage_in s)) (kind_after phi (stage_in s)) at (at + 1) missing_here.0 _ missing_here.1 refl reached (stands at j e reached.within ∙ kind)
+        (λ reached_next.
+        after at j s Q e reached_next kind found
+        (λ next next_kind next_found. walk fuel (at + 1) (suc j) next Q (omega arith) (omega (arith, e)) reached_next next_kind next_found)
+        (move phi (get_or all at no_lexeme).start s (text_at all at) (reached_fits WithCharacters offset all at (kind_after phi (stage_in s)) reached_next (stands at j e reached.within ∙ kind))))))
+
+    characters_step : (Q : (Given × List Lexeme) → Type 0)
+        → ((end : ℕ) → Reached WithCharacters offset all end → (end ≤ length all → expected WithCharacters (take end all) ≡ NoToken)
+        → Q (record { conductor = number_at all (place + 1); blocks = blocks_of phi (texts (drop (place + 2) all)) }, drop end all))
+        → Reads WithCharacters offset all (read_given offset (drop place all)) Q
+    unfolding read_given Found folded phi
+    characters_step Q on =
+        reads_bind WithCharacters offset all (skip offset (Word Characters) (drop place all)) _ Q
+        (word_step WithCharacters offset all Characters place (place + 1) _ refl ends.reached stands-word (λ r1.
+        reads_bind WithCharacters offset all (read_number offset ConductorNumber (drop (place + 1) all)) _ Q
+        (number_step WithCharacters offset all ConductorNumber (place + 1) (place + 2) (Syntax offset Number) _ (missing-conductor offset) (omega arith) r1 (stands-conductor r1.within) (λ r2.
+        reads_bind WithCharacters offset all (read_blocks offset phi (stage_in (Between [])) [] (drop (place + 2) all)) _ Q
+        (walk (length all) (place + 2) 0 (Between []) _ (omega arith) (omega arith) r2 refl (λ end reached nothing. on end reached nothing))))))
+
+  -- what follows the exponents of a document with characters
+  given_step : (place : ℕ) (Q : Option Given → Type 0) → Ends WithCharacters offset all place → (first_refusal WithCharacters offset all ≡ None → Q (characters_of WithCharacters all))
+      → Reads WithCharacters offset all (read_characters offset WithCharacters (drop place all)) Q
+  unfolding read_characters characters_of phi
+  given_step place Q ends on =
+      reads_bind WithCharacters offset all (read_given offset (drop place all)) _ Q
+      (characters_step place ends _ (λ end reached nothing.
+      reads_bind WithCharacters offset all (skip offset NoToken (drop end all)) _ Q
+      (end_step WithCharacters offset all end _ reached (nothing reached.within) (λ none. rw ends.is_end at (on none)))))
+
+  last_step : (form : Form) (place : ℕ) (Q : Option Given → Type 0) → Ends form offset all place → (first_refusal form offset all ≡ None → Q (characters_of form all))
+      → Reads form offset all (read_characters offset form (drop place all)) Q
+  unfolding characters_of
+  last_step Bare place Q ends on = bare_step place Q ends on
+  last_step WithCharacters place Q ends on = given_step place Q ends on
+
+  -- reading a whole document finds the first refusal, or the document that its tokens spell
+  pub reads_document : (form : Form) → Reads form offset all (read_document offset form all) (λ document. (first_refusal form offset all ≡ None) × (document ≡ document_of form all))
+  unfolding read_document document_of
+  reads_document form =
+      let Q : Document → Type 0 = λ document. (first_refusal form offset all ≡ None) × (document ≡ document_of form all) in
+      let n = number_at all 3 in
+      reads_bind form offset all (read_order offset all) _ Q (order_step form offset all _ (λ r5.
+      reads_bind form offset all (read_numbers offset (n * n) (drop 5 all)) _ Q (table_step form offset all n refl _ r5 (λ after_table.
+      reads_bind form offset all (read_roots offset (drop (n * n + 5) all)) _ Q (roots_step form offset all n refl _ after_table (λ after_omega.
+      reads_bind form offset all (read_exponents offset n (drop (n * n + 8) all)) _ Q (exponents_step form offset all n refl _ after_omega (λ place ends.
+      reads_bind form offset all (read_characters offset form (drop place all)) _ Q (last_step form place _ ends (λ none. (none, refl)))))))))))
