@@ -105,12 +105,12 @@ Comes words left failed (Group fault) =
     OfCommand words left (λ command bytes. IsDocument command bytes × (group_fault (table_of (document_in command bytes)) ≡ Some fault))
 Comes words left failed (Cocycle fault) =
     OfCommand words left (λ command bytes. IsDocument command bytes × (group_fault (table_of (document_in command bytes)) ≡ None)
-        × (cocycle_fault (exponents_of (document_in command bytes)) ≡ Some fault))
+    × (cocycle_fault (exponents_of (document_in command bytes)) ≡ Some fault))
 Comes words left failed (NoConductor multiple) =
     OfVerify words left (λ document. IsLawful document × (multiple ≡ root_order (exponents_of document)) × (least_conductor multiple ≡ None))
 Comes words left failed (Conductor stated needed) =
     OfVerify words left (λ document. IsLawful document × (stated ≡ (given_in document).conductor)
-        × (least_conductor (root_order (exponents_of document)) ≡ Some needed) × (stated ≢ needed))
+    × (least_conductor (root_order (exponents_of document)) ≡ Some needed) × (stated ≢ needed))
 Comes words left failed (Simples ranks most) =
     OfVerify words left (λ document. HasConductor document × (ranks ≡ sum (class_ranks (exponents_of document))) × (most ≡ most_simples) × (most < ranks))
 Comes words left failed (Shape fault) =
@@ -122,7 +122,7 @@ Comes words left failed (NoVacuum rows) = OfVerify words left (IsMissed (causes.
 Comes words left failed (Overflow site) = OfVerify words left (IsMissed (causes.Overflow site))
 Comes words left failed Done =
     OfCommand words left (λ command bytes. IsDocument command bytes × IsLawful (document_in command bytes)
-        × (command ≡ Verify → IsVerified (document_in command bytes)))
+    × (command ≡ Verify → IsVerified (document_in command bytes)))
 Comes words left failed (Write planned) = ⊤
 Comes words left failed Memory = ⊤
 

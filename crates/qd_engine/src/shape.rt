@@ -57,7 +57,10 @@ fn width_fault_in(classes: &Classes, blocks: &Blocks, b: u32) -> Option<ShapeFau
     requires b_below { b < length blocks.now }
     ensures fault { result ≡ width_fault_in classes.now blocks.now b }
 {
-    first_below(blocks.rows(b), |row| width_fault_at(classes, blocks, b, row))
+    first_below(
+        blocks.rows(b),
+        |row| width_fault_at(classes, blocks, b, row),
+    )
 }
 
 /// The first number of a block that is not the representative, or else the first row that has another width.

@@ -115,6 +115,20 @@ fn append_conductor(out: &mut Vec<u8>, k: u32) -> Result<(), AllocError>
     out.extend_from_slice(text.as_bytes())
 }
 
+/// Adds the lines of the classes, and that of the conductor that a document states.
+fn append_verified(
+    alloc: Global,
+    out: &mut Vec<u8>,
+    document: &Document,
+    w: &Cocycle,
+) -> Result<(), AllocError>
+    ensures added { OnOk result (out.new.items
+        ≡ out.old.items ++ (classes_text w.now.group (class_ranks w.now) ++ conductor_line (given_in document.now).conductor)) }
+{
+    append_ranked_classes(alloc, out, w)?;
+    append_conductor(out, stated_conductor(document))
+}
+
 /// The report of a command on a document and its cocycle.
 fn report(
     alloc: Global,
@@ -129,10 +143,7 @@ fn report(
     match command {
         Command::Check => {}
         Command::Classes => append_ranked_classes(alloc, &mut text, w)?,
-        Command::Verify => {
-            append_ranked_classes(alloc, &mut text, w)?;
-            append_conductor(&mut text, stated_conductor(document))?;
-        }
+        Command::Verify => append_verified(alloc, &mut text, document, w)?,
     }
     text.extend_from_slice(b"end\n")?;
     Ok(text)

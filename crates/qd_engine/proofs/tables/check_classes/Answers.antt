@@ -21,7 +21,7 @@ returns-in_err-check_table g c =
     record {
       follows = rw (p.1, p.2)
           (tables_stop c.args.w.now g.row.K c.args.blocks.now c.loop-c.c c.in_err-check_table.field-0.0 (subst (λ n. c.loop-c.c < n) all c.loop-c-test.true) c.loop-c.invariant
-            c.in_err-check_table.ensures.follows);
+          c.in_err-check_table.ensures.follows);
     }
 
 pub returns : goal.returns

@@ -11,13 +11,20 @@ use Rattle.qd_engine.proofs.tables.check_table.Goals as goal
 pub check-requires : goal.check-requires
 check-requires g c =
     let w = c.args.w.now in
-    let at = c.representative-at.ensures.representative ∙ ap (λ (t : Table). representative_at t c.args.c) c.requires.group in
-    (omega arith, (omega arith, (omega arith,
-      table_shaped w c.args.blocks.now c.args.c g.row.K _ _
-      (subst (λ t. IsMatched t c.args.blocks.now) c.requires.group c.requires.matched)
-      (subst (λ (t : Table). c.args.c < length (representatives t)) c.requires.group c.requires.c_below)
-      c.requires.conductor c.requires.multiple
-      (c.in_ok-twist.ensures.twist ∙ ap (twist_of w) at) c.in_ok-rows.ensures.rows)))
+    let at = c.representative-at.ensures.representative ∙ ap (λ (t : Table). representative_at t c.args.c) c.requires.group in (
+      omega arith,
+      (
+        omega arith,
+        (
+          omega arith,
+          table_shaped w c.args.blocks.now c.args.c g.row.K _ _
+              (subst (λ t. IsMatched t c.args.blocks.now) c.requires.group c.requires.matched)
+              (subst (λ (t : Table). c.args.c < length (representatives t)) c.requires.group c.requires.c_below)
+              c.requires.conductor c.requires.multiple
+              (c.in_ok-twist.ensures.twist ∙ ap (twist_of w) at) c.in_ok-rows.ensures.rows,
+        ),
+      ),
+    )
 
 pub returns : goal.returns
 returns g c =

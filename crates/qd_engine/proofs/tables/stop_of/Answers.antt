@@ -11,8 +11,8 @@ returns-in-Identity-clause-missed g c s table miss same refuses =
     let (fit, is) = subst (λ refusal. Refuses s table refusal miss) c.in-Identity.is refuses in
     ap stops.Refused
     (identity_missed s table miss fit _ _ _ _ _ _ _ _ _ is same
-      (plain_same g.row.K left.conductor _ _ _ left.array is.left_side c.to_plain.ensures)
-      (plain_same g.row.K right.conductor _ _ _ right.array is.right_side c.to_plain-in-Identity.ensures))
+    (plain_same g.row.K left.conductor _ _ _ left.array is.left_side c.to_plain.ensures)
+    (plain_same g.row.K right.conductor _ _ _ right.array is.right_side c.to_plain-in-Identity.ensures))
 
 pub returns-in-NoTwist-clause-missed : goal.returns-in-NoTwist-clause-missed
 returns-in-NoTwist-clause-missed g c s table miss same refuses =
