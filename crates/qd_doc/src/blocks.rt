@@ -8,9 +8,9 @@ use qd_ring::Plain;
 use std::alloc::Global;
 use std::marker::Model;
 
-/// A block as it is kept.
+/// A block as it is stored.
 #[derive(Debug, Drop)]
-pub struct Kept {
+pub struct StoredBlock {
     pub representative: u32,
     pub rows: PlainRows,
 }
@@ -19,7 +19,7 @@ pub struct Kept {
 /// list of values, each the list of its 42 coefficients.
 #[derive(Debug, Drop)]
 pub struct Blocks {
-    blocks: Vec<Kept>,
+    blocks: Vec<StoredBlock>,
 }
 
 impl Model for Blocks {
@@ -28,7 +28,7 @@ impl Model for Blocks {
 
     ghost Value = { List Block };
 
-    ghost view = { λ list. map (λ kept. block kept.representative kept.rows) list.blocks.items };
+    ghost view = { λ list. map (λ stored. block stored.representative stored.rows) list.blocks.items };
 
     ghost invariant = { λ list. length list.blocks.items < 2 ^ 32 };
 }
@@ -50,7 +50,7 @@ impl Blocks {
         ensures unchanged { OnErr result (self.new ≡ self.old) }
     {
         let rows = PlainRows::empty(*self.blocks.allocator());
-        self.blocks.push(Kept {
+        self.blocks.push(StoredBlock {
             representative,
             rows,
         })?;

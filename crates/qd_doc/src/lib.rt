@@ -1,4 +1,4 @@
-//! Documents: a finite group's table and the exponents of a cochain, as text.
+//! Documents: a finite group's table, the exponents of a cochain and rows of values, as text.
 #![tactic(auto)]
 
 mod block_text;
