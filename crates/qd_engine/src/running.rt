@@ -75,7 +75,7 @@ pub fn run<S: Source, W: Sink>(
 ) -> Answer
     ensures status { result.status ≡ status_of result.why }
 
-    // Done: the input is a document of a group and a normalised 3-cocycle, and the sink has its report.
+    // Done: the input is a document of a group and a normalised 3-cocycle, for `verify` with good rows, and the sink has its report.
     ensures done { result.why ≡ Why.Done →
         IsDone (texts words.now.items) (S.left source.old) (W.written sink.old) (W.written sink.new) }
 

@@ -1,6 +1,7 @@
 use super::*;
 use qd_io::{MemSink, MemSource, SureSink, SureSource};
 use std::alloc::{AllocError, Global};
+use std::process::Abort;
 use std::test::Fail;
 
 const SEMION: &str =
@@ -12,6 +13,17 @@ const REPORT: &str = "group order 2 identity 0 exponent 2\ncocycle roots 2\nend\
 
 const CLASSES: &str = "group order 2 identity 0 exponent 2\ncocycle roots 2\n\
     class 0 at 0 size 1 centraliser 2 rank 2\nclass 1 at 1 size 1 centraliser 2 rank 2\nsimples 4\nend\n";
+
+const VERIFIED: &str = "group order 2 identity 0 exponent 2\ncocycle roots 2\n\
+    class 0 at 0 size 1 centraliser 2 rank 2\nclass 1 at 1 size 1 centraliser 2 rank 2\nsimples 4\nconductor 4\nend\n";
+
+const VERIFIED_TRIVIAL: &str = "group order 2 identity 0 exponent 2\ncocycle roots 1\n\
+    class 0 at 0 size 1 centraliser 2 rank 2\nclass 1 at 1 size 1 centraliser 2 rank 2\nsimples 4\nconductor 4\nend\n";
+
+/// The document of the group of order two, with its cocycle that isn't trivial and then with the trivial one, up to the rows that it gives.
+const TWISTED: &str =
+    "qdouble 1\norder 2\ntable\n0 1\n1 0\nroots 2\nomega dense\n0 0\n0 0\n0 0\n0 1\n";
+const TRIVIAL: &str = "qdouble 1\norder 2\ntable\n0 1\n1 0\nroots 1\nomega trivial\n";
 
 fn words(alloc: Global, word: &str) -> Result<Vec<String>, AllocError> {
     let mut words = Vec::new(alloc);
@@ -106,5 +118,119 @@ fn asks_for_a_command(rt: HostRuntime) -> Result<(), Fail> {
         }
     );
     assert_eq!(rt; sink.written().as_slice(), b"refused 2 usage\n".as_slice());
+    Ok(())
+}
+
+/// What `verify` answers and writes to a document that ends with these rows.
+fn assert_verify(
+    rt: &impl Abort,
+    alloc: Global,
+    document: &str,
+    rows: &str,
+    status: u8,
+    written: &str,
+) -> Result<(), Fail> {
+    let text = format!(in alloc; "{document}{rows}end\n")?;
+    let never: [u32; 0] = [];
+    let mut source = source(alloc, text.as_str(), &never)?;
+    let mut sink = sink(alloc, &never)?;
+    let answer = run(alloc, &words(alloc, "verify")?, &mut source, &mut sink);
+    assert_eq!(rt; answer.status, status);
+    assert_eq!(rt; sink.written().as_slice(), written.as_bytes());
+    Ok(())
+}
+
+#[test]
+fn accepts_the_rows_of_the_classes(rt: HostRuntime) -> Result<(), Fail> {
+    let documents = [
+        (
+            TWISTED,
+            "characters 4\nclass 0\nrow 1 1\nrow 1 -1\nclass 1\nrow 1 -1z1\nrow 1 1z1\n",
+            VERIFIED,
+        ),
+        (
+            TWISTED,
+            "characters 4\nclass 0\nrow 1 -1\nrow 1 1\nclass 1\nrow 1 -1z1\nrow 1 1z1\n",
+            VERIFIED,
+        ),
+        (
+            TRIVIAL,
+            "characters 4\nclass 0\nrow 1 1\nrow 1 -1\nclass 1\nrow 1 -1\nrow 1 1\n",
+            VERIFIED_TRIVIAL,
+        ),
+    ];
+    for (document, rows, report) in documents {
+        assert_verify(&rt, rt.alloc(), document, rows, 0, report)?;
+    }
+    Ok(())
+}
+
+#[test]
+fn refuses_other_rows_of_the_twisted_group(rt: HostRuntime) -> Result<(), Fail> {
+    // The rows of class 0, the status, and the line.
+    let rows = [
+        (
+            "row 1 1\nrow 1 1\n",
+            9,
+            "refused 9 product 0 0 1 0 2 0\n",
+        ),
+        ("row 1 1\n", 9, "refused 9 count 0 1 2\n"),
+        (
+            "row 1 1\nrow 1 1298074214633706907132624082305024\n",
+            11,
+            "refused 11 overflow product 0 0 1 0\n",
+        ),
+        (
+            "row 1 1\nrow 1 1329227995784915872903807060280344576\n",
+            3,
+            "refused 3 wide 103\n",
+        ),
+    ];
+    for (first, status, line) in rows {
+        let rows = format!(in rt.alloc();
+            "characters 4\nclass 0\n{first}class 1\nrow 1 -1z1\nrow 1 1z1\n"
+        )?;
+        assert_verify(&rt, rt.alloc(), TWISTED, rows.as_str(), status, line)?;
+    }
+    Ok(())
+}
+
+#[test]
+fn refuses_rows_of_another_conductor_width_or_twist(rt: HostRuntime) -> Result<(), Fail> {
+    let documents = [
+        (
+            TWISTED,
+            "characters 8\nclass 0\nrow 1 1\nrow 1 -1\nclass 1\nrow 1 -1z1\nrow 1 1z1\n",
+            6,
+            "refused 6 stated 8 needed 4\n",
+        ),
+        (
+            TRIVIAL,
+            "characters 4\nclass 0\nrow 1 1\nrow 1 -1\nclass 1\nrow 1 -1\nrow 1 2\n",
+            9,
+            "refused 9 twist 1 1 2\n",
+        ),
+        (
+            TRIVIAL,
+            "characters 4\nclass 0\nrow 1 1\nrow 1 -1\nclass 1\nrow 1 -1\nrow 1\n",
+            9,
+            "refused 9 width 1 1 1 2\n",
+        ),
+        (
+            TRIVIAL,
+            "characters 4\nclass 0\nrow 1 1\nrow 1 -1\n",
+            9,
+            "refused 9 blocks 1 2\n",
+        ),
+        (
+            TRIVIAL,
+            "characters 4\nclass 0\nrow 1 1\nrow 1 -1\nclass 0\nrow 1 -1\nrow 1 1\n",
+            9,
+            "refused 9 representative 1 0 1\n",
+        ),
+    ];
+    for (document, rows, status, line) in documents {
+        assert_verify(&rt, rt.alloc(), document, rows, status, line)?;
+    }
     Ok(())
 }
