@@ -1,5 +1,5 @@
 -- The least conductor that is a multiple of a number is a conductor, and is a multiple of its factors.
-use Rattle.std.proofs.Common.{◌≡◌, ℕ, ◌+◌, ◌*◌, ◌%◌, ◌/◌, Bool, true, false, cond, List, [], ◌∷◌, map, Option, Some, refl, sym, ap, subst, ◌∙◌, ◌||◌, eq-eqb, arith}
+use Rattle.std.proofs.Common.{◌≡◌, ℕ, ◌*◌, ◌%◌, ◌/◌, Bool, true, false, cond, List, [], ◌∷◌, map, Option, Some, refl, ap, subst, ◌∙◌, ◌||◌, eq-eqb, arith}
 use Rattle.std.specs.Prelude.{◌==◌, find}
 use Rattle.std.specs.List.{list_any}
 use Rattle.std.proofs.lemmas.Bool.{eqb-true}

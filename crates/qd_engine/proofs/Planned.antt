@@ -1,5 +1,5 @@
 -- What the plan gives says at which of its steps it ended.
-use Rattle.std.proofs.Common.{◌≡◌, ℕ, ◌<◌, ◌≤◌, Bool, true, false, cond, nat_lt, List, [], length, Option, Some, None, Result, Ok, Err, refl, sym, ap, subst, ◌∙◌, ◌⊎◌, inl, inr}
+use Rattle.std.proofs.Common.{◌≡◌, ℕ, ◌<◌, ◌≤◌, Bool, true, false, cond, nat_lt, List, [], length, Option, Some, None, Result, Ok, Err, refl, sym, ap, subst, ◌∙◌, inl, inr}
 use Rattle.std.specs.Prelude.{IsSome}
 use Rattle.std.proofs.lemmas.Bool.{ltb-true, ltb-false, lt-ltb}
 use Rattle.scan.proofs.Places.{first_some}
@@ -24,7 +24,7 @@ use Rattle.qd_doc.specs.declared.refusal.DocRefusal.TheVariants as stops
 use Rattle.group_table.specs.Group.{group_fault}
 use Rattle.cochain.specs.Cochain.{Cochain, cocycle_fault}
 use Rattle.qd_engine.specs.Words.{command_of}
-use Rattle.qd_engine.specs.Plan.{◌>>=◌, unless, asked, within_limit, cause_of_stop, document_step, group_step, cocycle_step, command_step, answer_to, plan}
+use Rattle.qd_engine.specs.Plan.{◌>>=◌, asked, within_limit, cause_of_stop, document_step, group_step, cocycle_step, command_step, answer_to, plan}
 use Rattle.qd_engine.specs.Documents.{form_of, table_of, exponents_of}
 use Rattle.qd_engine.specs.Report.{report_of}
 use Rattle.qd_engine.specs.Answers.{why_of_cause}

@@ -1,5 +1,5 @@
 -- The cause of a refusal of a table, by what the check of the table says of its first miss.
-use Rattle.std.proofs.Common.{◌≡◌, ℕ, Bool, true, List, refl, sym, ap, ◌∙◌}
+use Rattle.std.proofs.Common.{◌≡◌, ℕ, true, List, refl, sym, ap, ◌∙◌}
 use Rattle.std.specs.Prelude.{ℤ}
 use Rattle.cyclotomic.specs.CyclotomicRing.{CyclotomicValue, cyclotomic_value}
 use Rattle.cyclotomic.specs.Conductors.{is_conductor}
@@ -9,13 +9,11 @@ use Rattle.qd_ring.specs.declared.plain.Plain.{Plain}
 use Rattle.twisted.specs.Twist.{TwistedSubgroup}
 use Rattle.table_check.specs.Characters.{Characters}
 use Rattle.table_check.specs.Sides.{twist_left}
-use Rattle.table_check.specs.Answers.{clause_of, fit_at, second_of, third_of, left_of, right_of, IsEquationOf}
+use Rattle.table_check.specs.Answers.{clause_of, fit_at, left_of, right_of, IsEquationOf}
 use Rattle.table_check.specs.declared.identity_name.IdentityName.{IdentityName}
 use Rattle.table_check.specs.declared.identity_name.IdentityName.TheVariants as names
-use Rattle.table_check.specs.declared.miss.Clause.{Clause}
 use Rattle.table_check.specs.declared.miss.Clause.TheVariants as clauses
 use Rattle.table_check.specs.declared.miss.Miss.{Miss}
-use Rattle.data_print.specs.declared.cause.Cause.{Cause}
 use Rattle.data_print.specs.declared.cause.Cause.TheVariants.{Identity, NoTwist}
 use Rattle.qd_engine.specs.Tables.{plain_of, equation, failure, cause_of_miss}
 

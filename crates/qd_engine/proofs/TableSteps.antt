@@ -1,23 +1,20 @@
 -- The steps of the check of all tables.
-use Rattle.std.proofs.Common.{◌≡◌, ℕ, ◌<◌, ◌≤◌, ◌%◌, true, List, length, Option, Some, None, Result, Ok, Err, refl, sym, ap, subst, ◌∙◌}
+use Rattle.std.proofs.Common.{◌≡◌, ℕ, ◌<◌, ◌%◌, true, List, length, Some, None, Ok, Err, refl, sym, ap, subst, ◌∙◌}
 use Rattle.std.specs.Prelude.{ℤ}
 use Rattle.scan.specs.First.{first}
 use Rattle.scan.proofs.Places.{first_found}
-use Rattle.group_table.specs.Group.{Table}
-use Rattle.classes.specs.Conjugacy.{representatives, representative_at, centraliser_of}
+use Rattle.classes.specs.Conjugacy.{representatives, representative_at}
 use Rattle.cochain.specs.Cochain.{Cochain}
 use Rattle.cyclotomic.specs.Conductors.{is_conductor}
-use Rattle.qd_ring.specs.RowLists.{row_at}
 use Rattle.twisted.specs.Twist.{TwistedSubgroup}
 use Rattle.slant.specs.Twists.{twist_of}
 use Rattle.qd_doc.specs.Blocks.{Block, block_at}
-use Rattle.table_check.specs.Characters.{Characters, IsShaped, characters_of}
+use Rattle.table_check.specs.Characters.{Characters, IsShaped}
 use Rattle.table_check.specs.Check.{table_miss}
 use Rattle.table_check.specs.Answers.{Refuses, Checks}
 use Rattle.table_check.specs.declared.miss.Miss.{Miss}
 use Rattle.table_check.specs.declared.refusal.TableRefusal.{TableRefusal}
 use Rattle.table_check.specs.declared.refusal.TableRefusal.TheVariants as refusals
-use Rattle.data_print.specs.declared.cause.Cause.{Cause}
 use Rattle.qd_engine.specs.declared.stop.Stop.{Stop}
 use Rattle.qd_engine.specs.declared.stop.Stop.TheVariants as stops
 use Rattle.qd_engine.specs.Shape.{IsMatched}

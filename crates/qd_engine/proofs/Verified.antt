@@ -1,20 +1,17 @@
 -- What the tests of `verify` say of the rows that a document gives.
-use Rattle.std.proofs.Common.{◌≡◌, ◌≢◌, ℕ, ◌<◌, ◌≤◌, Bool, true, false, cond, List, length, Option, Some, None, Result, Ok, Err, refl, sym, ap, subst, ◌∙◌, inl, inr}
+use Rattle.std.proofs.Common.{◌≡◌, ◌≢◌, ℕ, ◌<◌, Bool, true, false, cond, List, length, Option, Some, None, Result, Ok, Err, refl, sym, ap, subst, ◌∙◌, inl, inr}
 use Rattle.std.specs.Prelude.{◌==◌, nat_le, sum}
 use Rattle.std.specs.Option.{option_map}
 use Rattle.std.proofs.lemmas.Bool.{eqb-true, eqb-false, leb-true, leb-false}
-use Rattle.scan.specs.First.{first}
 use Rattle.scan.proofs.Places.{first_some, first_none-at}
 use Rattle.classes.specs.Conjugacy.{representatives}
 use Rattle.cochain.specs.Cochain.{Cochain}
 use Rattle.cyclotomic.specs.Conductors.{least_conductor}
 use Rattle.twisted.specs.Twist.{TwistedSubgroup}
-use Rattle.qd_text.specs.Tokens.{tokens}
 use Rattle.qd_doc.specs.Contents.{document_of, characters_of}
 use Rattle.qd_doc.specs.declared.document.Document.{Document}
 use Rattle.qd_doc.specs.declared.document.Given.{Given}
 use Rattle.table_check.specs.Characters.{Characters}
-use Rattle.table_check.specs.Check.{table_miss}
 use Rattle.table_check.specs.Answers.{fit_at}
 use Rattle.table_check.specs.Good.{IsGood}
 use Rattle.table_check.proofs.Good.{nothing_missed}
@@ -28,7 +25,7 @@ use Rattle.qd_engine.specs.Documents.{table_of, exponents_of, given_in, root_ord
 use Rattle.qd_engine.specs.Shape.{shape_fault}
 use Rattle.qd_engine.specs.Tables.{failure, site_of, cause_of_miss, table_cause, class_twist, class_table, tables_cause}
 use Rattle.qd_engine.specs.Report.{class_ranks}
-use Rattle.qd_engine.specs.Plan.{◌>>=◌, unless, needed, conductor_step, stated_step, most_simples, simples_step, shape_step, tables_step, verify_step}
+use Rattle.qd_engine.specs.Plan.{◌>>=◌, needed, conductor_step, stated_step, most_simples, simples_step, shape_step, tables_step, verify_step}
 use Rattle.qd_engine.specs.Causes.{document_in, IsLawful, HasConductor, IsFew, IsShaped, IsMissed, IsVerified}
 use Rattle.qd_engine.proofs.Chains.{bind_err, bind_ok, unless_err, unless_ok}
 use Rattle.qd_engine.proofs.Shapes.{shape_matches}

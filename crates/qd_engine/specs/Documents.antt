@@ -1,5 +1,5 @@
 -- What a document says: its table, its exponents, and the rows that it gives.
-use Rattle.std.specs.Prelude.{ℕ, ◌*◌, List, [], Option, Some, None, sum, unwrap_or}
+use Rattle.std.specs.Prelude.{ℕ, ◌*◌, [], unwrap_or}
 use Rattle.orders.specs.Order.{exponent_of}
 use Rattle.group_table.specs.Group.{Table, product, identity_of}
 use Rattle.cochain.specs.Cochain.{Cochain, cochain_of}

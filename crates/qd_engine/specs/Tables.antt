@@ -1,5 +1,5 @@
 -- The check of the tables of all classes, and the cause of a refusal where a table misses what is asked of it.
-use Rattle.std.specs.Prelude.{ℕ, List, length, Option, Some, None, if◌then◌else◌}
+use Rattle.std.specs.Prelude.{ℕ, List, length, Option, if◌then◌else◌}
 use Rattle.std.specs.Option.{option_map}
 use Rattle.scan.specs.First.{first}
 use Rattle.cochain.specs.Cochain.{Cochain}

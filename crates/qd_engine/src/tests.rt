@@ -23,6 +23,7 @@ const VERIFIED_TRIVIAL: &str = "group order 2 identity 0 exponent 2\ncocycle roo
 /// The document of the group of order two, with its cocycle that isn't trivial and then with the trivial one, up to the rows that it gives.
 const TWISTED: &str =
     "qdouble 1\norder 2\ntable\n0 1\n1 0\nroots 2\nomega dense\n0 0\n0 0\n0 0\n0 1\n";
+
 const TRIVIAL: &str = "qdouble 1\norder 2\ntable\n0 1\n1 0\nroots 1\nomega trivial\n";
 
 fn words(alloc: Global, word: &str) -> Result<Vec<String>, AllocError> {
@@ -169,11 +170,7 @@ fn accepts_the_rows_of_the_classes(rt: HostRuntime) -> Result<(), Fail> {
 fn refuses_other_rows_of_the_twisted_group(rt: HostRuntime) -> Result<(), Fail> {
     // The rows of class 0, the status, and the line.
     let rows = [
-        (
-            "row 1 1\nrow 1 1\n",
-            9,
-            "refused 9 product 0 0 1 0 2 0\n",
-        ),
+        ("row 1 1\nrow 1 1\n", 9, "refused 9 product 0 0 1 0 2 0\n"),
         ("row 1 1\n", 9, "refused 9 count 0 1 2\n"),
         (
             "row 1 1\nrow 1 1298074214633706907132624082305024\n",

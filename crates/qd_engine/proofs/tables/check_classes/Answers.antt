@@ -1,10 +1,8 @@
-use Rattle.std.proofs.Common.{length, le_antisymm, ap, subst, sym, ◌∙◌, ◌<◌, arith, Err}
+use Rattle.std.proofs.Common.{length, le_antisymm, ap, subst, ◌∙◌, ◌<◌}
 use Rattle.group_table.specs.Group.{Table}
 use Rattle.classes.specs.Conjugacy.{representatives}
 use Rattle.scan.proofs.Places.{first-zero, first_none-step}
 use Rattle.std.proofs.lemmas.Result.{err_from_is_err_and}
-use Rattle.qd_engine.specs.Plan.{tables_step}
-use Rattle.qd_engine.specs.Follows.{Follows}
 use Rattle.qd_engine.proofs.TableSteps.{table_passes, tables_pass, tables_stop}
 use Rattle.qd_engine.proofs.tables.check_classes.Goals as goal
 

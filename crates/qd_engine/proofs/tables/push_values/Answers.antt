@@ -1,4 +1,4 @@
-use Rattle.std.proofs.Common.{[], ◌∷◌, ◌++◌, take, ap, ◌∙◌, arith}
+use Rattle.std.proofs.Common.{[], take, ap, ◌∙◌, arith}
 use Rattle.qd_ring.specs.RowLists.{row_at, with_value}
 use Rattle.qd_doc.specs.Blocks.{block_at}
 use Rattle.qd_engine.proofs.TableRows.{value_more}

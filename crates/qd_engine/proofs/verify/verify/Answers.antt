@@ -1,4 +1,4 @@
-use Rattle.std.proofs.Common.{◌≤◌, List, length, sym, subst}
+use Rattle.std.proofs.Common.{◌≤◌, length, sym, subst}
 use Rattle.qd_engine.proofs.RankLaws.{class_ranks_few}
 use Rattle.qd_engine.proofs.verify.verify.Goals as goal
 
