@@ -8,3 +8,4 @@ pub mod Fitting
 pub mod Conjugates
 pub mod Check
 pub mod Answers
+pub mod Instances

@@ -4,6 +4,7 @@
 ghost use Rattle.std.specs.Prelude.{◌≡◌, ◌^◌, ◌<◌, ℕ, [], ◌∷◌, length};
 ghost use Rattle.table_check.specs.Characters.{IsShaped};
 ghost use Rattle.twisted.specs.Twist.{IsTwist};
+ghost use Rattle.table_check.specs.Instances.{one_twist};
 ghost use Rattle.twisted.specs.Instances.{four_twist};
 
 use crate::{IdentityName, Table, TableRefusal};
@@ -26,14 +27,28 @@ fn nats_of(rt: &impl Abort, alloc: Global, numbers: &[u32]) -> Nats
 }
 
 /// The twist of these lists over the element 0.
-fn twist_of(rt: &impl Abort, alloc: Global, table: &[u32], phases: &[u32]) -> Twist
-    requires twist { IsTwist (record { at = 0; elements = 0 ∷ 1 ∷ 2 ∷ 3 ∷ []; group = record { order = 4; entries = table.now }; modulus = 2; phases = phases.now }) }
-    ensures twist { result ≡ record { at = 0; elements = 0 ∷ 1 ∷ 2 ∷ 3 ∷ []; group = record { order = 4; entries = table.now }; modulus = 2; phases = phases.now } }
+fn twist_of(
+    rt: &impl Abort,
+    alloc: Global,
+    elements: &[u32],
+    table: &[u32],
+    modulus: u32,
+    phases: &[u32],
+) -> Twist
+    requires twist { IsTwist (record { at = 0; elements = elements.now; group = record { order = length elements.now; entries = table.now }; modulus = modulus; phases = phases.now }) }
+    ensures twist { result ≡ record { at = 0; elements = elements.now; group = record { order = length elements.now; entries = table.now }; modulus = modulus; phases = phases.now } }
 {
     let table = nats_of(rt, alloc, table);
-    let group = Group::from_table(alloc, 4, &table).expect(rt, "a group");
+    let group = Group::from_table(alloc, elements.len() as u32, &table).expect(rt, "a group");
     let phases = nats_of(rt, alloc, phases);
-    Twist::new(0, nats_of(rt, alloc, &[0, 1, 2, 3]), group, 2, phases)
+    Twist::new(0, nats_of(rt, alloc, elements), group, modulus, phases)
+}
+
+/// The group of one element.
+fn one(rt: &impl Abort, alloc: Global) -> Twist
+    ensures twist { result ≡ one_twist }
+{
+    twist_of(rt, alloc, &[0], &[0], 1, &[0])
 }
 
 /// The group of pairs of bits, with a phase of -1 where the first bit on the left and the second on the right are 1.
@@ -43,7 +58,9 @@ fn four(rt: &impl Abort, alloc: Global) -> Twist
     twist_of(
         rt,
         alloc,
+        &[0, 1, 2, 3],
         &[0, 1, 2, 3, 1, 0, 3, 2, 2, 3, 0, 1, 3, 2, 1, 0],
+        2,
         &[0, 0, 0, 0, 0, 0, 0, 0, 0, 1, 0, 1, 0, 1, 0, 1],
     )
 }
@@ -70,6 +87,31 @@ fn row(rt: &impl Abort, alloc: Global, a: u8, b: u8, c: u8, d: u8) -> Rows<4>
 fn refusal(rt: &impl Abort, alloc: Global, a: u8, b: u8, c: u8, d: u8) -> Option<TableRefusal<4>> {
     let twist = four(rt, alloc);
     Table::check(alloc, &twist, row(rt, alloc, a, b, c, d)).err()
+}
+
+/// The table of the one row `1`.
+#[tactic(auto, unfolding(cyclotomic::specs::Conductors::is_conductor, cyclotomic::specs::Conductors::conductors))]
+fn trivial(rt: &impl Abort, alloc: Global) -> Table<4>
+    ensures over { result.over ≡ one_twist }
+    ensures rows { length result.rows ≡ 1 }
+{
+    let mut rows = Rows::<4>::empty(alloc);
+    rows.push_row().expect(rt, "memory");
+    rows.push_value(Cyc::one()).expect(rt, "memory");
+    match Table::check(alloc, &one(rt, alloc), rows) {
+        Ok(table) => table,
+        Err(_) => panic!(rt; "no table"),
+    }
+}
+
+#[test]
+fn accepts(rt: HostRuntime) {
+    let table = trivial(&rt, rt.alloc());
+    assert_eq!(rt; table.rows(), 1);
+    assert_eq!(rt; table.degree(0), 1);
+    assert_eq!(rt; table.twist(0), 0);
+    assert_eq!(rt; table.value(0, 0).coefficient(0), 1);
+    assert_eq!(rt; table.over().size(), 1);
 }
 
 #[test]
