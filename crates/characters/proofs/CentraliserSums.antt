@@ -1,0 +1,58 @@
+-- Laws of sums over the centraliser of an element.
+use Rattle.std.proofs.Common.{◌≡◌, sym, ◌∙◌, ap}
+use Rattle.algebra.specs.Sums.{pick}
+use Rattle.algebra.specs.Totals.{Finite, equals, total}
+use Rattle.algebra.proofs.RingLaws.{one_mul}
+use Rattle.algebra.proofs.SumLaws.{pick_of, pick_cong, mul_pick, pick_mul, pick_swap}
+use Rattle.algebra.proofs.GroupLaws.{inv_op_op, op_inv_op, op_cancel_left}
+use Rattle.algebra.proofs.TotalLaws.{total_ext, total_exchange, total_pick, total_reindex, mul_total, total_mul, pick_total}
+use Rattle.characters.specs.Setting.{Setting, Commuting, commute}
+use Rattle.characters.specs.Tables.{centraliser_sum, centraliser_order}
+use Rattle.characters.proofs.SettingLaws.{same_test, commute_of, commute_true, commuting_product}
+use Rattle.characters.proofs.AlgebraLaws.{centraliser_order_is}
+
+module _ {A G : Type 0} (T : Setting A G) (a : G) where
+  pub centraliser_sum_ext : (f r : G → A) → ((x : G) → Commuting T x a → f x ≡ r x) → centraliser_sum T a f ≡ centraliser_sum T a r
+  centraliser_sum_ext f r e = total_ext T.ring T.finite _ _ (λ x. pick_cong T.ring (commute T x a) (f x) (r x) (λ h. e x (commute_true T x a h)))
+
+  pub mul_centraliser_sum : (c : A) (f : G → A) → T.ring.mul c (centraliser_sum T a f) ≡ centraliser_sum T a (λ x. T.ring.mul c (f x))
+  mul_centraliser_sum c f = mul_total T.ring T.finite c _ ∙ total_ext T.ring T.finite _ _ (λ x. mul_pick T.ring (commute T x a) c (f x))
+
+  pub centraliser_sum_mul : (f : G → A) (c : A) → T.ring.mul (centraliser_sum T a f) c ≡ centraliser_sum T a (λ x. T.ring.mul (f x) c)
+  centraliser_sum_mul f c = total_mul T.ring T.finite _ c ∙ total_ext T.ring T.finite _ _ (λ x. pick_mul T.ring (commute T x a) (f x) c)
+
+  -- a sum over another type is taken inside
+  pub total_centraliser_sum : {S : Type 0} (E : Finite S) (f : S → G → A) → total T.ring E (λ k. centraliser_sum T a (f k)) ≡ centraliser_sum T a (λ x. total T.ring E (λ k. f k x))
+  total_centraliser_sum E f = total_exchange T.ring E T.finite _ ∙ total_ext T.ring T.finite _ _ (λ x. sym (pick_total T.ring E (commute T x a) (λ k. f k x)))
+
+  pub centraliser_sum_exchange : (f : G → G → A) → centraliser_sum T a (λ x. centraliser_sum T a (λ y. f x y)) ≡ centraliser_sum T a (λ y. centraliser_sum T a (λ x. f x y))
+  centraliser_sum_exchange f =
+      total_ext T.ring T.finite _ _ (λ x. pick_total T.ring T.finite (commute T x a) _ ∙ total_ext T.ring T.finite _ _ (λ y. pick_swap T.ring (commute T x a) (commute T y a) (f x y)))
+      ∙ total_exchange T.ring T.finite T.finite _
+      ∙ total_ext T.ring T.finite _ _ (λ y. sym (pick_total T.ring T.finite (commute T y a) (λ x. pick T.ring (commute T x a) (f x y))))
+
+  -- a sum with one term
+  pub centraliser_sum_pick : (z : G) (f : G → A) → Commuting T z a → centraliser_sum T a (λ x. pick T.ring (equals T.finite x z) (f x)) ≡ f z
+  centraliser_sum_pick z f h =
+      total_ext T.ring T.finite _ _ (λ x. pick_swap T.ring (commute T x a) (equals T.finite x z) (f x))
+      ∙ total_pick T.ring T.finite z (λ x. pick T.ring (commute T x a) (f x)) ∙ pick_of T.ring _ _ (commute_of T z a h)
+
+  -- a sum along multiplication by an element of the centraliser
+  pub centraliser_sum_shift : (y : G) (f : G → A) → Commuting T y a → centraliser_sum T a (λ x. f (T.group.op y x)) ≡ centraliser_sum T a f
+  centraliser_sum_shift y f h =
+      total_ext T.ring T.finite _ _ (λ x. ap (λ b. pick T.ring b (f (T.group.op y x))) (test x))
+      ∙ total_reindex T.ring T.finite T.finite (λ x. T.group.op y x) (λ x. T.group.op (T.group.inv y) x) (inv_op_op T.group y) (op_inv_op T.group y) (λ x. pick T.ring (commute T x a) (f x))
+    where
+      back : (x : G) → Commuting T (T.group.op y x) a → Commuting T x a
+      back x e =
+          op_cancel_left T.group y _ _
+          (sym (T.group.op_assoc y x a) ∙ e ∙ sym (T.group.op_assoc a y x) ∙ ap (λ z. T.group.op z x) (sym h) ∙ T.group.op_assoc y a x)
+
+      test : (x : G) → commute T x a ≡ commute T (T.group.op y x) a
+      test x =
+          same_test (commute T x a) (commute T (T.group.op y x) a) (λ e. commute_of T (T.group.op y x) a (commuting_product T y x a h (commute_true T x a e)))
+          (λ e. commute_of T x a (back x (commute_true T (T.group.op y x) a e)))
+
+  pub centraliser_sum_same : (c : A) → centraliser_sum T a (λ x. c) ≡ T.ring.mul (centraliser_order T a) c
+  centraliser_sum_same c =
+      centraliser_sum_ext _ _ (λ x h. sym (one_mul T.ring c)) ∙ sym (centraliser_sum_mul (λ x. T.ring.one) c) ∙ ap (λ m. T.ring.mul m c) (sym (centraliser_order_is T a))

@@ -1,0 +1,15 @@
+pub mod Setting
+pub mod PhaseRoots
+pub mod Pairs
+pub mod Simples
+pub mod Tables
+pub mod PlaceTables
+pub mod FullCharacters
+pub mod SMatrix
+pub mod Fusion
+pub mod Twists
+pub mod Parts
+pub mod Theorems
+pub mod FusionTheorems
+pub mod PlaceTheorems
+pub mod RelationTheorems
