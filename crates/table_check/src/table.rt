@@ -64,6 +64,7 @@ impl<const K: u32> Table<K> {
     /// The twisted centraliser that the rows are over.
     pub fn over(&self) -> &Twist
         ensures over { result.now ≡ self.now.over }
+        ensures shaped { IsShaped K self.now }
         ensures good { IsGood self.now.over (characters_of K self.now.rows) }
     {
         self.candidate.over()
