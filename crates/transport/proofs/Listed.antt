@@ -12,7 +12,7 @@ use Rattle.std.proofs.lemmas.List.Sorted.{All-permutation, Contains-permutation}
 use mathlib.Core.Logic.{⊎_elim}
 use Rattle.scan.proofs.Places.{and_true, all_below-at, all_below-all, first_some}
 use Rattle.group_table.specs.Group.{Table, IsGroup, identity_of}
-use Rattle.classes.specs.Conjugacy.{representative_at}
+use Rattle.classes.specs.Conjugacy.{representative_at, centraliser_of}
 use Rattle.classes.proofs.Conjugacy.{representative_at_is}
 use Rattle.cochain.specs.Cochain.{Cochain}
 use Rattle.cyclotomic.specs.Cyclotomic.{cyclotomic}
@@ -28,7 +28,7 @@ use Rattle.table_check.specs.Check.{is_same, where_holds, degree_of, twist_of, i
 use Rattle.table_check.specs.Formed.{whole}
 use Rattle.table_check.specs.Sides.{twist_left, twist_right}
 use Rattle.table_check.proofs.Same.{is_same-Decides}
-use Rattle.transport.specs.Simples.{SimplesOver, Simple, no_simple, table_at, simple_of, rows_of, rows_below, simples_of, ascending, count, simple_at, class_at, degree_at, over_at, value_at, IsVacuumAt, AreSimples}
+use Rattle.transport.specs.Simples.{HasTables, SimplesOver, Simple, no_simple, table_at, simple_of, rows_of, rows_below, simples_of, ascending, count, simple_at, class_at, degree_at, over_at, value_at, IsVacuumAt, AreSimples}
 use Rattle.transport.specs.Kept.{coefficients_of, simple_in}
 use Rattle.transport.specs.declared.entry.Entry.{Entry}
 use Rattle.transport.proofs.SortedLists.{Above, Ascends}
@@ -252,3 +252,12 @@ product_small a b p q = le_trans (mul-le-mul p q) (omega arith)
 pub place_small : (t : TwistedSubgroup) (P : ℕ → Type 0) (o : Option ℕ) (n : ℕ) → IsTwist t → IfSome o (λ p. (p < size t) × P p) → n ≡ unwrap_or o 0 → n < size t
 place_small t P None n twist there e = omega (arith, e, twist.small.from_one)
 place_small t P (Some p) n twist there e = let below = there.0 in omega (arith, e, below)
+
+-- the places of a class are those of its centraliser
+centraliser_places : (w : Cochain) (a : ℕ) → size (twisted_centraliser w a) ≡ length (centraliser_of w.group a)
+unfolding twisted_centraliser
+centraliser_places w a = refl
+
+pub places_of : (s : SimplesOver) → HasTables s.cocycle s.tables → (c : ℕ) → c < length s.tables
+    → size (table_at s.tables c).over ≡ length (centraliser_of s.cocycle.group (representative_at s.cocycle.group c))
+places_of s has c below = ap (λ t. size t) (has.over c below) ∙ centraliser_places s.cocycle (representative_at s.cocycle.group c)

@@ -1,6 +1,7 @@
 ghost use Rattle.std.specs.Prelude.{◌≡◌, ◌≤◌, ◌<◌, length, IfOk, IfErr};
 ghost use Rattle.std.specs.Result.{result_ok};
 ghost use Rattle.group_table.specs.Group.{product};
+ghost use Rattle.classes.specs.Conjugacy.{representatives, representative_at, centraliser_of};
 ghost use Rattle.cyclotomic.specs.CyclotomicRing.{cyclotomic_value};
 ghost use Rattle.twisted.specs.Twist.{size};
 ghost use Rattle.table_check.specs.Formed.{Forms};
@@ -103,7 +104,8 @@ impl<const K: u32> Simples<K> {
     pub fn class(&self, i: u32) -> u32
         requires i_below { i < count K self.now }
         ensures class { result ≡ class_at K self.now i }
-        ensures below { result < length self.now.tables }
+        ensures below { result < length (representatives self.now.cocycle.group) }
+        ensures places { size (over_at K self.now i) ≡ length (centraliser_of self.now.cocycle.group (representative_at self.now.cocycle.group result)) }
     {
         self.entries[i as usize].class
     }
