@@ -4,3 +4,7 @@ pub mod Rows
 pub mod Entries
 pub mod Listed
 pub mod FullCharacters
+pub mod Doubles
+pub mod Centralisers
+pub mod DoubleSimples
+pub mod CharacterLaws
