@@ -1,5 +1,5 @@
 -- The simples by good tables, as simples of the twisted quantum double of a cocycle.
-use Rattle.std.proofs.Common.{◌≡◌, ℕ, zero, suc, ◌*◌, ◌/◌, ◌%◌, ◌<◌, ◌≤◌, Bool, true, false, ◌&&◌, nat_le, Option, Some, None, [], ◌∷◌, refl, sym, ap, ap₂, ◌∙◌, arith, subst}
+use Rattle.std.proofs.Common.{◌≡◌, ℕ, zero, suc, ◌*◌, ◌/◌, ◌%◌, ◌<◌, ◌≤◌, Bool, true, ◌&&◌, nat_le, Option, Some, None, [], ◌∷◌, refl, sym, ap, ap₂, ◌∙◌, arith, subst}
 use Rattle.std.specs.Prelude.{unwrap_or, ℤ, pos, ◌+ℤ◌}
 use Rattle.std.proofs.Common.{List, add-one}
 use Rattle.std.proofs.Math.Nat.{mul-le-mul, le_refl, mul-one}
@@ -43,7 +43,7 @@ use Rattle.characters.proofs.SettingLaws.{commute_of, commute_true}
 use Rattle.characters.proofs.AlgebraLaws.{central_at_places}
 use Rattle.transport.specs.Simples.{SimplesOver, Simple, count, class_at, over_at, characters_at, degree_at, value_at, simple_at, AreSimples}
 use Rattle.transport.specs.FullCharacters.{root_exponent, element_value}
-use Rattle.transport.proofs.Listed.{IsRow, simple_is_row, some_class}
+use Rattle.transport.proofs.Listed.{found_passes, IsRow, simple_is_row, some_class}
 use Rattle.transport.proofs.Doubles.{double, double_classes}
 use Rattle.transport.proofs.Centralisers.{place_of_element, element_injective, twist, element_commutes, commuting_element}
 
@@ -53,10 +53,6 @@ modulus_is w a = refl
 
 both_true : {a b : Bool} → a ≡ true → b ≡ true → (a && b) ≡ true
 both_true {a} {b} h e = ap₂ (λ x y. x && y) h e
-
-holds_there : (test : Bool) (n d : ℕ) → where_holds test n ≡ Some d → (test ≡ true) × (n ≡ d)
-holds_there true n d e = (refl, ap (λ o. unwrap_or o n) e)
-holds_there false n d e = absurd cc
 
 -- the degree that is found
 degree_found : (k m : ℕ) (u : CyclotomicValue k) → IsDegree k m u → (1 ≤ unwrap_or (degree_of k m u) 0) × (u ≡ whole k (unwrap_or (degree_of k m u) 0))
@@ -78,7 +74,7 @@ degree_found k m u degree = by (degree_of k m u) refl
     by None e = let wrong : None ≡ Some found.0 = sym e ∙ found.1 in absurd cc
     by (Some d) e =
         let at = first_some (suc m) (λ d. where_holds (test d) d) d e in
-        let there = holds_there (test at.place) at.place d at.here in
+        let there = found_passes (test at.place) at.place d at.here in
         let passed = and_true (nat_le 1 at.place && nat_le (at.place * at.place) m) (is_same u (whole k at.place)) there.0 in
         let sizes = and_true (nat_le 1 at.place) (nat_le (at.place * at.place) m) passed.0 in
         (subst (λ n. 1 ≤ n) there.1 (leb-true 1 at.place sizes.0), subst (λ n. u ≡ whole k n) there.1 ((is_same-Decides u (whole k at.place)).0 passed.1))

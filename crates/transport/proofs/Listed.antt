@@ -31,7 +31,7 @@ use Rattle.table_check.proofs.Same.{is_same-Decides}
 use Rattle.transport.specs.Simples.{HasTables, SimplesOver, Simple, no_simple, table_at, simple_of, rows_of, rows_below, simples_of, ascending, count, simple_at, class_at, degree_at, over_at, value_at, IsVacuumAt, AreSimples}
 use Rattle.transport.specs.Kept.{coefficients_of, simple_in}
 use Rattle.transport.specs.declared.entry.Entry.{Entry}
-use Rattle.transport.proofs.SortedLists.{Above, Ascends}
+use Rattle.transport.proofs.SortedLists.{Ascends, above_at}
 use Rattle.transport.proofs.Order.{less, ascending_permutes, ascending_ascends}
 use Rattle.transport.proofs.Rows.{rows_below-zero, rows_below-suc, last_or_less}
 
@@ -95,11 +95,6 @@ module _ (k : ℕ) (tables : List RowsOver) where
   other_first false true o e h = absurd cc
   other_first true c o e h = absurd cc
 
-  above_at : (a : Simple) (xs : List Simple) (j : ℕ) → j < length xs → (d : Simple) → Above less a xs → less (get_or xs j d) a ≡ false
-  above_at a [] j below d up = absurd (omega (arith, below))
-  above_at a (x ∷ xs) zero below d up = up.0
-  above_at a (x ∷ xs) (suc j) below d up = above_at a xs j (omega (arith, below)) d up.1
-
   none : {v : Simple} → Contains [] v → ⊥
   none (j, below, is) = omega (arith, below)
 
@@ -107,7 +102,7 @@ module _ (k : ℕ) (tables : List RowsOver) where
   first_of [] v up there h = absurd (none there)
   first_of (a ∷ rest) v up (zero, below, is) h = subst (λ (x : Simple). x.other ≡ false) (sym is) h
   first_of (a ∷ rest) v up (suc j, below, is) h =
-      let lower : less v a ≡ false = subst (λ (x : Simple). less x a ≡ false) is (above_at a rest j (omega (arith, below)) v up.0) in
+      let lower : less v a ≡ false = subst (λ (x : Simple). less x a ≡ false) is (above_at less a rest j (omega (arith, below)) v up.0) in
       other_first v.other a.other _ h lower
 
   pub vacuum_first : (r : ℕ) → 0 < length tables → r < length (table_at tables 0).rows → is_vacuum (table_at tables 0).over (characters_of k (table_at tables 0).rows) r ≡ true
@@ -133,19 +128,20 @@ module _ (k : ℕ) (tables : List RowsOver) (entries : List (Entry k)) (same : m
   values_count i e below is =
       sym (length-map e.values.items (λ u. (cyclotomic_value k u.coefficients).coefficients)) ∙ ap (λ (a : Simple). length a.values) (entry_is_row i e below is).is ∙ length-map-range_with_len _ 0 (size (table_at tables e.class).over)
 
+-- a number that was found passes the test
+pub found_passes : (test : Bool) (n d : ℕ) → where_holds test n ≡ Some d → (test ≡ true) × (n ≡ d)
+found_passes true n d e = (refl, ap (λ o. unwrap_or o n) e)
+found_passes false n d e = absurd cc
+
 -- a degree is at most the order
-pub degree_small : (k m : ℕ) (u : CyclotomicValue k) → unwrap_or (degree_of k m u) 0 ≤ m
+degree_small : (k m : ℕ) (u : CyclotomicValue k) → unwrap_or (degree_of k m u) 0 ≤ m
 degree_small k m u = by (degree_of k m u) refl
   where
-    passed : (b : Bool) (d e : ℕ) → where_holds b d ≡ Some e → d ≡ e
-    passed true d e same = cc
-    passed false d e same = absurd cc
-
     by : (o : Option ℕ) → degree_of k m u ≡ o → unwrap_or o 0 ≤ m
     by None e = omega arith
     by (Some d) e =
         let found = first_some (suc m) (λ d. where_holds ((nat_le 1 d && nat_le (d * d) m) && is_same u (whole k d)) d) d e in
-        let same = passed ((nat_le 1 found.place && nat_le (found.place * found.place) m) && is_same u (whole k found.place)) found.place d found.here in
+        let same = (found_passes ((nat_le 1 found.place && nat_le (found.place * found.place) m) && is_same u (whole k found.place)) found.place d found.here).1 in
         let below : found.place < suc m = found.below in
         omega (arith, same)
 
@@ -153,13 +149,9 @@ degree_small k m u = by (degree_of k m u) refl
 pub twist_small : {k : ℕ} (s : TwistedSubgroup) (table : Characters k) (r t : ℕ) → twist_of s table r ≡ Some t → t < k
 twist_small {k} s table r t e =
     let found = first_some k (λ t. where_holds (is_same (twist_left s table r).value (twist_right s table r t).value) t) t e in
-    let same = passed (is_same (twist_left s table r).value (twist_right s table r found.place).value) found.place t found.here in
+    let same = (found_passes (is_same (twist_left s table r).value (twist_right s table r found.place).value) found.place t found.here).1 in
     let below : found.place < k = found.below in
     omega (arith, same)
-  where
-    passed : (b : Bool) (d e : ℕ) → where_holds b d ≡ Some e → d ≡ e
-    passed true d e same = cc
-    passed false d e same = absurd cc
 
 at_is : (w : Cochain) (a : ℕ) → (twisted_centraliser w a).at ≡ a
 unfolding twisted_centraliser

@@ -1,15 +1,15 @@
 -- The order of simples decides, and they are put into it.
-use Rattle.std.proofs.Common.{◌≡◌, Bool, true, false, cond, List, [], ◌∷◌, refl, sym, ap, ◌∙◌, arith}
+use Rattle.std.proofs.Common.{◌≡◌, ℕ, zero, suc, ◌+◌, ◌<◌, length, get_or, subst, add-one, Bool, true, false, cond, List, [], ◌∷◌, refl, sym, ap, ◌∙◌, arith}
 use Rattle.std.specs.declared.cmp.Ordering.{Ordering}
 use Rattle.std.specs.declared.cmp.Ordering.TheVariants.{Less, Equal, Greater}
 use Rattle.std.specs.Ordering.{nat_cmp, int_cmp, bool_cmp, ordering_then, ordering_reverse, is_lt}
 use Rattle.std.specs.Cmp.{IsTotalOrder, IsStrictWeakOrder, then_total, on_total, bool_cmp_total, nat_cmp_total, int_cmp_total, tied_itself}
 use Rattle.std.specs.Cmp.Lexicographic.{slice_cmp, lists_total}
 use Rattle.std.specs.FinMap.{nat_cmp-IsAntisymmetric, int_cmp-IsAntisymmetric, slice_cmp-IsAntisymmetric}
-use Rattle.std.specs.List.Sorted.{IsPermutation}
+use Rattle.std.specs.List.Sorted.{IsPermutation, IsSorted}
 use Rattle.std.proofs.lemmas.List.Sorted.{ranks_by, IsPermutation-refl, IsPermutation-trans, IsPermutation-cons, IsPermutation-swap, sum_by-IsPermutation}
 use Rattle.transport.specs.Simples.{Simple, compare, insert, ascending}
-use Rattle.transport.proofs.SortedLists.{Above, Ascends, same_list}
+use Rattle.transport.proofs.SortedLists.{Above, Ascends, above_at, same_list}
 
 abbrev pub less : Simple → Simple → Bool
 less a b = is_lt (compare a b)
@@ -113,3 +113,14 @@ pub put_in_order : (xs ys : List Simple) → IsPermutation xs ys → Ascends les
 put_in_order xs ys permutes up =
     same_list less irreflexive decides ys (ascending xs) up (ascending_ascends xs)
     (λ f. sum_by-IsPermutation f xs ys permutes ∙ sym (sum_by-IsPermutation f xs (ascending xs) (ascending_permutes xs)))
+
+-- neighbours ascend
+neighbours : (xs : List Simple) → Ascends less xs → (j : ℕ) (d : Simple) → suc j < length xs → less (get_or xs (suc j) d) (get_or xs j d) ≡ false
+neighbours [] up j d below = absurd (omega (arith, below))
+neighbours (a ∷ rest) up zero d below = above_at less a rest 0 (omega (arith, below)) d up.0
+neighbours (a ∷ rest) up (suc j) d below = neighbours rest up.1 j d (omega (arith, below))
+
+pub sorted : (xs : List Simple) → IsSorted compare (ascending xs)
+sorted xs j d low below =
+    subst (λ n. less (get_or (ascending xs) n d) (get_or (ascending xs) j d) ≡ false) (sym (add-one j))
+    (neighbours (ascending xs) (ascending_ascends xs) j d (let next : j + 1 < length (ascending xs) = below in omega (arith, next)))

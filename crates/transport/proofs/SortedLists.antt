@@ -1,5 +1,5 @@
 -- A list in ascending order is told by how often each element stands in it.
-use Rattle.std.proofs.Common.{◌≡◌, ℕ, suc, ◌+◌, ◌<◌, ◌≤◌, Bool, true, false, cond, List, [], ◌∷◌, length, get_or, refl, sym, ap, ap₂, ◌∙◌, arith}
+use Rattle.std.proofs.Common.{◌≡◌, ℕ, zero, suc, ◌+◌, ◌<◌, ◌≤◌, Bool, true, false, cond, List, [], ◌∷◌, length, get_or, refl, sym, ap, ap₂, ◌∙◌, arith}
 use Rattle.std.specs.Prelude.{⊤}
 use Rattle.std.specs.List.{sum_by}
 use Rattle.std.proofs.lemmas.List.Sums.{sum_by-cons}
@@ -14,6 +14,11 @@ module _ {X : Type 0} (less : X → X → Bool) where
   abbrev pub Ascends : List X → Type 0
   Ascends [] = ⊤
   Ascends (x ∷ xs) = Above x xs × Ascends xs
+
+  pub above_at : (a : X) (xs : List X) (j : ℕ) → j < length xs → (d : X) → Above a xs → less (get_or xs j d) a ≡ false
+  above_at a [] j below d up = absurd (omega (arith, below))
+  above_at a (x ∷ xs) zero below d up = up.0
+  above_at a (x ∷ xs) (suc j) below d up = above_at a xs j (omega (arith, below)) d up.1
 
   above_of : (x : X) (xs : List X) → ((k : ℕ) → k < length xs → less (get_or xs k x) x ≡ false) → Above x xs
   above_of x [] h = tt

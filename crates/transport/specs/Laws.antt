@@ -1,13 +1,15 @@
--- What holds of full characters, for all simples by good tables (Coste, Gannon, Ruelle 2000). Elements are numbers below the order of the
--- group, i and j are simples.
-use Rattle.std.specs.Prelude.{◌≡◌, ℕ, ◌<◌}
+-- What holds of the order of simples, and of full characters for all simples by good tables (Coste, Gannon, Ruelle 2000). Elements are
+-- numbers below the order of the group, i and j are simples.
+use Rattle.std.specs.Prelude.{◌≡◌, ℕ, ◌<◌, List, length}
+use Rattle.std.specs.List.Sorted.{IsPermutation, IsSorted}
+use Rattle.table_check.specs.Characters.{RowsOver}
 use Rattle.group_table.specs.Group.{product}
 use Rattle.classes.specs.Conjugacy.{conjugate, representative_at}
 use Rattle.cyclotomic.specs.Cyclotomic.{cyclotomic}
 use Rattle.cyclotomic.specs.Ring.{value_product}
 use Rattle.cyclotomic.specs.CyclotomicRing.{root}
 use Rattle.slant.specs.Phases.{carried, transport_phase}
-use Rattle.transport.specs.Simples.{SimplesOver, count, class_at, AreSimples}
+use Rattle.transport.specs.Simples.{SimplesOver, compare, rows_below, simples_of, count, class_at, AreSimples}
 use Rattle.transport.specs.FullCharacters.{root_exponent, carried_value, full_character}
 use Rattle.transport.specs.SSums.{pair_term}
 
@@ -38,3 +40,11 @@ abbrev pub TermsInvariant : Type 0
 TermsInvariant =
     (k : ℕ) (s : SimplesOver) → AreSimples k s → (i j g h c : ℕ) → i < count k s → j < count k s → IsElement s g → IsElement s h → IsElement s c → Commute s g h →
     (pair_term k s i j (carried s.cocycle.group g c) (carried s.cocycle.group h c)).value ≡ (pair_term k s i j g h).value
+
+-- the simples are all rows of all tables
+abbrev pub SimplesAreRows : Type 0
+SimplesAreRows = (k : ℕ) (tables : List RowsOver) → IsPermutation (rows_below k (length tables) tables) (simples_of k tables)
+
+-- in ascending order
+abbrev pub SimplesAscend : Type 0
+SimplesAscend = (k : ℕ) (tables : List RowsOver) → IsSorted compare (simples_of k tables)
