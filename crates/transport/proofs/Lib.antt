@@ -1,0 +1,10 @@
+pub mod SortedLists
+pub mod Order
+pub mod Rows
+pub mod Entries
+pub mod Listed
+pub mod FullCharacters
+pub mod Doubles
+pub mod Centralisers
+pub mod DoubleSimples
+pub mod CharacterLaws

@@ -1,0 +1,5 @@
+pub mod Simples
+pub mod FullCharacters
+pub mod SSums
+pub mod Laws
+pub mod Kept
