@@ -1,8 +1,9 @@
 //! The numerators of S, each as the sum over all pairs of elements that commute.
 
-ghost use Rattle.std.specs.Prelude.{◌≡◌, ◌<◌, ◌*◌, IfErr};
+ghost use Rattle.std.specs.Prelude.{◌≡◌, ◌<◌, ◌*◌, true, IfErr};
 ghost use Rattle.std.specs.Result.{result_ok};
-ghost use Rattle.group_table.specs.Group.{product};
+ghost use Rattle.group_table.specs.Group.{product, IsSmall};
+ghost use Rattle.cyclotomic.specs.Conductors.{is_conductor};
 ghost use Rattle.table_check.specs.Formed.{Forms, conjugated};
 ghost use Rattle.transport.specs.Simples.{count};
 ghost use Rattle.transport.specs.FullCharacters.{full_character};
@@ -13,6 +14,15 @@ use group_table::Group;
 use qd_ring::{Cyc, Part, Site};
 use table_check::Total;
 use transport::Simples;
+
+/// The order of the group.
+pub fn order<const K: u32>(simples: &Simples<K>) -> u32
+    ensures order { result ≡ simples.now.cocycle.group.order }
+    ensures small { IsSmall simples.now.cocycle.group.order }
+    ensures conductor { is_conductor K ≡ true }
+{
+    simples.cocycle().group().order()
+}
 
 /// Whether two elements commute.
 pub fn commute(group: &Group, g: u32, h: u32) -> bool
@@ -38,13 +48,7 @@ pub fn conjugate<const K: u32>(simples: &Simples<K>, i: u32, g: u32, h: u32) -> 
 }
 
 /// The term of simples `i` and `j` for `g` and `h`, which commute.
-fn pair_term<const K: u32>(
-    simples: &Simples<K>,
-    i: u32,
-    j: u32,
-    g: u32,
-    h: u32,
-) -> Option<Cyc<K>>
+fn pair_term<const K: u32>(simples: &Simples<K>, i: u32, j: u32, g: u32, h: u32) -> Option<Cyc<K>>
     requires i_below { i < count K simples.now }
     requires j_below { j < count K simples.now }
     requires g_below { g < simples.now.cocycle.group.order }
@@ -68,11 +72,10 @@ fn term<const K: u32>(simples: &Simples<K>, i: u32, j: u32, p: u32) -> Option<Cy
     requires p_below { p < simples.now.cocycle.group.order * simples.now.cocycle.group.order }
     ensures forms { Forms (s_term K simples.now i j p) result }
 {
-    let group = simples.cocycle().group();
-    let order = group.order();
+    let order = order(simples);
     let g = p / order;
     let h = p % order;
-    if commute(group, g, h) {
+    if commute(simples.cocycle().group(), g, h) {
         pair_term(simples, i, j, g, h)
     } else {
         Some(Cyc::zero())
@@ -85,7 +88,7 @@ fn sum<const K: u32>(simples: &Simples<K>, i: u32, j: u32) -> Option<Cyc<K>>
     requires j_below { j < count K simples.now }
     ensures forms { Forms (s_sum K simples.now i j) result }
 {
-    let order = simples.cocycle().group().order();
+    let order = order(simples);
     let mut total = Total::zero();
     for p in 0..order * order {
         let Some(more) = total.with(term(simples, i, j, p)) else {
