@@ -1,12 +1,12 @@
 -- What is kept of the simples of a twisted quantum double.
-use Rattle.std.specs.Prelude.{◌≡◌, ℕ, ◌*◌, ◌≤◌, ◌<◌, ℤ, List, length, map}
+use Rattle.std.specs.Prelude.{◌≡◌, ℕ, ◌≤◌, ◌<◌, ℤ, List, length, map}
 use Rattle.group_table.specs.Group.{Table}
 use Rattle.cochain.specs.Cochain.{Cochain}
 use Rattle.cyclotomic.specs.CyclotomicRing.{cyclotomic_value}
 use Rattle.table_check.specs.Characters.{RowsOver, IsShaped, characters_of}
 use Rattle.table_check.specs.Good.{IsGood}
 use Rattle.qd_ring.specs.declared.cyc.Cyc.{Cyc}
-use Rattle.transport.specs.Simples.{Simple, SimplesOver, table_at, simples_of, AreSimples}
+use Rattle.transport.specs.Simples.{Simple, table_at, simples_of, AreSimples}
 use Rattle.transport.specs.declared.entry.Entry.{Entry}
 
 -- the coefficients of each of these values

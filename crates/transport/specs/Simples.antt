@@ -1,11 +1,10 @@
 -- The simples of a twisted quantum double: all rows of the tables of characters of its classes, in order (Coste, Gannon, Ruelle 2000;
 -- the order is this project's). Classes, rows and simples are counted from 0.
-use Rattle.std.specs.Prelude.{◌≡◌, ℕ, zero, suc, ◌*◌, ◌<◌, ◌%◌, Bool, true, not, ◌&&◌, ◌==◌, ℤ, List, [], ◌∷◌, ◌++◌, length, map, slice_index_or, unwrap_or, if◌then◌else◌}
+use Rattle.std.specs.Prelude.{◌≡◌, ℕ, zero, suc, ◌*◌, ◌<◌, Bool, true, not, ◌&&◌, ◌==◌, ℤ, List, [], ◌∷◌, ◌++◌, length, map, slice_index_or, unwrap_or, if◌then◌else◌}
 use Rattle.std.specs.List.{range_with_len}
 use Rattle.std.specs.declared.cmp.Ordering.{Ordering}
 use Rattle.std.specs.Ordering.{nat_cmp, int_cmp, bool_cmp, ordering_then, is_lt}
 use Rattle.std.specs.Cmp.Lexicographic.{slice_cmp}
-use Rattle.group_table.specs.Group.{Table}
 use Rattle.classes.specs.Conjugacy.{representatives, representative_at, members_of}
 use Rattle.cochain.specs.Cochain.{Cochain, IsCocycle}
 use Rattle.cyclotomic.specs.Conductors.{is_conductor}

@@ -6,7 +6,8 @@ ghost use Rattle.twisted.specs.Twist.{size};
 ghost use Rattle.cyclotomic.specs.Cyclotomic.{cyclotomic};
 ghost use Rattle.cyclotomic.specs.CyclotomicRing.{cyclotomic_value};
 ghost use Rattle.cyclotomic.specs.Ring.{value_one};
-ghost use Rattle.table_check.specs.Characters.{characters_of};
+ghost use Rattle.table_check.specs.Characters.{IsShaped, characters_of};
+ghost use Rattle.table_check.specs.Good.{IsGood};
 ghost use Rattle.table_check.specs.Check.{is_same, is_vacuum};
 ghost use Rattle.transport.specs.Simples.{simple_of, rows_of, rows_below, simples_of};
 ghost use Rattle.transport.specs.Kept.{coefficients_of, simple_in, AreGood};
@@ -74,7 +75,18 @@ fn entry_of<const K: u32>(
     })
 }
 
-/// Adds all rows of the table of class `c`.
+/// How many rows there are, at most one for each class of the centraliser.
+fn rows<const K: u32>(table: &Table<K>) -> u32
+    ensures rows { result ≡ length table.now.rows }
+    ensures few { result ≤ 60 }
+    ensures shaped { IsShaped K table.now }
+    ensures good { IsGood table.now.over (characters_of K table.now.rows) }
+{
+    let _places = table.over().size();
+    table.rows()
+}
+
+/// Adds all rows of the table of class `c`, which is good.
 fn append_rows<const K: u32>(
     alloc: Global,
     entries: &mut Vec<Entry<K>>,
@@ -82,8 +94,11 @@ fn append_rows<const K: u32>(
     table: &Table<K>,
 ) -> Result<(), Memory>
     ensures added { OnOk result (map (simple_in K) entries.new.items ≡ map (simple_in K) entries.old.items ++ rows_of K c table.now) }
+    ensures few { OnOk result (length table.now.rows ≤ 60) }
+    ensures shaped { OnOk result (IsShaped K table.now) }
+    ensures good { OnOk result (IsGood table.now.over (characters_of K table.now.rows)) }
 {
-    for r in 0..table.rows() {
+    for r in 0..rows(table) {
         let entry = entry_of(alloc, c, table, r)?;
         entries.push(entry)?;
     }

@@ -150,6 +150,7 @@ impl<const K: u32> Simples<K> {
         ensures below { result < count K self.now }
         ensures vacuum { IsVacuumAt K self.now result }
     {
+        let _ = &self.entries;
         0
     }
 
