@@ -19,6 +19,7 @@ use Rattle.qd_engine.specs.declared.stop.Stop.TheVariants as stops
 use Rattle.data_print.specs.Lines.{line_of}
 use Rattle.qd_engine.specs.Endings.{IsCause, Says, Writing, Ends, EndsSaying, Decides, Prepares, SaysPrepared}
 use Rattle.qd_engine.proofs.Documents.{document_group, document_cocycle}
+use Rattle.qd_engine.proofs.Complete.{lawful_answer}
 use Rattle.qd_engine.proofs.Verified.{verify_given, rows_verified}
 use Rattle.qd_engine.proofs.Planned.{Passes, refusal_means, report_passes}
 use Rattle.qd_engine.specs.declared.command.Command.{Command}
