@@ -1,5 +1,5 @@
 -- Where nothing is missed, the table is good.
-use Rattle.std.proofs.Common.{◌≡◌, ◌<◌, ◌*◌, ◌&&◌, ℕ, suc, Bool, true, false, Option, Some, None, refl, ap, subst, unwrap_or, nat_le, eqb-true, eq-eqb, if◌then◌else◌}
+use Rattle.std.proofs.Common.{◌≡◌, ◌≤◌, ◌<◌, ◌*◌, ◌&&◌, ℕ, suc, Bool, true, false, Option, Some, None, refl, ap, subst, unwrap_or, nat_le, eqb-true, eq-eqb, if◌then◌else◌}
 use Rattle.std.specs.Prelude.{is_some}
 use Rattle.std.proofs.lemmas.Bool.{leb-true}
 use Rattle.scan.specs.First.{first}
@@ -13,7 +13,7 @@ use Rattle.twisted.specs.Regular.{rank}
 use Rattle.table_check.specs.Characters.{Characters}
 use Rattle.table_check.specs.Formed.{Formed, whole}
 use Rattle.table_check.specs.Sides.{unitary_left, unitary_right, twist_left, twist_right, central_left, central_right, product_left, product_right, sum_left, sum_right, column_left, column_right}
-use Rattle.table_check.specs.Good.{IsDegree, HasTwist, IsVacuum, IsGood}
+use Rattle.table_check.specs.Good.{IsVacuum, IsGood}
 use Rattle.table_check.specs.Check.{is_same, where_holds, unless_holds, agree, degree_of, twist_of, is_vacuum, has_vacuum, count_miss, degree_at, degree_miss, unitary_at, unitary_miss, twists_fit, twist_at, twist_miss, central_at, central_miss, product_at, product_miss, sum_at, sum_miss, column_at, column_miss, vacuum_miss, row_miss, algebra_miss, table_miss}
 use Rattle.table_check.specs.declared.miss.Clause.TheVariants.{Count, Degree, Unitary, Twist, Central, Product, Sum, Column, Vacuum}
 use Rattle.table_check.proofs.Same.{is_same-Decides}
@@ -33,27 +33,24 @@ holds_there false n d e = cc
 same_sides : {k : ℕ} (left right : Formed k) → agree left right ≡ true → left.value ≡ right.value
 same_sides left right e = (is_same-Decides left.value right.value).0 (and_true (left.fits && right.fits) (is_same left.value right.value) e).1
 
-pub degree_there : (k m d : ℕ) (u : CyclotomicValue k) → degree_of k m u ≡ Some d → IsDegree k m u
+-- the degree that was found is one
+pub degree_there : (k m d : ℕ) (u : CyclotomicValue k) → degree_of k m u ≡ Some d → (1 ≤ d) × (d * d ≤ m) × (u ≡ whole k d)
 degree_there k m d u found =
     let at = first_some (suc m) (λ n. where_holds ((nat_le 1 n && nat_le (n * n) m) && is_same u (whole k n)) n) d found in
-    let test = and_true (nat_le 1 at.place && nat_le (at.place * at.place) m) (is_same u (whole k at.place)) (holds_there _ at.place d at.here).0 in
+    let there = holds_there ((nat_le 1 at.place && nat_le (at.place * at.place) m) && is_same u (whole k at.place)) at.place d at.here in
+    let test = and_true (nat_le 1 at.place && nat_le (at.place * at.place) m) (is_same u (whole k at.place)) there.0 in
     let sizes = and_true (nat_le 1 at.place) (nat_le (at.place * at.place) m) test.0 in
-    record {
-      degree = at.place;
-      positive = leb-true 1 at.place sizes.0;
-      square = leb-true (at.place * at.place) m sizes.1;
-      same = (is_same-Decides u (whole k at.place)).0 test.1;
-    }
+    subst (λ n. (1 ≤ n) × (n * n ≤ m) × (u ≡ whole k n)) there.1
+    (leb-true 1 at.place sizes.0, leb-true (at.place * at.place) m sizes.1, (is_same-Decides u (whole k at.place)).0 test.1)
 
 module _ {k : ℕ} (s : TwistedSubgroup) (table : Characters k) where
-  twist_there : (i t : ℕ) → twist_of s table i ≡ Some t → HasTwist s table i
+  -- so is the twist that was found
+  pub twist_there : (i t : ℕ) → twist_of s table i ≡ Some t → (t < k) × ((twist_left s table i).value ≡ (twist_right s table i t).value)
   twist_there i t found =
       let at = first_some k (λ v. where_holds (is_same (twist_left s table i).value (twist_right s table i v).value) v) t found in
-      record {
-        twist = at.place;
-        below = at.below;
-        same = (is_same-Decides (twist_left s table i).value (twist_right s table i at.place).value).0 (holds_there _ at.place t at.here).0;
-      }
+      let there = holds_there (is_same (twist_left s table i).value (twist_right s table i at.place).value) at.place t at.here in
+      subst (λ v. (v < k) × ((twist_left s table i).value ≡ (twist_right s table i v).value)) there.1
+      (at.below, (is_same-Decides (twist_left s table i).value (twist_right s table i at.place).value).0 there.0)
 
   vacuum_there : has_vacuum s table ≡ true → (i : ℕ) × (i < table.count) × IsVacuum s table i
   vacuum_there holds =
@@ -122,11 +119,15 @@ module _ {k : ℕ} (s : TwistedSubgroup) (table : Characters k) where
         count = eqb-true table.count (rank s) (unless_none _ Count 0 0 0 c.count);
         degree = λ i row.
             let there = some_there (degree_of k (size s) (table.chi i e)) (degree_is i c.degree row) in
-            degree_there k (size s) there.0 (table.chi i e) there.1;
+            let d = degree_there k (size s) there.0 (table.chi i e) there.1 in
+            record { degree = there.0; positive = d.0; square = d.1; same = d.2 };
         unitary = λ i x row place.
             same_sides (unitary_left s table i x) (unitary_right s table i x) (unless_none _ Unitary i 0 x
             (first_none-at (size s) x (unitary_at s table i) (first_none-at table.count i (λ j. first (size s) (unitary_at s table j)) c.unitary row) place));
-        twist = λ i row. let there = some_there (twist_of s table i) (twist_is i c.twist row).1 in twist_there i there.0 there.1;
+        twist = λ i row.
+            let there = some_there (twist_of s table i) (twist_is i c.twist row).1 in
+            let t = twist_there i there.0 there.1 in
+            record { twist = there.0; below = t.0; same = t.1 };
         central = λ i y x row column place.
             same_sides (central_left s table i y x) (central_right s table i y x) (unless_none _ Central i y x
             (first_none-at (size s) x (central_at s table i y) (first_none-at (size s) y (λ z. first (size s) (central_at s table i z))

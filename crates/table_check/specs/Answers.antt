@@ -43,6 +43,7 @@ IsPartOf Sum part = part ≡ parts.Sum
 IsPartOf Column part = part ≡ parts.Column
 IsPartOf clause part = ⊥
 
+-- the clause on twists, which has a side for each root
 abbrev pub is_twist : Clause → Bool
 is_twist Twist = true
 is_twist clause = false

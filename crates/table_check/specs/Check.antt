@@ -46,15 +46,18 @@ module _ {k : ℕ} (s : TwistedSubgroup) (table : Characters k) where
   abbrev pub is_vacuum : ℕ → Bool
   is_vacuum i = all_below (size s) (λ x. is_same (table.chi i x) (value_one (cyclotomic k)))
 
+  -- as many rows as the rank
   abbrev pub count_miss : Option Miss
   count_miss = unless_holds (table.count == rank s) Count 0 0 0
 
+  -- row i has a degree
   abbrev pub degree_at : ℕ → Option Miss
   degree_at i = unless_holds (is_some (degree_of k (size s) (table.chi i (identity_of s.group)))) Degree i 0 (identity_of s.group)
 
   abbrev pub degree_miss : Option Miss
   degree_miss = first table.count degree_at
 
+  -- the value of row i at the inverse of x
   abbrev pub unitary_at : ℕ → ℕ → Option Miss
   unitary_at i x = unless_holds (agree (unitary_left s table i x) (unitary_right s table i x)) Unitary i 0 x
 
@@ -65,36 +68,42 @@ module _ {k : ℕ} (s : TwistedSubgroup) (table : Characters k) where
   abbrev pub twists_fit : ℕ → Bool
   twists_fit i = all_below k (λ t. (twist_right s table i t).fits)
 
+  -- row i has a twist
   abbrev pub twist_at : ℕ → Option Miss
   twist_at i = unless_holds (twists_fit i && is_some (twist_of i)) Twist i 0 0
 
   abbrev pub twist_miss : Option Miss
   twist_miss = first table.count twist_at
 
+  -- E_i and u_y, at x; y is slower than x
   abbrev pub central_at : ℕ → ℕ → ℕ → Option Miss
   central_at i y x = unless_holds (agree (central_left s table i y x) (central_right s table i y x)) Central i y x
 
   abbrev pub central_miss : Option Miss
   central_miss = first table.count (λ i. first (size s) (λ y. first (size s) (central_at i y)))
 
+  -- E_i and E_j, at x
   abbrev pub product_at : ℕ → ℕ → ℕ → Option Miss
   product_at i j x = unless_holds (agree (product_left s table i j x) (product_right s table i j x)) Product i j x
 
   abbrev pub product_miss : Option Miss
   product_miss = first table.count (λ i. first table.count (λ j. first (size s) (product_at i j)))
 
+  -- the sum at x
   abbrev pub sum_at : ℕ → Option Miss
   sum_at x = unless_holds (agree (sum_left s table x) (sum_right s table x)) Sum 0 0 x
 
   abbrev pub sum_miss : Option Miss
   sum_miss = first (size s) sum_at
 
+  -- the columns of x and y, where y is the second number; x is slower than y
   abbrev pub column_at : ℕ → ℕ → Option Miss
   column_at x y = unless_holds (agree (column_left s table x y) (column_right s table x y)) Column 0 y x
 
   abbrev pub column_miss : Option Miss
   column_miss = first (size s) (λ x. first (size s) (column_at x))
 
+  -- some row has only the value 1
   abbrev pub has_vacuum : Bool
   has_vacuum = is_some (first table.count (λ i. where_holds (is_vacuum i) i))
 

@@ -1,6 +1,5 @@
--- Good tables of projective characters: what makes the elements E_i, with (d_i/m) E_i, the orthogonal central idempotents of the
--- twisted group algebra that add up to one (Coste, Gannon, Ruelle 2000, and textbook; that Twist, Column and Vacuum belong to it is
--- this project's choice).
+-- Good tables of projective characters: by them the (d_i/m) E_i are orthogonal central idempotents of the twisted group algebra that add up
+-- to one (Coste, Gannon, Ruelle 2000, and textbook; that Twist, Column and Vacuum belong to it is this project's choice).
 use Rattle.std.specs.Prelude.{◌≡◌, ℕ, ◌*◌, ◌<◌, ◌≤◌}
 use Rattle.group_table.specs.Group.{identity_of}
 use Rattle.cyclotomic.specs.Cyclotomic.{cyclotomic}

@@ -24,6 +24,7 @@ module _ {k : ℕ} (s : TwistedSubgroup) (table : Characters k) where
   abbrev pub row_degree : ℕ → CyclotomicValue k
   row_degree i = table.chi i (identity_of s.group)
 
+  -- as many as the rank, with degrees; central; orthogonal idempotents up to whole factors; and adding up to one
   pub record AreIdempotents (entry : is_conductor k ≡ true) : Type 0 where
     pub count : table.count ≡ rank s
     pub degree : (i : ℕ) → i < table.count → IsDegree k (size s) (row_degree i)

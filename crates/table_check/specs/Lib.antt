@@ -4,6 +4,7 @@ pub mod Totals
 pub mod Sides
 pub mod Good
 pub mod Idempotents
+pub mod Fitting
 pub mod Conjugates
 pub mod Check
 pub mod Answers

@@ -29,7 +29,7 @@ fn central_at<const K: u32>(table: &Conjugated<K>, i: u32, y: u32, x: u32) -> Op
 }
 
 /// The clause on central elements, for one row and one `y`.
-fn central_column<const K: u32>(table: &Conjugated<K>, i: u32, y: u32) -> Option<Miss>
+fn central_for_pair<const K: u32>(table: &Conjugated<K>, i: u32, y: u32) -> Option<Miss>
     requires i_below { i < length table.now.rows }
     requires y_below { y < size table.now.over }
     ensures miss { result ≡ first (size table.now.over) (central_at table.now.over (characters_of K table.now.rows) i y) }
@@ -45,7 +45,7 @@ fn central_column<const K: u32>(table: &Conjugated<K>, i: u32, y: u32) -> Option
 }
 
 /// The clause on central elements, for one row.
-fn central_row<const K: u32>(table: &Conjugated<K>, i: u32) -> Option<Miss>
+fn central_for_row<const K: u32>(table: &Conjugated<K>, i: u32) -> Option<Miss>
     requires i_below { i < length table.now.rows }
     ensures miss { result ≡ first (size table.now.over) (λ y. first (size table.now.over) (central_at table.now.over (characters_of K table.now.rows) i y)) }
 {
@@ -55,7 +55,7 @@ fn central_row<const K: u32>(table: &Conjugated<K>, i: u32) -> Option<Miss>
         |y| -> Option<Miss>
             requires { (i < length table.now.rows) × (y < size table.now.over) }
             ensures { result ≡ first (size table.entry.now.over) (central_at table.entry.now.over (characters_of K table.entry.now.rows) i y) }
-        { central_column(table, i, y) },
+        { central_for_pair(table, i, y) },
     )
 }
 
@@ -69,7 +69,7 @@ pub fn central_miss<const K: u32>(table: &Conjugated<K>) -> Option<Miss>
         |i| -> Option<Miss>
             requires { i < length table.now.rows }
             ensures { result ≡ first (size table.entry.now.over) (λ y. first (size table.entry.now.over) (central_at table.entry.now.over (characters_of K table.entry.now.rows) i y)) }
-        { central_row(table, i) },
+        { central_for_row(table, i) },
     )
 }
 
@@ -86,7 +86,7 @@ fn product_at<const K: u32>(table: &Conjugated<K>, i: u32, j: u32, x: u32) -> Op
 }
 
 /// The clause on products, for two rows.
-fn product_pair<const K: u32>(table: &Conjugated<K>, i: u32, j: u32) -> Option<Miss>
+fn product_for_pair<const K: u32>(table: &Conjugated<K>, i: u32, j: u32) -> Option<Miss>
     requires i_below { i < length table.now.rows }
     requires j_below { j < length table.now.rows }
     ensures miss { result ≡ first (size table.now.over) (product_at table.now.over (characters_of K table.now.rows) i j) }
@@ -102,7 +102,7 @@ fn product_pair<const K: u32>(table: &Conjugated<K>, i: u32, j: u32) -> Option<M
 }
 
 /// The clause on products, for the first of two rows.
-fn product_row<const K: u32>(table: &Conjugated<K>, i: u32) -> Option<Miss>
+fn product_for_row<const K: u32>(table: &Conjugated<K>, i: u32) -> Option<Miss>
     requires i_below { i < length table.now.rows }
     ensures miss { result ≡ first (length table.now.rows) (λ j. first (size table.now.over) (product_at table.now.over (characters_of K table.now.rows) i j)) }
 {
@@ -112,7 +112,7 @@ fn product_row<const K: u32>(table: &Conjugated<K>, i: u32) -> Option<Miss>
         |j| -> Option<Miss>
             requires { (i < length table.now.rows) × (j < length table.now.rows) }
             ensures { result ≡ first (size table.entry.now.over) (product_at table.entry.now.over (characters_of K table.entry.now.rows) i j) }
-        { product_pair(table, i, j) },
+        { product_for_pair(table, i, j) },
     )
 }
 
@@ -126,7 +126,7 @@ pub fn product_miss<const K: u32>(table: &Conjugated<K>) -> Option<Miss>
         |i| -> Option<Miss>
             requires { i < length table.now.rows }
             ensures { result ≡ first (length table.entry.now.rows) (λ j. first (size table.entry.now.over) (product_at table.entry.now.over (characters_of K table.entry.now.rows) i j)) }
-        { product_row(table, i) },
+        { product_for_row(table, i) },
     )
 }
 
@@ -166,7 +166,7 @@ fn column_at<const K: u32>(table: &Conjugated<K>, x: u32, y: u32) -> Option<Miss
 }
 
 /// The clause on columns, for one `x`.
-fn column_row<const K: u32>(table: &Conjugated<K>, x: u32) -> Option<Miss>
+fn column_for_place<const K: u32>(table: &Conjugated<K>, x: u32) -> Option<Miss>
     requires x_below { x < size table.now.over }
     ensures miss { result ≡ first (size table.now.over) (column_at table.now.over (characters_of K table.now.rows) x) }
 {
@@ -190,6 +190,6 @@ pub fn column_miss<const K: u32>(table: &Conjugated<K>) -> Option<Miss>
         |x| -> Option<Miss>
             requires { x < size table.now.over }
             ensures { result ≡ first (size table.entry.now.over) (column_at table.entry.now.over (characters_of K table.entry.now.rows) x) }
-        { column_row(table, x) },
+        { column_for_place(table, x) },
     )
 }

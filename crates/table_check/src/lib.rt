@@ -1,6 +1,7 @@
 //! The check of a table of projective characters of a twisted centraliser.
 #![tactic(auto)]
 
+ghost use Rattle.table_check.specs.Fitting.{GoodTablesMissNothing};
 ghost use Rattle.table_check.specs.Idempotents.{GoodTablesGiveIdempotents};
 
 mod algebra_clauses;
@@ -19,6 +20,7 @@ mod tests;
 mod total;
 
 pub use identity_name::IdentityName;
+pub use miss::{Clause, Miss};
 pub use refusal::TableRefusal;
 pub use table::Table;
 
@@ -26,4 +28,9 @@ pub use table::Table;
 /// algebra that add up to one; there are as many as the rank of its centre.
 pub fn idempotent_laws()
     ensures idempotents { GoodTablesGiveIdempotents }
+{}
+
+/// The check is as strict as the nine clauses, and no stricter: a good table whose sides all fit misses nothing.
+pub fn check_laws()
+    ensures complete { GoodTablesMissNothing }
 {}

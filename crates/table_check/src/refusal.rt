@@ -4,7 +4,7 @@ use crate::identity_name::IdentityName;
 use group_table::Memory;
 use qd_ring::{Cyc, Site};
 
-/// Why a table is not accepted: the first clause that fails, at its first place, or the first place at which a side overflows.
+/// Why a table is not accepted, at the first place at which a side overflows or the clause fails; there the overflow goes first.
 #[derive(Clone, Copy, Debug, PartialEq, Eq)]
 pub enum TableRefusal<const K: u32> {
     /// A side overflows at this place.

@@ -83,7 +83,7 @@ fn count_refusal<const K: u32>(table: &Candidate<K>) -> Option<TableRefusal<K>>
 }
 
 /// The refusal of the degree of row `i`.
-fn degree_at<const K: u32>(table: &Candidate<K>, i: u32) -> TableRefusal<K>
+fn degree_answer<const K: u32>(table: &Candidate<K>, i: u32) -> TableRefusal<K>
     requires i_below { i < length table.now.rows }
     ensures refuses { Refuses table.now.over (characters_of K table.now.rows) result (record { clause = Clause.Degree; i = i; j = 0; x = identity_of table.now.over.group }) }
 {
@@ -100,7 +100,7 @@ fn degree_at<const K: u32>(table: &Candidate<K>, i: u32) -> TableRefusal<K>
 }
 
 /// The refusal of the value of row `i` at the inverse of `x`.
-fn unitary_at<const K: u32>(table: &Candidate<K>, i: u32, x: u32) -> TableRefusal<K>
+fn unitary_answer<const K: u32>(table: &Candidate<K>, i: u32, x: u32) -> TableRefusal<K>
     requires i_below { i < length table.now.rows }
     requires x_below { x < size table.now.over }
     ensures refuses { Refuses table.now.over (characters_of K table.now.rows) result (record { clause = Clause.Unitary; i = i; j = 0; x = x }) }
@@ -118,7 +118,7 @@ fn unitary_at<const K: u32>(table: &Candidate<K>, i: u32, x: u32) -> TableRefusa
 }
 
 /// The refusal of the twist of row `i`.
-fn twist_at<const K: u32>(table: &Candidate<K>, i: u32) -> TableRefusal<K>
+fn twist_answer<const K: u32>(table: &Candidate<K>, i: u32) -> TableRefusal<K>
     requires i_below { i < length table.now.rows }
     ensures refuses { Refuses table.now.over (characters_of K table.now.rows) result (record { clause = Clause.Twist; i = i; j = 0; x = 0 }) }
 {
@@ -143,7 +143,7 @@ fn degree_refusal<const K: u32>(table: &Candidate<K>) -> Option<TableRefusal<K>>
     ensures finds { Finds table.now.over (characters_of K table.now.rows) (degree_miss table.now.over (characters_of K table.now.rows)) result }
 {
     match degree_miss(table) {
-        Some(miss) => Some(degree_at(table, miss.i)),
+        Some(miss) => Some(degree_answer(table, miss.i)),
         None => None,
     }
 }
@@ -153,7 +153,7 @@ fn unitary_refusal<const K: u32>(table: &Candidate<K>) -> Option<TableRefusal<K>
     ensures finds { Finds table.now.over (characters_of K table.now.rows) (unitary_miss table.now.over (characters_of K table.now.rows)) result }
 {
     match unitary_miss(table) {
-        Some(miss) => Some(unitary_at(table, miss.i, miss.x)),
+        Some(miss) => Some(unitary_answer(table, miss.i, miss.x)),
         None => None,
     }
 }
@@ -163,7 +163,7 @@ fn twist_refusal<const K: u32>(table: &Candidate<K>) -> Option<TableRefusal<K>>
     ensures finds { Finds table.now.over (characters_of K table.now.rows) (twist_miss table.now.over (characters_of K table.now.rows)) result }
 {
     match twist_miss(table) {
-        Some(miss) => Some(twist_at(table, miss.i)),
+        Some(miss) => Some(twist_answer(table, miss.i)),
         None => None,
     }
 }
@@ -185,7 +185,7 @@ pub fn row_refusal<const K: u32>(table: &Candidate<K>) -> Option<TableRefusal<K>
 }
 
 /// The refusal of the clause on central elements at this place.
-fn central_at<const K: u32>(table: &Conjugated<K>, i: u32, y: u32, x: u32) -> TableRefusal<K>
+fn central_answer<const K: u32>(table: &Conjugated<K>, i: u32, y: u32, x: u32) -> TableRefusal<K>
     requires i_below { i < length table.now.rows }
     requires y_below { y < size table.now.over }
     requires x_below { x < size table.now.over }
@@ -205,7 +205,7 @@ fn central_at<const K: u32>(table: &Conjugated<K>, i: u32, y: u32, x: u32) -> Ta
 }
 
 /// The refusal of the clause on products at this place.
-fn product_at<const K: u32>(table: &Conjugated<K>, i: u32, j: u32, x: u32) -> TableRefusal<K>
+fn product_answer<const K: u32>(table: &Conjugated<K>, i: u32, j: u32, x: u32) -> TableRefusal<K>
     requires i_below { i < length table.now.rows }
     requires j_below { j < length table.now.rows }
     requires x_below { x < size table.now.over }
@@ -225,7 +225,7 @@ fn product_at<const K: u32>(table: &Conjugated<K>, i: u32, j: u32, x: u32) -> Ta
 }
 
 /// The refusal of the clause on the sum at this place.
-fn sum_at<const K: u32>(table: &Conjugated<K>, x: u32) -> TableRefusal<K>
+fn sum_answer<const K: u32>(table: &Conjugated<K>, x: u32) -> TableRefusal<K>
     requires x_below { x < size table.now.over }
     ensures refuses { Refuses table.now.over (characters_of K table.now.rows) result (record { clause = Clause.Sum; i = 0; j = 0; x = x }) }
 {
@@ -243,7 +243,7 @@ fn sum_at<const K: u32>(table: &Conjugated<K>, x: u32) -> TableRefusal<K>
 }
 
 /// The refusal of the clause on columns at this pair of places.
-fn column_at<const K: u32>(table: &Conjugated<K>, x: u32, y: u32) -> TableRefusal<K>
+fn column_answer<const K: u32>(table: &Conjugated<K>, x: u32, y: u32) -> TableRefusal<K>
     requires x_below { x < size table.now.over }
     requires y_below { y < size table.now.over }
     ensures refuses { Refuses table.now.over (characters_of K table.now.rows) result (record { clause = Clause.Column; i = 0; j = y; x = x }) }
@@ -266,7 +266,7 @@ fn central_refusal<const K: u32>(table: &Conjugated<K>) -> Option<TableRefusal<K
     ensures finds { Finds table.now.over (characters_of K table.now.rows) (central_miss table.now.over (characters_of K table.now.rows)) result }
 {
     match central_miss(table) {
-        Some(miss) => Some(central_at(table, miss.i, miss.j, miss.x)),
+        Some(miss) => Some(central_answer(table, miss.i, miss.j, miss.x)),
         None => None,
     }
 }
@@ -276,7 +276,7 @@ fn product_refusal<const K: u32>(table: &Conjugated<K>) -> Option<TableRefusal<K
     ensures finds { Finds table.now.over (characters_of K table.now.rows) (product_miss table.now.over (characters_of K table.now.rows)) result }
 {
     match product_miss(table) {
-        Some(miss) => Some(product_at(table, miss.i, miss.j, miss.x)),
+        Some(miss) => Some(product_answer(table, miss.i, miss.j, miss.x)),
         None => None,
     }
 }
@@ -286,7 +286,7 @@ fn sum_refusal<const K: u32>(table: &Conjugated<K>) -> Option<TableRefusal<K>>
     ensures finds { Finds table.now.over (characters_of K table.now.rows) (sum_miss table.now.over (characters_of K table.now.rows)) result }
 {
     match sum_miss(table) {
-        Some(miss) => Some(sum_at(table, miss.x)),
+        Some(miss) => Some(sum_answer(table, miss.x)),
         None => None,
     }
 }
@@ -296,7 +296,7 @@ fn column_refusal<const K: u32>(table: &Conjugated<K>) -> Option<TableRefusal<K>
     ensures finds { Finds table.now.over (characters_of K table.now.rows) (column_miss table.now.over (characters_of K table.now.rows)) result }
 {
     match column_miss(table) {
-        Some(miss) => Some(column_at(table, miss.x, miss.j)),
+        Some(miss) => Some(column_answer(table, miss.x, miss.j)),
         None => None,
     }
 }

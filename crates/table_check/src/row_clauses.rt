@@ -89,7 +89,7 @@ fn unitary_at<const K: u32>(table: &Candidate<K>, i: u32, x: u32) -> Option<Miss
 }
 
 /// The clause on inverses, for one row.
-fn unitary_row<const K: u32>(table: &Candidate<K>, i: u32) -> Option<Miss>
+fn unitary_for_row<const K: u32>(table: &Candidate<K>, i: u32) -> Option<Miss>
     requires i_below { i < length table.now.rows }
     ensures miss { result ≡ first (size table.now.over) (unitary_at table.now.over (characters_of K table.now.rows) i) }
 {
@@ -113,7 +113,7 @@ pub fn unitary_miss<const K: u32>(table: &Candidate<K>) -> Option<Miss>
         |i| -> Option<Miss>
             requires { i < length table.now.rows }
             ensures { result ≡ first (size table.entry.now.over) (unitary_at table.entry.now.over (characters_of K table.entry.now.rows) i) }
-        { unitary_row(table, i) },
+        { unitary_for_row(table, i) },
     )
 }
 

@@ -258,9 +258,8 @@ fn row_term<const K: u32>(table: &Conjugated<K>, x: u32, y: u32, i: u32) -> Opti
     requires i_below { i < length table.now.rows }
     ensures forms { Forms (row_term table.now.over (characters_of K table.now.rows) x y i) result }
 {
-    table
-        .conjugate(i, x)
-        .try_mul(&table.candidate().value(i, y))
+    let conjugate = table.conjugate(i, x);
+    conjugate.try_mul(&table.candidate().value(i, y))
 }
 
 /// The sum over the rows of the conjugate of the value at `x` times the value at `y`.

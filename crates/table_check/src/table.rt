@@ -1,8 +1,10 @@
-ghost use Rattle.std.specs.Prelude.{◌≡◌, ◌<◌, ℕ, Some, None, IfOk, IfSome, length};
+ghost use Rattle.std.specs.Prelude.{◌≡◌, ◌<◌, ◌≤◌, ◌*◌, Some, IfOk, length};
 ghost use Rattle.cyclotomic.specs.CyclotomicRing.{cyclotomic_value};
 ghost use Rattle.twisted.specs.Twist.{size};
 ghost use Rattle.group_table.specs.Group.{identity_of};
 ghost use Rattle.table_check.specs.Characters.{RowsOver, characters_of, IsShaped};
+ghost use Rattle.table_check.specs.Formed.{whole};
+ghost use Rattle.table_check.specs.Sides.{twist_left, twist_right};
 ghost use Rattle.table_check.specs.Good.{IsGood};
 ghost use Rattle.table_check.specs.Check.{degree_of, twist_of, table_miss};
 ghost use Rattle.table_check.specs.Answers.{Checks};
@@ -83,6 +85,9 @@ impl<const K: u32> Table<K> {
     pub fn degree(&self, i: u32) -> u32
         requires i_below { i < length self.now.rows }
         ensures degree { degree_of K (size self.now.over) ((characters_of K self.now.rows).chi i (identity_of self.now.over.group)) ≡ Some result }
+        ensures positive { 1 ≤ result }
+        ensures square { result * result ≤ size self.now.over }
+        ensures value { (characters_of K self.now.rows).chi i (identity_of self.now.over.group) ≡ whole K result }
     {
         match degree_of(self.candidate.over().size(), &degree(&self.candidate, i)) {
             Some(degree) => degree,
@@ -95,6 +100,8 @@ impl<const K: u32> Table<K> {
     pub fn twist(&self, i: u32) -> u32
         requires i_below { i < length self.now.rows }
         ensures twist { twist_of self.now.over (characters_of K self.now.rows) i ≡ Some result }
+        ensures below { result < K }
+        ensures value { (twist_left self.now.over (characters_of K self.now.rows) i).value ≡ (twist_right self.now.over (characters_of K self.now.rows) i result).value }
     {
         match twist_of(&self.candidate, i) {
             Some(twist) => twist,

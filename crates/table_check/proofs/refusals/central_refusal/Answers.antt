@@ -4,8 +4,8 @@ use Rattle.table_check.specs.Characters.{characters_of}
 use Rattle.table_check.proofs.Found.{central_found}
 use Rattle.table_check.proofs.refusals.central_refusal.Goals as goal
 
-pub central_at-requires : goal.central_at-requires
-central_at-requires g c =
+pub central_answer-requires : goal.central_answer-requires
+central_answer-requires g c =
     let found = central_found c.args.table.now.over (characters_of g.row.K c.args.table.now.rows) c.in-Some.miss (sym c.central_miss.ensures.miss ∙ c.in-Some.is) in
     (search rules, (search rules, (found.0, (found.1, found.2))))
 
@@ -15,4 +15,4 @@ returns-in-Some g c =
     let table = characters_of g.row.K c.args.table.now.rows in
     let missed = sym c.central_miss.ensures.miss ∙ c.in-Some.is in
     let found = central_found s table c.in-Some.miss missed in
-    record { finds = (c.in-Some.miss, missed, subst (Refuses s table c.central_at.result) found.3 c.central_at.ensures.refuses) }
+    record { finds = (c.in-Some.miss, missed, subst (Refuses s table c.central_answer.result) found.3 c.central_answer.ensures.refuses) }

@@ -4,8 +4,8 @@ use Rattle.table_check.specs.Characters.{characters_of}
 use Rattle.table_check.proofs.Found.{column_found}
 use Rattle.table_check.proofs.refusals.column_refusal.Goals as goal
 
-pub column_at-requires : goal.column_at-requires
-column_at-requires g c =
+pub column_answer-requires : goal.column_answer-requires
+column_answer-requires g c =
     let found = column_found c.args.table.now.over (characters_of g.row.K c.args.table.now.rows) c.in-Some.miss (sym c.column_miss.ensures.miss ∙ c.in-Some.is) in
     (search rules, (search rules, (found.0, found.1)))
 
@@ -15,4 +15,4 @@ returns-in-Some g c =
     let table = characters_of g.row.K c.args.table.now.rows in
     let missed = sym c.column_miss.ensures.miss ∙ c.in-Some.is in
     let found = column_found s table c.in-Some.miss missed in
-    record { finds = (c.in-Some.miss, missed, subst (Refuses s table c.column_at.result) found.2 c.column_at.ensures.refuses) }
+    record { finds = (c.in-Some.miss, missed, subst (Refuses s table c.column_answer.result) found.2 c.column_answer.ensures.refuses) }

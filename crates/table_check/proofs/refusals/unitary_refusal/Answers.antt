@@ -4,8 +4,8 @@ use Rattle.table_check.specs.Characters.{characters_of}
 use Rattle.table_check.proofs.Found.{unitary_found}
 use Rattle.table_check.proofs.refusals.unitary_refusal.Goals as goal
 
-pub unitary_at-requires : goal.unitary_at-requires
-unitary_at-requires g c =
+pub unitary_answer-requires : goal.unitary_answer-requires
+unitary_answer-requires g c =
     let found = unitary_found c.args.table.now.over (characters_of g.row.K c.args.table.now.rows) c.in-Some.miss (sym c.unitary_miss.ensures.miss ∙ c.in-Some.is) in
     (search rules, (search rules, (found.0, found.1)))
 
@@ -15,4 +15,4 @@ returns-in-Some g c =
     let table = characters_of g.row.K c.args.table.now.rows in
     let missed = sym c.unitary_miss.ensures.miss ∙ c.in-Some.is in
     let found = unitary_found s table c.in-Some.miss missed in
-    record { finds = (c.in-Some.miss, missed, subst (Refuses s table c.unitary_at.result) found.2 c.unitary_at.ensures.refuses) }
+    record { finds = (c.in-Some.miss, missed, subst (Refuses s table c.unitary_answer.result) found.2 c.unitary_answer.ensures.refuses) }
