@@ -9,6 +9,7 @@ use Rattle.group_table.specs.Group.{group_fault}
 use Rattle.cochain.specs.Cochain.{Cochain, cocycle_fault}
 use Rattle.cyclotomic.specs.Conductors.{least_conductor}
 use Rattle.table_check.specs.Check.{table_miss}
+use Rattle.table_check.proofs.Fitting.{good_misses_nothing}
 use Rattle.qd_io.specs.declared.reading.TheConstants.{INPUT_LIMIT}
 use Rattle.qd_doc.specs.Blocks.{Block}
 use Rattle.qd_doc.specs.Grammar.{stop_of}
@@ -20,8 +21,9 @@ use Rattle.qd_engine.specs.Documents.{form_of, table_of, exponents_of, given_in,
 use Rattle.qd_engine.specs.Shape.{shape_fault}
 use Rattle.qd_engine.specs.Tables.{class_twist, class_table, table_cause, tables_cause, cause_of_miss}
 use Rattle.qd_engine.specs.Report.{class_ranks, report_of}
-use Rattle.qd_engine.specs.Plan.{◌>>=◌, unless, asked, within_limit, cause_of_stop, document_step, group_step, cocycle_step, needed, conductor_step, stated_step, most_simples, simples_step, shape_step, tables_step, verify_step, command_step, answer_to, plan}
+use Rattle.qd_engine.specs.Plan.{◌>>=◌, unless, asked, within_limit, cause_of_stop, document_step, group_step, cocycle_step, needed, conductor_step, stated_step, most_simples, simples_step, shape_step, tables_step, verify_step, characters_step, command_step, answer_to, plan}
 use Rattle.qd_engine.specs.Causes.{document_in, IsDocument, IsLawful, IsShaped, IsVerified}
+use Rattle.qd_engine.specs.Acceptable.{AllFit, IsAcceptable}
 use Rattle.qd_engine.specs.declared.command.Command.{Command}
 use Rattle.qd_engine.specs.declared.command.Command.TheVariants.{Check, Classes, Verify}
 use Rattle.qd_engine.proofs.Shapes.{matched_no_fault}
@@ -90,3 +92,28 @@ lawful_answer command bytes document lawful tested =
     (bind_made (group_step read) _ (table_of read) _ (unless_made Group (group_fault (table_of read)) (table_of read) lawful.group.lawful)
     (bind_made (cocycle_step read) _ w _ (unless_made Cocycle (cocycle_fault w) w lawful.cocycle.lawful)
     (bind_made (command_step command read w) _ tt _ tested refl))))
+
+-- every table that is good and whose sides fit misses nothing
+tables_pass : (d : Document) → IsVerified d → AllFit d → (c : ℕ) → c < length (representatives (table_of d))
+    → table_miss (class_twist (exponents_of d) c) (class_table (given_in d).conductor (given_in d).blocks c) ≡ None
+tables_pass d verified fits c below =
+    good_misses_nothing (class_twist (exponents_of d) c) (class_table (given_in d).conductor (given_in d).blocks c) (verified.good c below) (fits c below)
+
+command_passes : (command : Command) (bytes : List ℕ) → (command ≡ Verify → IsVerified (document_in command bytes)) → (command ≡ Verify → AllFit (document_in command bytes))
+    → command_step command (document_in command bytes) (exponents_of (document_in command bytes)) ≡ Ok tt
+command_passes Check bytes verified fits = refl
+command_passes Classes bytes verified fits = refl
+command_passes Verify bytes verified fits =
+    let d = document_in Verify bytes in
+    let good = verified refl in
+    ap (characters_step (exponents_of d)) (verify_given bytes) ∙ shaped_passes d good.shaped (tables_pass d good (fits refl))
+
+-- the plan of an acceptable input is its report
+pub acceptable_plan : (words : List (List ℕ)) (bytes : List ℕ) → IsAcceptable words bytes → (report : List ℕ) × (plan words bytes ≡ Ok report)
+unfolding plan
+acceptable_plan words bytes accepts =
+    let d = document_in accepts.command bytes in
+    let report = report_of accepts.command d (exponents_of d) in
+    let tested = command_passes accepts.command bytes accepts.verified accepts.fits in
+    let answered = lawful_answer accepts.command bytes accepts.document accepts.lawful tested in
+    (report, bind_made (asked (command_of words)) _ accepts.command report (ap asked accepts.asked) answered)

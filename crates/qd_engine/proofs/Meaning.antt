@@ -19,7 +19,8 @@ use Rattle.qd_engine.specs.declared.stop.Stop.TheVariants as stops
 use Rattle.data_print.specs.Lines.{line_of}
 use Rattle.qd_engine.specs.Endings.{IsCause, Says, Writing, Ends, EndsSaying, Decides, Prepares, SaysPrepared}
 use Rattle.qd_engine.proofs.Documents.{document_group, document_cocycle}
-use Rattle.qd_engine.proofs.Complete.{lawful_answer}
+use Rattle.qd_engine.specs.Acceptable.{IsAcceptable}
+use Rattle.qd_engine.proofs.Complete.{acceptable_plan}
 use Rattle.qd_engine.proofs.Verified.{verify_given, rows_verified}
 use Rattle.qd_engine.proofs.Planned.{Passes, refusal_means, report_passes}
 use Rattle.qd_engine.specs.declared.command.Command.{Command}
@@ -297,6 +298,15 @@ room_decides words left source_failed writing sink_failed why bytes report (outc
       | inr written ↦
           report_or_memory words bytes report why e (subst (Decides (plan words bytes)) (sym written.is) (outcome_decides words bytes source_failed outcome text sure known))
     ]
+
+-- ---- an acceptable input
+
+pub acceptable_decides : (words : List (List ℕ)) (left : Option (List ℕ)) (source_failed : Type 0) (writing : Writing) (sink_failed : Type 0) (why : Why) (bytes : List ℕ)
+    → EndsSaying words left source_failed writing sink_failed why → left ≡ Some bytes → (source_failed → ⊥) → (sink_failed → ⊥) → IsAcceptable words bytes
+    → (why ≡ whys.Done) ⊎ (why ≡ whys.Memory)
+acceptable_decides words left source_failed writing sink_failed why bytes ends told sure_source sure_sink accepts =
+    let (report, planned) = acceptable_plan words bytes accepts in
+    report_or_memory words bytes report why planned (plan_decides words left source_failed writing sink_failed why bytes ends told sure_source sure_sink)
 
 -- ---- from what was prepared to how the program ends
 
