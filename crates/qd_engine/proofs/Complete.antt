@@ -1,5 +1,5 @@
 -- The plan of an acceptable input is a report.
-use Rattle.std.proofs.Common.{◌≡◌, ℕ, ◌<◌, ◌≤◌, List, length, Option, Some, None, Result, Ok, Err, refl, ap, ◌∙◌}
+use Rattle.std.proofs.Common.{◌≡◌, ℕ, ◌<◌, ◌≤◌, List, length, Option, Some, None, Result, Ok, refl, ap, ◌∙◌}
 use Rattle.std.specs.Prelude.{sum}
 use Rattle.std.specs.Option.{option_map}
 use Rattle.std.proofs.lemmas.Bool.{eq-eqb, le-leb, le-ltb}
@@ -21,7 +21,7 @@ use Rattle.qd_engine.specs.Documents.{form_of, table_of, exponents_of, given_in,
 use Rattle.qd_engine.specs.Shape.{shape_fault}
 use Rattle.qd_engine.specs.Tables.{class_twist, class_table, table_cause, tables_cause, cause_of_miss}
 use Rattle.qd_engine.specs.Report.{class_ranks, report_of}
-use Rattle.qd_engine.specs.Plan.{◌>>=◌, unless, asked, within_limit, cause_of_stop, document_step, group_step, cocycle_step, needed, conductor_step, stated_step, most_simples, simples_step, shape_step, tables_step, verify_step, characters_step, command_step, answer_to, plan}
+use Rattle.qd_engine.specs.Plan.{◌>>=◌, unless, asked, within_limit, cause_of_stop, document_step, group_step, cocycle_step, conductor_step, stated_step, most_simples, simples_step, shape_step, tables_step, verify_step, characters_step, command_step, answer_to, plan}
 use Rattle.qd_engine.specs.Causes.{document_in, IsDocument, IsLawful, IsShaped, IsVerified}
 use Rattle.qd_engine.specs.Acceptable.{AllFit, IsAcceptable}
 use Rattle.qd_engine.specs.declared.command.Command.{Command}
