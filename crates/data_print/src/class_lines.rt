@@ -8,6 +8,7 @@ use classes::Classes;
 use group_table::Nats;
 use std::alloc::Global;
 
+/// The line of class `c`.
 fn class_line(alloc: Global, classes: &Classes, c: u32, rank: u32) -> Result<String, Memory>
     requires c_below { c < length (representatives classes.now) }
     ensures text { IfOk result (λ text. string_bytes text ≡ class_line classes.now c rank) }
@@ -64,6 +65,7 @@ pub fn append_classes(out: &mut Vec<u8>, classes: &Classes, ranks: &Nats) -> Res
     ensures added { OnOk result (out.new.items ≡ out.old.items ++ classes_text classes.now ranks.now) }
     ensures front { OnErr result (AddsFront out.old.items out.new.items (classes_text classes.now ranks.now)) }
 {
+    // The classes promise here that they are at most 60, which bounds the sum of the ranks.
     let _count = classes.count();
     append_class_lines(out, classes, ranks)?;
     append_simples(out, ranks)

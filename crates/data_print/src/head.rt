@@ -5,6 +5,7 @@ use crate::Memory;
 use cochain::Cocycle;
 use std::alloc::Global;
 
+/// The two lines that every report begins with.
 fn head(alloc: Global, w: &Cocycle) -> Result<String, Memory>
     ensures text { IfOk result (λ text. string_bytes text ≡ head_of w.now) }
 {

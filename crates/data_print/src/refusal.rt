@@ -44,6 +44,7 @@ fn name_word(name: IdentityName) -> &'static str
     }
 }
 
+/// The line of a token where another was expected.
 fn syntax_line(alloc: Global, offset: u32, expected: Expected) -> Result<String, Memory>
     ensures line { IfOk result (λ text. string_bytes text ≡ line_of (Cause.Syntax offset expected)) }
 {
@@ -51,6 +52,7 @@ fn syntax_line(alloc: Global, offset: u32, expected: Expected) -> Result<String,
     format!(in alloc; "refused 3 syntax {offset} {word}\n")
 }
 
+/// The line of a table that is no group.
 fn group_line(alloc: Global, fault: GroupFault) -> Result<String, Memory>
     ensures line { IfOk result (λ text. string_bytes text ≡ group_line fault) }
 {
@@ -64,6 +66,7 @@ fn group_line(alloc: Global, fault: GroupFault) -> Result<String, Memory>
     }
 }
 
+/// The line of exponents that are no normalised 3-cocycle.
 fn cocycle_line(alloc: Global, fault: CocycleFault) -> Result<String, Memory>
     ensures line { IfOk result (λ text. string_bytes text ≡ cocycle_line fault) }
 {
@@ -77,18 +80,21 @@ fn cocycle_line(alloc: Global, fault: CocycleFault) -> Result<String, Memory>
     }
 }
 
-fn conductor_line(alloc: Global, stated: u32, needed: u32) -> Result<String, Memory>
+/// The line of a stated conductor that is not the one that is needed.
+fn stated_line(alloc: Global, stated: u32, needed: u32) -> Result<String, Memory>
     ensures line { IfOk result (λ text. string_bytes text ≡ line_of (Cause.Conductor stated needed)) }
 {
     format!(in alloc; "refused 6 stated {stated} needed {needed}\n")
 }
 
+/// The line of a table that has not as many rows as its rank.
 fn count_line(alloc: Global, at: u32, rows: u32, rank: u32) -> Result<String, Memory>
     ensures line { IfOk result (λ text. string_bytes text ≡ line_of (Cause.Count at rows rank)) }
 {
     format!(in alloc; "refused 9 count {at} {rows} {rank}\n")
 }
 
+/// The line of blocks that don't match the classes.
 fn shape_line(alloc: Global, fault: ShapeFault) -> Result<String, Memory>
     ensures line { IfOk result (λ text. string_bytes text ≡ shape_line fault) }
 {
@@ -110,6 +116,7 @@ fn shape_line(alloc: Global, fault: ShapeFault) -> Result<String, Memory>
     }
 }
 
+/// The line of a sum that doesn't fit.
 fn overflow_line(alloc: Global, site: Site) -> Result<String, Memory>
     ensures line { IfOk result (λ text. string_bytes text ≡ overflow_line site) }
 {
@@ -189,7 +196,7 @@ fn line(alloc: Global, why: &Cause) -> Result<Vec<u8>, Memory>
         Cause::NoConductor { multiple } => bytes(format!(in alloc;
             "refused 6 conductor {multiple}\n"
         )),
-        Cause::Conductor { stated, needed } => bytes(conductor_line(alloc, *stated, *needed)),
+        Cause::Conductor { stated, needed } => bytes(stated_line(alloc, *stated, *needed)),
         Cause::Simples { ranks, .. } => bytes(format!(in alloc; "refused 6 simples {ranks}\n")),
         Cause::Shape(fault) => bytes(shape_line(alloc, *fault)),
         Cause::Count { at, rows, rank } => bytes(count_line(alloc, *at, *rows, *rank)),

@@ -8,6 +8,7 @@ pub mod TableRows
 pub mod TableCauses
 pub mod TableSteps
 pub mod Verified
+pub mod Complete
 pub mod Planned
 pub mod Meaning
 pub mod Taken

@@ -10,8 +10,8 @@ use Rattle.qd_engine.specs.Documents.{exponents_of}
 use Rattle.qd_engine.specs.Plan.{plan}
 use Rattle.qd_engine.specs.Report.{report_of}
 use Rattle.data_print.specs.Lines.{memory_line}
-use Rattle.qd_engine.specs.Answers.{why_of_cause, why_of}
-use Rattle.qd_engine.specs.Causes.{OfInput, document_in, IsLawful, IsVerified, Comes, IsDone}
+use Rattle.qd_engine.specs.Answers.{why_of_cause, why_of, status_of}
+use Rattle.qd_engine.specs.Causes.{OfInput, document_in, IsLawful, IsVerified, Means, Plans, Comes, IsDone}
 use Rattle.std.specs.Prelude.{IsOk}
 use Rattle.std.specs.Global.{Vec}
 use Rattle.qd_engine.specs.declared.stop.Stop.{Stop}
@@ -19,8 +19,10 @@ use Rattle.qd_engine.specs.declared.stop.Stop.TheVariants as stops
 use Rattle.data_print.specs.Lines.{line_of}
 use Rattle.qd_engine.specs.Endings.{IsCause, Says, Writing, Ends, EndsSaying, Decides, Prepares, SaysPrepared}
 use Rattle.qd_engine.proofs.Documents.{document_group, document_cocycle}
+use Rattle.qd_engine.specs.Acceptable.{IsAcceptable}
+use Rattle.qd_engine.proofs.Complete.{acceptable_plan}
 use Rattle.qd_engine.proofs.Verified.{verify_given, rows_verified}
-use Rattle.qd_engine.proofs.Planned.{Passes, refusal_comes, report_passes}
+use Rattle.qd_engine.proofs.Planned.{Passes, refusal_means, report_passes}
 use Rattle.qd_engine.specs.declared.command.Command.{Command}
 use Rattle.qd_engine.specs.declared.command.Command.TheVariants.{Check, Classes, Verify}
 use Rattle.qd_engine.specs.declared.answer.Why.{Why}
@@ -36,6 +38,7 @@ use Rattle.data_print.specs.declared.cause.Cause.TheVariants.{Usage, Read, TooLo
 pub record Failed (writing : Writing) (failed : Type 0) (why : Why) (outcome : Outcome) (text : List ℕ) : Type 0 where
   pub planned : ℕ
   pub is : why ≡ whys.Write planned
+  pub plans : planned ≡ status_of (why_of outcome)
   pub rose : failed
   pub no_room : HasRoom writing.room text → ⊥
 
@@ -45,7 +48,7 @@ pub record Written (writing : Writing) (why : Why) (outcome : Outcome) (text : L
 
 pub ending : (writing : Writing) (failed : Type 0) (why : Why) (outcome : Outcome) (text : List ℕ) → Ends writing failed why outcome text
     → Failed writing failed why outcome text ⊎ Written writing why outcome text
-ending writing failed (whys.Write planned) outcome text e = inl (record { planned = planned; is = refl; rose = e.1; no_room = e.3 })
+ending writing failed (whys.Write planned) outcome text e = inl (record { planned = planned; is = refl; plans = e.0; rose = e.1; no_room = e.3 })
 ending writing failed whys.Done outcome text e = inr (record { is = e.0; added = e.1 })
 ending writing failed whys.Usage outcome text e = inr (record { is = e.0; added = e.1 })
 ending writing failed whys.Read outcome text e = inr (record { is = e.0; added = e.1 })
@@ -93,12 +96,19 @@ cause_kind words left failed (NoTwist at row value) h = inr h
 cause_kind words left failed (NoVacuum rows) h = inr h
 cause_kind words left failed (Overflow site) h = inr h
 
-cause_comes : (words : List (List ℕ)) (left : Option (List ℕ)) (failed : Type 0) (cause : Cause) → IsCause words left failed cause → Comes words left failed (why_of_cause cause)
-cause_comes words left failed cause h =
+cause_means : (words : List (List ℕ)) (left : Option (List ℕ)) (failed : Type 0) (cause : Cause) → IsCause words left failed cause → Means words left failed (why_of_cause cause)
+cause_means words left failed cause h =
     elim (cause_kind words left failed cause h) [
-      | inl (rose, some, is) ↦ subst (λ (c : Cause). Comes words left failed (why_of_cause c)) (sym is) (some, rose)
-      | inr (bytes, agrees, e) ↦ refusal_comes words left failed bytes cause agrees e
+      | inl (rose, some, is) ↦ subst (λ (c : Cause). Means words left failed (why_of_cause c)) (sym is) (some, rose)
+      | inr (bytes, agrees, e) ↦ refusal_means words left failed bytes cause agrees e
     ]
+
+-- the table is a group, and the exponents are a cocycle of it
+passes_lawful : (command : Command) (bytes text : List ℕ) → Passes command bytes text → IsLawful (document_in command bytes)
+passes_lawful command bytes text passes = record {
+  group = document_group command bytes passes.document passes.group;
+  cocycle = document_cocycle command bytes passes.document passes.group passes.cocycle;
+}
 
 -- under `verify` the rows are good
 passes_verified : (command : Command) (bytes text : List ℕ) → Passes command bytes text → command ≡ Verify → IsVerified (document_in command bytes)
@@ -106,31 +116,56 @@ passes_verified Check bytes text passes is = absurd cc
 passes_verified Classes bytes text passes is = absurd cc
 passes_verified Verify bytes text passes is =
     let given = verify_given bytes in
-    rows_verified (document_in Verify bytes) (rw given at passes.tested)
+    rows_verified (document_in Verify bytes) (passes_lawful Verify bytes text passes) (rw given at passes.tested)
 
-report_comes : (words : List (List ℕ)) (left : Option (List ℕ)) (failed : Type 0) (text : List ℕ) → OfInput left (λ bytes. plan words bytes ≡ Ok text) → Comes words left failed whys.Done
-report_comes words left failed text (bytes, agrees, e) =
+report_means : (words : List (List ℕ)) (left : Option (List ℕ)) (failed : Type 0) (text : List ℕ) → OfInput left (λ bytes. plan words bytes ≡ Ok text) → Means words left failed whys.Done
+report_means words left failed text (bytes, agrees, e) =
     let (command, asks, passes) = report_passes words bytes text e in
-    let lawful : IsLawful (document_in command bytes) = record {
-      group = document_group command bytes passes.document passes.group;
-      cocycle = document_cocycle command bytes passes.document passes.group passes.cocycle;
-    } in
-    (command, asks, (bytes, agrees, (passes.document, lawful, passes_verified command bytes text passes)))
+    (command, asks, (bytes, agrees, (passes.document, passes_lawful command bytes text passes, passes_verified command bytes text passes)))
 
-outcome_comes : (words : List (List ℕ)) (left : Option (List ℕ)) (failed : Type 0) (outcome : Outcome) (text : List ℕ) → Says words left failed outcome text → Comes words left failed (why_of outcome)
-outcome_comes words left failed Report text h = report_comes words left failed text h
-outcome_comes words left failed (Refused cause) text h = cause_comes words left failed cause h.0
-outcome_comes words left failed Memory text h = tt
+outcome_means : (words : List (List ℕ)) (left : Option (List ℕ)) (failed : Type 0) (outcome : Outcome) (text : List ℕ) → Says words left failed outcome text → Means words left failed (why_of outcome)
+outcome_means words left failed Report text h = report_means words left failed text h
+outcome_means words left failed (Refused cause) text h = cause_means words left failed cause h.0
+outcome_means words left failed Memory text h = tt
 
 -- ---- what the answer means
+
+-- an answer that means something comes
+means_comes : (words : List (List ℕ)) (left : Option (List ℕ)) (failed : Type 0) (why : Why) → Means words left failed why → Comes words left failed why
+means_comes words left failed whys.Usage h = h
+means_comes words left failed whys.Read h = h
+means_comes words left failed whys.TooLong h = h
+means_comes words left failed (whys.Syntax offset wanted) h = h
+means_comes words left failed (whys.Wide offset) h = h
+means_comes words left failed (whys.Section offset) h = h
+means_comes words left failed (whys.Order number) h = h
+means_comes words left failed (whys.Roots number) h = h
+means_comes words left failed (whys.Group fault) h = h
+means_comes words left failed (whys.Cocycle fault) h = h
+means_comes words left failed (whys.NoConductor multiple) h = h
+means_comes words left failed (whys.Conductor stated needed) h = h
+means_comes words left failed (whys.Simples ranks most) h = h
+means_comes words left failed (whys.Shape fault) h = h
+means_comes words left failed (whys.Count at rows rank) h = h
+means_comes words left failed (whys.Identity name at i j x left_side right_side) h = h
+means_comes words left failed (whys.NoTwist at row value) h = h
+means_comes words left failed (whys.NoVacuum rows) h = h
+means_comes words left failed (whys.Overflow site) h = h
+means_comes words left failed whys.Done h = h
+means_comes words left failed whys.Memory h = h
+means_comes words left failed (whys.Write planned) h = absurd h
 
 -- where an answer comes, what it says holds
 pub answer_comes : (words : List (List ℕ)) (left : Option (List ℕ)) (source_failed : Type 0) (writing : Writing) (sink_failed : Type 0) (why : Why)
     → EndsSaying words left source_failed writing sink_failed why → Comes words left source_failed why
 answer_comes words left source_failed writing sink_failed why (outcome, text, says, ends) =
     elim (ending writing sink_failed why outcome text ends) [
-      | inl failed ↦ subst (Comes words left source_failed) (sym failed.is) tt
-      | inr written ↦ subst (Comes words left source_failed) (sym written.is) (outcome_comes words left source_failed outcome text says)
+      | inl failed ↦
+          let plans : Plans words left source_failed failed.planned = (why_of outcome, sym failed.plans, outcome_means words left source_failed outcome text says) in
+          subst (Comes words left source_failed) (sym failed.is) plans
+      | inr written ↦
+          subst (Comes words left source_failed) (sym written.is)
+          (means_comes words left source_failed (why_of outcome) (outcome_means words left source_failed outcome text says))
     ]
 
 -- a report alone is answered by Done
@@ -263,6 +298,15 @@ room_decides words left source_failed writing sink_failed why bytes report (outc
       | inr written ↦
           report_or_memory words bytes report why e (subst (Decides (plan words bytes)) (sym written.is) (outcome_decides words bytes source_failed outcome text sure known))
     ]
+
+-- ---- an acceptable input
+
+pub acceptable_decides : (words : List (List ℕ)) (left : Option (List ℕ)) (source_failed : Type 0) (writing : Writing) (sink_failed : Type 0) (why : Why) (bytes : List ℕ)
+    → EndsSaying words left source_failed writing sink_failed why → left ≡ Some bytes → (source_failed → ⊥) → (sink_failed → ⊥) → IsAcceptable words bytes
+    → (why ≡ whys.Done) ⊎ (why ≡ whys.Memory)
+acceptable_decides words left source_failed writing sink_failed why bytes ends told sure_source sure_sink accepts =
+    let (report, planned) = acceptable_plan words bytes accepts in
+    report_or_memory words bytes report why planned (plan_decides words left source_failed writing sink_failed why bytes ends told sure_source sure_sink)
 
 -- ---- from what was prepared to how the program ends
 

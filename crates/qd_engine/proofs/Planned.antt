@@ -28,7 +28,7 @@ use Rattle.qd_engine.specs.Plan.{◌>>=◌, asked, within_limit, cause_of_stop, 
 use Rattle.qd_engine.specs.Documents.{form_of, table_of, exponents_of}
 use Rattle.qd_engine.specs.Report.{report_of}
 use Rattle.qd_engine.specs.Answers.{why_of_cause}
-use Rattle.qd_engine.specs.Causes.{Agrees, OfInput, document_in, IsDocument, IsLawful, Stops, Comes}
+use Rattle.qd_engine.specs.Causes.{Agrees, OfInput, document_in, IsDocument, IsLawful, Stops, Means}
 use Rattle.qd_engine.proofs.Chains.{bind_err, bind_ok, unless_err, unless_ok}
 use Rattle.qd_engine.proofs.Documents.{document_group, document_cocycle}
 use Rattle.qd_engine.proofs.Verified.{RowsRefuse, verify_given, verify_refuses}
@@ -332,39 +332,39 @@ plan_parts words bytes = refl
 some_command : (words : List (List ℕ)) (command : Command) → command_of words ≡ Some command → IsSome (command_of words)
 some_command words command e = rw e refl
 
-refuses_comes : (words : List (List ℕ)) (left : Option (List ℕ)) (failed : Type 0) (command : Command) (bytes : List ℕ) (cause : Cause) → command_of words ≡ Some command → Agrees left bytes
-    → Refuses command bytes cause → Comes words left failed (why_of_cause cause)
+refuses_means : (words : List (List ℕ)) (left : Option (List ℕ)) (failed : Type 0) (command : Command) (bytes : List ℕ) (cause : Cause) → command_of words ≡ Some command → Agrees left bytes
+    → Refuses command bytes cause → Means words left failed (why_of_cause cause)
 unfolding Refuses RowsRefuse
-refuses_comes words left failed command bytes Usage asks agrees h = absurd h
-refuses_comes words left failed command bytes Read asks agrees h = absurd h
-refuses_comes words left failed command bytes TooLong asks agrees h = (some_command words command asks, (bytes, agrees, h))
-refuses_comes words left failed command bytes (Syntax offset wanted) asks agrees h = (command, asks, (bytes, agrees, h))
-refuses_comes words left failed command bytes (Wide offset) asks agrees h = (command, asks, (bytes, agrees, h))
-refuses_comes words left failed command bytes (Section offset) asks agrees h = (command, asks, (bytes, agrees, h))
-refuses_comes words left failed command bytes (Order number) asks agrees h = (command, asks, (bytes, agrees, h))
-refuses_comes words left failed command bytes (Roots number) asks agrees h = (command, asks, (bytes, agrees, h))
-refuses_comes words left failed command bytes (Group fault) asks agrees h = (command, asks, (bytes, agrees, h))
-refuses_comes words left failed command bytes (Cocycle fault) asks agrees h = (command, asks, (bytes, agrees, h))
-refuses_comes words left failed command bytes (NoConductor multiple) asks agrees (is, document, h) = (asks ∙ ap Some is, (bytes, agrees, (document, h)))
-refuses_comes words left failed command bytes (Conductor stated needed) asks agrees (is, document, h) = (asks ∙ ap Some is, (bytes, agrees, (document, h)))
-refuses_comes words left failed command bytes (Simples ranks most) asks agrees (is, document, h) = (asks ∙ ap Some is, (bytes, agrees, (document, h)))
-refuses_comes words left failed command bytes (Shape fault) asks agrees (is, document, h) = (asks ∙ ap Some is, (bytes, agrees, (document, h)))
-refuses_comes words left failed command bytes (Count at rows rank) asks agrees (is, document, h) = (asks ∙ ap Some is, (bytes, agrees, (document, h)))
-refuses_comes words left failed command bytes (Identity name at i j x left_side right_side) asks agrees (is, document, h) = (asks ∙ ap Some is, (bytes, agrees, (document, h)))
-refuses_comes words left failed command bytes (NoTwist at row value) asks agrees (is, document, h) = (asks ∙ ap Some is, (bytes, agrees, (document, h)))
-refuses_comes words left failed command bytes (NoVacuum rows) asks agrees (is, document, h) = (asks ∙ ap Some is, (bytes, agrees, (document, h)))
-refuses_comes words left failed command bytes (Overflow site) asks agrees (is, document, h) = (asks ∙ ap Some is, (bytes, agrees, (document, h)))
+refuses_means words left failed command bytes Usage asks agrees h = absurd h
+refuses_means words left failed command bytes Read asks agrees h = absurd h
+refuses_means words left failed command bytes TooLong asks agrees h = (some_command words command asks, (bytes, agrees, h))
+refuses_means words left failed command bytes (Syntax offset wanted) asks agrees h = (command, asks, (bytes, agrees, h))
+refuses_means words left failed command bytes (Wide offset) asks agrees h = (command, asks, (bytes, agrees, h))
+refuses_means words left failed command bytes (Section offset) asks agrees h = (command, asks, (bytes, agrees, h))
+refuses_means words left failed command bytes (Order number) asks agrees h = (command, asks, (bytes, agrees, h))
+refuses_means words left failed command bytes (Roots number) asks agrees h = (command, asks, (bytes, agrees, h))
+refuses_means words left failed command bytes (Group fault) asks agrees h = (command, asks, (bytes, agrees, h))
+refuses_means words left failed command bytes (Cocycle fault) asks agrees h = (command, asks, (bytes, agrees, h))
+refuses_means words left failed command bytes (NoConductor multiple) asks agrees (is, document, h) = (asks ∙ ap Some is, (bytes, agrees, (document, h)))
+refuses_means words left failed command bytes (Conductor stated needed) asks agrees (is, document, h) = (asks ∙ ap Some is, (bytes, agrees, (document, h)))
+refuses_means words left failed command bytes (Simples ranks most) asks agrees (is, document, h) = (asks ∙ ap Some is, (bytes, agrees, (document, h)))
+refuses_means words left failed command bytes (Shape fault) asks agrees (is, document, h) = (asks ∙ ap Some is, (bytes, agrees, (document, h)))
+refuses_means words left failed command bytes (Count at rows rank) asks agrees (is, document, h) = (asks ∙ ap Some is, (bytes, agrees, (document, h)))
+refuses_means words left failed command bytes (Identity name at i j x left_side right_side) asks agrees (is, document, h) = (asks ∙ ap Some is, (bytes, agrees, (document, h)))
+refuses_means words left failed command bytes (NoTwist at row value) asks agrees (is, document, h) = (asks ∙ ap Some is, (bytes, agrees, (document, h)))
+refuses_means words left failed command bytes (NoVacuum rows) asks agrees (is, document, h) = (asks ∙ ap Some is, (bytes, agrees, (document, h)))
+refuses_means words left failed command bytes (Overflow site) asks agrees (is, document, h) = (asks ∙ ap Some is, (bytes, agrees, (document, h)))
 
 -- a refusal of the plan means what its answer means
-pub refusal_comes : (words : List (List ℕ)) (left : Option (List ℕ)) (failed : Type 0) (bytes : List ℕ) (cause : Cause) → Agrees left bytes → plan words bytes ≡ Err cause
-    → Comes words left failed (why_of_cause cause)
-refusal_comes words left failed bytes cause agrees e =
+pub refusal_means : (words : List (List ℕ)) (left : Option (List ℕ)) (failed : Type 0) (bytes : List ℕ) (cause : Cause) → Agrees left bytes → plan words bytes ≡ Err cause
+    → Means words left failed (why_of_cause cause)
+refusal_means words left failed bytes cause agrees e =
     elim (bind_err (asked (command_of words)) (λ command. answer_to command bytes) cause (sym (plan_parts words bytes) ∙ e)) [
       | inl refused ↦
           let (none, is) = asked_err (command_of words) cause refused in
-          subst (λ (c : Cause). Comes words left failed (why_of_cause c)) (sym is) none
+          subst (λ (c : Cause). Means words left failed (why_of_cause c)) (sym is) none
       | inr (command, made, rest) ↦
-          refuses_comes words left failed command bytes cause (asked_ok (command_of words) command made) agrees (answer_refuses command bytes cause rest)
+          refuses_means words left failed command bytes cause (asked_ok (command_of words) command made) agrees (answer_refuses command bytes cause rest)
     ]
 
 -- a report of the plan is that of a document that passes

@@ -1,10 +1,11 @@
--- Blocks with no fault match the classes.
-use Rattle.std.proofs.Common.{◌≡◌, ℕ, Bool, true, false, cond, List, Some, None, refl}
+-- Blocks have no fault exactly where they match the classes.
+use Rattle.std.proofs.Common.{◌≡◌, ℕ, Bool, true, false, cond, List, length, Option, Some, None, refl}
 use Rattle.std.specs.Prelude.{◌==◌}
-use Rattle.std.proofs.lemmas.Bool.{eqb-true}
-use Rattle.scan.proofs.Places.{or_none, first_none-at}
+use Rattle.std.proofs.lemmas.Bool.{eqb-true, eq-eqb}
+use Rattle.scan.proofs.Places.{or_none, first_none, first_none-at}
+use Rattle.scan.specs.First.{option_or}
 use Rattle.group_table.specs.Group.{Table}
-use Rattle.qd_doc.specs.Blocks.{Block}
+use Rattle.qd_doc.specs.Blocks.{Block, block_at}
 use Rattle.data_print.specs.declared.cause.ShapeFault.{ShapeFault}
 use Rattle.data_print.specs.declared.cause.ShapeFault.TheVariants.{Blocks, Representative, Width}
 use Rattle.qd_engine.specs.Shape.{unless_same, representative_fault_at, width_fault_in, width_fault_at, shape_fault, IsMatched}
@@ -29,3 +30,19 @@ shape_matches t blocks e =
           same_number _ _ (Width b r)
           (first_none-at _ r (width_fault_at t blocks b) (first_none-at _ b (width_fault_in t blocks) widths below) row);
     }
+
+-- the same number has no fault
+no_fault : (given wanted : ℕ) (fault : ℕ → ℕ → ShapeFault) → given ≡ wanted → unless_same given wanted fault ≡ None
+no_fault given wanted fault same = rw (eq-eqb given wanted same) refl
+
+both_none : {A : Type 0} (front last : Option A) → front ≡ None → last ≡ None → option_or front last ≡ None
+both_none front last first_is last_is = rw (first_is, last_is) refl
+
+pub matched_no_fault : (t : Table) (blocks : List Block) → IsMatched t blocks → shape_fault t blocks ≡ None
+unfolding shape_fault
+matched_no_fault t blocks matched =
+    both_none _ _ (no_fault _ _ Blocks matched.count)
+    (both_none _ _
+    (first_none (length blocks) (representative_fault_at t blocks) (λ b below. no_fault _ _ (Representative b) (matched.representative b below)))
+    (first_none (length blocks) (width_fault_in t blocks)
+    (λ b below. first_none (length (block_at blocks b).rows) (width_fault_at t blocks b) (λ r row. no_fault _ _ (Width b r) (matched.width b r below row)))))

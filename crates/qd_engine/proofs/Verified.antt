@@ -218,9 +218,9 @@ tables_good w k given none c below =
     no_miss s table None e = refl
     no_miss s table (Some miss) e = absurd cc
 
-pub rows_verified : (d : Document) → verify_step (exponents_of d) (given_in d) ≡ Ok tt → IsVerified d
+pub rows_verified : (d : Document) → IsLawful d → verify_step (exponents_of d) (given_in d) ≡ Ok tt → IsVerified d
 unfolding after_conductor after_stated after_simples after_shape
-rows_verified d e =
+rows_verified d lawful e =
     let w = exponents_of d in
     let given = given_in d in
     let multiple = root_order w in
@@ -231,9 +231,9 @@ rows_verified d e =
     let (shaped, f, after_f) = bind_ok (shape_step w.group given.blocks) (λ shaped. after_shape w k given) tt after_c in
     let same : given.conductor ≡ k = eqb-true given.conductor k (test_ok (given.conductor == k) (Conductor given.conductor k) stated b) in
     let none : tables_cause w k given.blocks ≡ None = (unless_ok (λ cause. cause) (tables_cause w k given.blocks) tt tt after_f).0 in
+    let has : HasConductor d = record { lawful = lawful; conductor = needed_ok multiple (least_conductor multiple) k a ∙ ap Some (sym same) } in
+    let is_few : IsFew d = record { conductor = has; few = leb-true _ _ (test_ok (nat_le ranks most_simples) (Simples ranks most_simples) few c) } in
     record {
-      conductor = needed_ok multiple (least_conductor multiple) k a ∙ ap Some (sym same);
-      few = leb-true _ _ (test_ok (nat_le ranks most_simples) (Simples ranks most_simples) few c);
-      shape = shape_matches _ _ (unless_ok Shape (shape_fault w.group given.blocks) tt shaped f).0;
+      shaped = record { few = is_few; shape = shape_matches _ _ (unless_ok Shape (shape_fault w.group given.blocks) tt shaped f).0 };
       good = tables_good w given.conductor given (subst (λ (n : ℕ). tables_cause w n given.blocks ≡ None) (sym same) none);
     }

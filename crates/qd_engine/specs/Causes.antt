@@ -21,6 +21,7 @@ use Rattle.qd_engine.specs.Shape.{shape_fault, IsMatched}
 use Rattle.qd_engine.specs.Tables.{class_twist, class_table, tables_cause}
 use Rattle.qd_engine.specs.Plan.{most_simples}
 use Rattle.qd_engine.specs.Report.{class_ranks, report_of}
+use Rattle.qd_engine.specs.Answers.{status_of}
 use Rattle.qd_engine.specs.declared.command.Command.{Command}
 use Rattle.qd_engine.specs.declared.command.Command.TheVariants.{Verify}
 use Rattle.qd_engine.specs.declared.answer.Why.{Why}
@@ -80,9 +81,7 @@ pub record IsMissed (cause : Cause) (document : Document) : Type 0 where
 
 -- the rows that a document gives are good tables of its classes
 pub record IsVerified (document : Document) : Type 0 where
-  pub conductor : least_conductor (root_order (exponents_of document)) ≡ Some (given_in document).conductor
-  pub few : sum (class_ranks (exponents_of document)) ≤ most_simples
-  pub shape : IsMatched (table_of document) (given_in document).blocks
+  pub shaped : IsShaped document
   pub good : (c : ℕ) → c < length (representatives (table_of document))
       → IsGood (class_twist (exponents_of document) c) (class_table (given_in document).conductor (given_in document).blocks c)
 
@@ -90,41 +89,50 @@ pub record IsVerified (document : Document) : Type 0 where
 abbrev pub OfVerify : List (List ℕ) → Option (List ℕ) → (Document → Type 0) → Type 0
 OfVerify words left P = (command_of words ≡ Some Verify) × OfInput left (λ bytes. IsDocument Verify bytes × P (document_in Verify bytes))
 
--- What holds where an answer comes, by the words, by what the source had left, and by whether the source failed in
--- this call. Want of memory says nothing; an answer that could not be written is that of what was to be written.
-abbrev pub Comes : List (List ℕ) → Option (List ℕ) → Type 0 → Why → Type 0
-Comes words left failed Usage = command_of words ≡ None
-Comes words left failed Read = IsSome (command_of words) × failed
-Comes words left failed TooLong = IsSome (command_of words) × OfInput left (λ bytes. INPUT_LIMIT < length bytes)
-Comes words left failed (Syntax offset expected) = OfCommand words left (Stops (stops.Syntax offset expected))
-Comes words left failed (Wide offset) = OfCommand words left (Stops (stops.Wide offset))
-Comes words left failed (Section offset) = OfCommand words left (Stops (stops.Section offset))
-Comes words left failed (Order number) = OfCommand words left (Stops (stops.Order number))
-Comes words left failed (Roots number) = OfCommand words left (Stops (stops.Roots number))
-Comes words left failed (Group fault) =
+-- What holds where the program has this answer to write, by the words, by what the source had left, and by whether the source
+-- failed in this call. Want of memory says nothing; that the writing failed is never what there is to write.
+abbrev pub Means : List (List ℕ) → Option (List ℕ) → Type 0 → Why → Type 0
+Means words left failed Usage = command_of words ≡ None
+Means words left failed Read = IsSome (command_of words) × failed
+Means words left failed TooLong = IsSome (command_of words) × OfInput left (λ bytes. INPUT_LIMIT < length bytes)
+Means words left failed (Syntax offset expected) = OfCommand words left (Stops (stops.Syntax offset expected))
+Means words left failed (Wide offset) = OfCommand words left (Stops (stops.Wide offset))
+Means words left failed (Section offset) = OfCommand words left (Stops (stops.Section offset))
+Means words left failed (Order number) = OfCommand words left (Stops (stops.Order number))
+Means words left failed (Roots number) = OfCommand words left (Stops (stops.Roots number))
+Means words left failed (Group fault) =
     OfCommand words left (λ command bytes. IsDocument command bytes × (group_fault (table_of (document_in command bytes)) ≡ Some fault))
-Comes words left failed (Cocycle fault) =
+Means words left failed (Cocycle fault) =
     OfCommand words left (λ command bytes. IsDocument command bytes × (group_fault (table_of (document_in command bytes)) ≡ None)
     × (cocycle_fault (exponents_of (document_in command bytes)) ≡ Some fault))
-Comes words left failed (NoConductor multiple) =
+Means words left failed (NoConductor multiple) =
     OfVerify words left (λ document. IsLawful document × (multiple ≡ root_order (exponents_of document)) × (least_conductor multiple ≡ None))
-Comes words left failed (Conductor stated needed) =
+Means words left failed (Conductor stated needed) =
     OfVerify words left (λ document. IsLawful document × (stated ≡ (given_in document).conductor)
     × (least_conductor (root_order (exponents_of document)) ≡ Some needed) × (stated ≢ needed))
-Comes words left failed (Simples ranks most) =
+Means words left failed (Simples ranks most) =
     OfVerify words left (λ document. HasConductor document × (ranks ≡ sum (class_ranks (exponents_of document))) × (most ≡ most_simples) × (most < ranks))
-Comes words left failed (Shape fault) =
+Means words left failed (Shape fault) =
     OfVerify words left (λ document. IsFew document × (shape_fault (table_of document) (given_in document).blocks ≡ Some fault))
-Comes words left failed (Count at rows rank) = OfVerify words left (IsMissed (causes.Count at rows rank))
-Comes words left failed (Identity name at i j x left_side right_side) = OfVerify words left (IsMissed (causes.Identity name at i j x left_side right_side))
-Comes words left failed (NoTwist at row value) = OfVerify words left (IsMissed (causes.NoTwist at row value))
-Comes words left failed (NoVacuum rows) = OfVerify words left (IsMissed (causes.NoVacuum rows))
-Comes words left failed (Overflow site) = OfVerify words left (IsMissed (causes.Overflow site))
-Comes words left failed Done =
+Means words left failed (Count at rows rank) = OfVerify words left (IsMissed (causes.Count at rows rank))
+Means words left failed (Identity name at i j x left_side right_side) = OfVerify words left (IsMissed (causes.Identity name at i j x left_side right_side))
+Means words left failed (NoTwist at row value) = OfVerify words left (IsMissed (causes.NoTwist at row value))
+Means words left failed (NoVacuum rows) = OfVerify words left (IsMissed (causes.NoVacuum rows))
+Means words left failed (Overflow site) = OfVerify words left (IsMissed (causes.Overflow site))
+Means words left failed Done =
     OfCommand words left (λ command bytes. IsDocument command bytes × IsLawful (document_in command bytes)
     × (command ≡ Verify → IsVerified (document_in command bytes)))
-Comes words left failed (Write planned) = ⊤
-Comes words left failed Memory = ⊤
+Means words left failed (Write planned) = ⊥
+Means words left failed Memory = ⊤
+
+-- an answer with this status was to be written, and what it means holds
+abbrev pub Plans : List (List ℕ) → Option (List ℕ) → Type 0 → ℕ → Type 0
+Plans words left failed planned = (why : Why) × (status_of why ≡ planned) × Means words left failed why
+
+-- what holds where an answer comes: what it means, or what the answer means that could not be written
+abbrev pub Comes : List (List ℕ) → Option (List ℕ) → Type 0 → Why → Type 0
+Comes words left failed (Write planned) = Plans words left failed planned
+Comes words left failed why = Means words left failed why
 
 -- The program is done: the words are a command, the input is a document of the form that it reads, its table is a group, its
 -- exponents are a normalised 3-cocycle of it, for `verify` its rows are good tables, and the sink has exactly the report of that.

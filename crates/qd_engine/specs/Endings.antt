@@ -6,7 +6,7 @@ use Rattle.qd_io.specs.Stream.{AppendsFront, HasRoom, TakesUpTo, TakesOver}
 use Rattle.qd_engine.specs.Plan.{plan}
 use Rattle.data_print.specs.Lines.{line_of, memory_line}
 use Rattle.qd_engine.specs.Answers.{why_of, why_of_cause, status_of}
-use Rattle.qd_engine.specs.Causes.{Agrees, OfInput, Comes}
+use Rattle.qd_engine.specs.Causes.{Agrees, OfInput, Means}
 use Rattle.qd_engine.specs.declared.answer.Why.{Why}
 use Rattle.qd_engine.specs.declared.answer.Why.TheVariants as whys
 use Rattle.qd_engine.specs.declared.answer.Outcome.{Outcome}
@@ -19,7 +19,7 @@ use Rattle.qd_io.specs.declared.reading.TheConstants.{INPUT_LIMIT}
 
 -- a cause of a refusal: the source failed, or the plan refuses the input so
 abbrev pub IsCause : List (List ℕ) → Option (List ℕ) → Type 0 → Cause → Type 0
-IsCause words left failed Read = Comes words left failed whys.Read
+IsCause words left failed Read = Means words left failed whys.Read
 IsCause words left failed cause = OfInput left (λ bytes. plan words bytes ≡ Err cause)
 
 -- what the program has to say, and its text

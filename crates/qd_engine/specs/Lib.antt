@@ -7,4 +7,5 @@ pub mod Plan
 pub mod Follows
 pub mod Answers
 pub mod Causes
+pub mod Acceptable
 pub mod Endings

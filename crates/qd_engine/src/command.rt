@@ -8,7 +8,7 @@ pub enum Command {
     Check,
     /// The conjugacy classes of a document's group, with the rank of each.
     Classes,
-    /// Whether the rows that a document gives are the characters of its classes.
+    /// Whether the rows that a document gives are good tables of its classes.
     Verify,
 }
 

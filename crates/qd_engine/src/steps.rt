@@ -31,6 +31,7 @@ fn form_of(command: Command) -> Form
     }
 }
 
+/// The document that the bytes spell, of this form.
 fn document(alloc: Global, bytes: &Vec<u8>, form: Form) -> Result<Document, Stop>
     requires limit { vec_len bytes.now ≤ INPUT_LIMIT }
     ensures follows { Follows (λ d. d) result (document_step form bytes.now.items) }
@@ -50,6 +51,7 @@ fn document(alloc: Global, bytes: &Vec<u8>, form: Form) -> Result<Document, Stop
     }
 }
 
+/// The group that the table of a document is.
 fn group(alloc: Global, document: &Document) -> Result<Group, Stop>
     requires shaped { IsInRange document.now }
     ensures follows { Follows (λ g. g) result (group_step document.now) }
@@ -61,6 +63,7 @@ fn group(alloc: Global, document: &Document) -> Result<Group, Stop>
     }
 }
 
+/// The cocycle that the exponents of a document are.
 fn cocycle(alloc: Global, group: Group, document: &Document) -> Result<Cocycle, Stop>
     requires shaped { IsInRange document.now }
     requires group { group ≡ table_of document.now }

@@ -16,6 +16,7 @@ pub enum Stop {
 impl From<AllocError> for Stop {
     ghost from_gives = { λ _ stop. stop ≡ stops.Memory };
 
+    /// Want of memory stops the program.
     fn from(_error: AllocError) -> Stop {
         Stop::Memory
     }

@@ -34,13 +34,13 @@ fn push_values<const K: u32>(
     b: u32,
     r: u32,
 ) -> Result<(), AllocError>
+    requires conductor { is_conductor K ≡ true }
     requires b_below { b < length blocks.now }
     requires r_below { r < length (block_at blocks.now b).rows }
     requires values { All (IsValueOf K) (row_at (block_at blocks.now b).rows r) }
     requires begun { rows.old ≡ take r (block_at blocks.now b).rows ++ [] ∷ [] }
     ensures added { OnOk result (rows.new ≡ take r (block_at blocks.now b).rows ++ row_at (block_at blocks.now b).rows r ∷ []) }
 {
-    rows.rows();
     for p in 0..blocks.width(b, r) {
         match Cyc::from_plain(&blocks.value(b, r, p)) {
             Some(value) => rows.push_value(value)?,

@@ -231,3 +231,44 @@ fn refuses_rows_of_another_conductor_width_or_twist(rt: HostRuntime) -> Result<(
     }
     Ok(())
 }
+
+/// The document of the group of order 32 in which every element is its own inverse, with the trivial cocycle, up to the rows that it gives.
+fn elementary(alloc: Global) -> Result<String, AllocError> {
+    let mut text = String::from_str(alloc, "qdouble 1\norder 32\ntable\n")?;
+    for g in 0..32u32 {
+        for h in 0..32u32 {
+            let product = g ^ h;
+            let entry = format!(in alloc; "{product} ")?;
+            text.push_str(entry.as_str())?;
+        }
+    }
+    text.push_str("roots 1\nomega trivial\n")?;
+    Ok(text)
+}
+
+#[test]
+fn refuses_what_is_too_big_for_verify(rt: HostRuntime) -> Result<(), Fail> {
+    let alloc = rt.alloc();
+
+    // 64 roots and the exponent 2: no conductor is a multiple of 128.
+    let roots = "qdouble 1\norder 2\ntable\n0 1\n1 0\nroots 64\nomega trivial\n";
+    assert_verify(
+        &rt,
+        alloc,
+        roots,
+        "characters 4\n",
+        6,
+        "refused 6 conductor 128\n",
+    )?;
+
+    // 32 classes of rank 32; it is refused before its blocks are counted.
+    let group = elementary(alloc)?;
+    assert_verify(
+        &rt,
+        alloc,
+        group.as_str(),
+        "characters 4\n",
+        6,
+        "refused 6 simples 1024\n",
+    )
+}
