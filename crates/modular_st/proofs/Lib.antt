@@ -3,3 +3,4 @@ mod AllAts
 mod Terms
 mod Kept
 mod RowsMade
+pub mod Entries

@@ -12,3 +12,6 @@ pub use matrix::{SMatrix, s_matrix};
 pub use numerator::s_numerator;
 pub use refusal::StRefusal;
 pub use twist::twist_exponent;
+
+#[cfg(test)]
+mod tests;

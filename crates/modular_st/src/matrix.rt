@@ -1,4 +1,4 @@
-ghost use Rattle.std.specs.Prelude.{◌≡◌, ◌<◌, ◌+◌, ◌^◌, [], ◌∷◌, ◌++◌, length, slice_index_or, IfOk, IfErr, OnOk};
+ghost use Rattle.std.specs.Prelude.{ℕ, ◌≡◌, ◌<◌, ◌+◌, ◌^◌, [], ◌∷◌, ◌++◌, length, slice_index_or, IfOk, IfErr, OnOk};
 ghost use Rattle.cyclotomic.specs.CyclotomicRing.{cyclotomic_value};
 ghost use Rattle.qd_ring.specs.RowLists.{row_at};
 ghost use Rattle.transport.specs.Simples.{count};
@@ -93,6 +93,9 @@ fn append_row<const K: u32>(
 /// conjugate of the full character of `i` at `(g, h)` times the conjugate of that of `j` at `(h, g)`.
 pub fn s_matrix<const K: u32>(alloc: Global, simples: &Simples<K>) -> Result<SMatrix<K>, StRefusal>
     ensures matrix { IfOk result (λ matrix. values_of_rows K matrix ≡ s_rows K simples.now) }
+    ensures rows { IfOk result (λ matrix. length matrix ≡ count K simples.now) }
+    ensures columns { IfOk result (λ matrix. (i : ℕ) → i < count K simples.now → length (row_at matrix i) ≡ count K simples.now) }
+    ensures entries { IfOk result (λ matrix. (i j : ℕ) → i < count K simples.now → j < count K simples.now → cyclotomic_value K (slice_index_or (row_at matrix i) j []) ≡ (s_sum K simples.now i j).value) }
     ensures refused { IfErr result (λ refusal. Refuses K simples.now refusal) }
 {
     let count = simples.count();

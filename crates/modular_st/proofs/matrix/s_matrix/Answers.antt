@@ -3,6 +3,7 @@ use Rattle.std.proofs.lemmas.List.{length-map}
 use Rattle.std.proofs.lemmas.List.FromFn.{map-range_with_len_more, length-map-range_with_len}
 use Rattle.transport.specs.Simples.{count}
 use Rattle.modular_st.specs.SMatrices.{row_values, s_front}
+use Rattle.modular_st.proofs.Entries.{rows_done, matrix_rows, matrix_width, matrix_entry}
 use Rattle.modular_st.proofs.matrix.s_matrix.Goals as goal
 
 pub append_row-requires : goal.append_row-requires
@@ -20,3 +21,26 @@ loop-i-preserved g c =
     let row = s_front g.row.K s c.loop-i.i (count g.row.K s) in
     c.in_ok-append_row.ensures.added ∙ ap (λ rows. rows ++ row ∷ []) c.loop-i.invariant
     ∙ sym (map-range_with_len_more (λ i. s_front g.row.K s i (count g.row.K s)) 0 c.loop-i.i c.loop-i.i (zero-add c.loop-i.i))
+
+pub returns-clause-matrix : goal.returns-clause-matrix
+returns-clause-matrix g c =
+    rows_done g.row.K c.args.simples.now c.loop-i.rows c.loop-i.i c.loop-i.invariant
+    (omega (arith, c.loop-i-test.false, c.loop-i.auto, c.count-count.ensures.count))
+
+pub returns-clause-rows : goal.returns-clause-rows
+returns-clause-rows g c =
+    matrix_rows g.row.K c.args.simples.now c.loop-i.rows
+    (rows_done g.row.K c.args.simples.now c.loop-i.rows c.loop-i.i c.loop-i.invariant
+    (omega (arith, c.loop-i-test.false, c.loop-i.auto, c.count-count.ensures.count)))
+
+pub returns-clause-columns : goal.returns-clause-columns
+returns-clause-columns g c =
+    matrix_width g.row.K c.args.simples.now c.loop-i.rows
+    (rows_done g.row.K c.args.simples.now c.loop-i.rows c.loop-i.i c.loop-i.invariant
+    (omega (arith, c.loop-i-test.false, c.loop-i.auto, c.count-count.ensures.count)))
+
+pub returns-clause-entries : goal.returns-clause-entries
+returns-clause-entries g c =
+    matrix_entry g.row.K c.args.simples.now c.loop-i.rows
+    (rows_done g.row.K c.args.simples.now c.loop-i.rows c.loop-i.i c.loop-i.invariant
+    (omega (arith, c.loop-i-test.false, c.loop-i.auto, c.count-count.ensures.count)))
