@@ -4,8 +4,9 @@ use super::*;
 use classes::Classes;
 use cochain::Cocycle;
 use group_table::{Group, Nats};
-use qd_ring::{Part, Plain, Site};
+use qd_ring::{Cyc, Part, Plain, Root, Rows, Site};
 use std::alloc::{AllocError, Global};
+use std::process::Abort;
 use std::test::Fail;
 use table_check::IdentityName;
 
@@ -45,6 +46,33 @@ fn prints_a_head_and_classes(rt: HostRuntime) -> Result<(), Fail> {
     let wanted = "group order 2 identity 0 exponent 2\ncocycle roots 2\n\
         class 0 at 0 size 1 centraliser 2 rank 2\nclass 1 at 1 size 1 centraliser 2 rank 2\nsimples 4\n";
     assert_eq!(rt; out.as_slice(), wanted.as_bytes());
+    Ok(())
+}
+
+/// Two rows of one value each.
+#[tactic(auto, unfolding(cyclotomic::specs::Conductors::is_conductor, cyclotomic::specs::Conductors::conductors))]
+fn two_rows(rt: &impl Abort, alloc: Global, values: [Cyc<4>; 2]) -> Rows<4> {
+    let mut rows = Rows::<4>::empty(alloc);
+    for value in values {
+        assert!(rt; rows.rows() < 2);
+        rows.push_row().expect(rt, "memory");
+        let last = rows.rows();
+        assert!(rt; last > 0 && rows.width(last - 1) < 2);
+        rows.push_value(value).expect(rt, "memory");
+    }
+    rows
+}
+
+#[test]
+#[tactic(auto, unfolding(cyclotomic::specs::Conductors::is_conductor, cyclotomic::specs::Conductors::conductors))]
+fn prints_rows_of_s(rt: HostRuntime) -> Result<(), Fail> {
+    let alloc = rt.alloc();
+    let rows = two_rows(&rt, alloc, [Cyc::from_root(Root::new(3)), Cyc::zero()]);
+    let mut out = Vec::new(alloc);
+    assert_eq!(rt; rows.rows(), 2);
+    append_s(&mut out, 2, 0, &rows)?;
+    append_s(&mut out, 2, 1, &rows)?;
+    assert_eq!(rt; out.as_slice(), "S over 2\nS 0 -1z1\nS 1 0\n".as_bytes());
     Ok(())
 }
 
