@@ -32,7 +32,7 @@ use Rattle.transport.proofs.Doubles.{double_classes, conjugate_value_is}
 use Rattle.transport.proofs.DoubleSimples.{setting, simples, at}
 
 -- a value that stands where a test holds is picked by it
-where_picked : (k : ℕ) (test : Bool) (u : Formed k) → pick (cyclotomic_ring k) test u.value ≡ (where_so k test u).value
+pub where_picked : (k : ℕ) (test : Bool) (u : Formed k) → pick (cyclotomic_ring k) test u.value ≡ (where_so k test u).value
 where_picked k true u = pick_of (cyclotomic_ring k) true u.value refl
 where_picked k false u = pick_off (cyclotomic_ring k) false u.value refl
 

@@ -25,6 +25,7 @@ use Rattle.cyclotomic.specs.Cyclotomic.{cyclotomic}
 use Rattle.cyclotomic.specs.Ring.{value_one, value_of, value_multiple, value_sum, value_product}
 use Rattle.cyclotomic.specs.CyclotomicRing.{CyclotomicValue, cyclotomic_ring, root, conjugate as conjugate_value}
 use Rattle.twisted.specs.Twist.{TwistedSubgroup, size, element, phase, place_of, IsTwist}
+use Rattle.twisted.specs.Algebra.{exponent as phase_exponent}
 use Rattle.twisted.proofs.Translation.{place_group}
 use Rattle.slant.specs.Twists.{twist_of as twisted_centraliser}
 use Rattle.slant.proofs.TwistLaws.{products_agree, identities_agree, phases_agree}
@@ -47,7 +48,7 @@ use Rattle.transport.proofs.Listed.{found_passes, IsRow, simple_is_row, some_cla
 use Rattle.transport.proofs.Doubles.{double, double_classes}
 use Rattle.transport.proofs.Centralisers.{place_of_element, element_injective, twist, element_commutes, commuting_element}
 
-modulus_is : (w : Cochain) (a : ℕ) → (twisted_centraliser w a).modulus ≡ w.roots
+pub modulus_is : (w : Cochain) (a : ℕ) → (twisted_centraliser w a).modulus ≡ w.roots
 unfolding twisted_centraliser
 modulus_is w a = refl
 
@@ -87,7 +88,7 @@ pos_suc : (d : ℕ) → pos (suc d) ≡ pos d +ℤ pos 1
 pos_suc d = ap pos (sym (add-one d))
 
 -- a whole number is so many copies of 1
-whole_multiple : (k d : ℕ) → whole k d ≡ multiple (cyclotomic_ring k) d (value_one (cyclotomic k))
+pub whole_multiple : (k d : ℕ) → whole k d ≡ multiple (cyclotomic_ring k) d (value_one (cyclotomic k))
 whole_multiple k d = whole_is d ∙ copies d
   where
     m : List ℤ
@@ -118,7 +119,7 @@ module _ (k : ℕ) (s : SimplesOver) (S : AreSimples k s) where
   abbrev pub setting : Setting (CyclotomicValue k) (Below s.cocycle.group.order)
   setting = double k S.conductor s.cocycle S.cocycle divides
 
-  row : (i : Below (count k s)) → IsRow k s.tables (simple_at k s i.value)
+  pub row : (i : Below (count k s)) → IsRow k s.tables (simple_at k s i.value)
   row i = simple_is_row k s.tables i.value i.below
 
   pub represents : (i : Below (count k s)) → IsRepresentative s.cocycle.group (representative_at s.cocycle.group (class_at k s i.value))
@@ -131,38 +132,48 @@ module _ (k : ℕ) (s : SimplesOver) (S : AreSimples k s) where
   abbrev pub value : Below (count k s) → Below s.cocycle.group.order → CyclotomicValue k
   value i x = element_value k s i.value x.value
 
-  module _ (i : Below (count k s)) where
+  -- the centraliser of an element, by its places
+  module _ (a : Below s.cocycle.group.order) where
     abbrev pub tw : TwistedSubgroup
-    tw = twisted_centraliser s.cocycle (representative_at s.cocycle.group (class_at k s i.value))
+    tw = twisted_centraliser s.cocycle a.value
 
-    tw_lawful : IsTwist tw
-    tw_lawful = twist w W (at i).value (at i).below
+    pub tw_lawful : IsTwist tw
+    tw_lawful = twist w W a.value a.below
 
-    over_is : over_at k s i.value ≡ tw
-    over_is = S.tables.over (class_at k s i.value) (row i).class_below
-
-    abbrev place : Group (Below (size tw))
+    abbrev pub place : Group (Below (size tw))
     place = place_group tw tw_lawful
 
-    abbrev at_place : Below (size tw) → Below s.cocycle.group.order
-    at_place p = record { value = element tw p.value; below = (element_commutes w W (at i).value (at i).below p.value p.below).0 }
+    abbrev pub at_place : Below (size tw) → Below s.cocycle.group.order
+    at_place p = record { value = element tw p.value; below = (element_commutes w W a.value a.below p.value p.below).0 }
 
-    -- the places are the elements that commute with the representative
-    centraliser : IsSubgroup setting.group (λ x. commute setting x (at i)) place at_place
+    -- the places are the elements that commute with it
+    pub centraliser : IsSubgroup setting.group (λ x. commute setting x a) place at_place
     centraliser = record {
       part = record {
         injective = λ p r e. below_equal p r (element_injective tw tw_lawful p.value r.value p.below r.below (ap (λ x. x.value) e));
-        within = λ p. commute_of setting (at_place p) (at i) (below_equal _ _ (element_commutes w W (at i).value (at i).below p.value p.below).1);
+        within = λ p. commute_of setting (at_place p) a (below_equal _ _ (element_commutes w W a.value a.below p.value p.below).1);
         found = λ x inside.
-            let (p, below, stands) = commuting_element w W (at i).value (at i).below x.value x.below (ap (λ z. z.value) (commute_true setting x (at i) inside)) in
+            let (p, below, stands) = commuting_element w W a.value a.below x.value x.below (ap (λ z. z.value) (commute_true setting x a inside)) in
             (record { value = p; below = below }, below_equal _ _ stands);
       };
-      respects = λ p r. below_equal _ _ (products_agree w W (at i).value p.value r.value (at i).below p.below r.below);
+      respects = λ p r. below_equal _ _ (products_agree w W a.value p.value r.value a.below p.below r.below);
     }
 
-    value_at_place : (p : ℕ) → p < size tw → element_value k s i.value (element tw p) ≡ value_at k s i.value p
+    -- the roots of its phases
+    pub phase_root : (p q : Below (size tw)) → slant_root setting a (at_place p) (at_place q) ≡ root k (phase_exponent k tw (phase tw p.value q.value))
+    unfolding slant_root
+    phase_root p q =
+        let phase_is : slant_phase (group w W) w.roots (exponent w) a (at_place p) (at_place q) ≡ phase tw p.value q.value =
+        theta_is w W a (at_place p) (at_place q) ∙ sym (phases_agree w W a.value p.value q.value a.below p.below q.below) in
+        ap (root k) (ap (root_exponent k w) phase_is ∙ ap (λ n. phase tw p.value q.value * (k / n)) (sym (modulus_is w a.value)))
+
+  module _ (i : Below (count k s)) where
+    pub over_is : over_at k s i.value ≡ tw (at i)
+    over_is = S.tables.over (class_at k s i.value) (row i).class_below
+
+    pub value_at_place : (p : ℕ) → p < size (tw (at i)) → element_value k s i.value (element (tw (at i)) p) ≡ value_at k s i.value p
     value_at_place p below =
-        ap (value_at k s i.value) (subst (λ t. unwrap_or (place_of t (element tw p)) 0 ≡ p) (sym over_is) (place_of_element tw tw_lawful p below))
+        ap (value_at k s i.value) (subst (λ t. unwrap_or (place_of t (element (tw (at i)) p)) 0 ≡ p) (sym over_is) (place_of_element (tw (at i)) (tw_lawful (at i)) p below))
 
     abbrev chars : Characters k
     chars = characters_at k s i.value
@@ -181,29 +192,23 @@ module _ (k : ℕ) (s : SimplesOver) (S : AreSimples k s) where
     pub at_identity : element_value k s i.value (identity_of s.cocycle.group) ≡ multiple (cyclotomic_ring k) (degree_at k s i.value) (value_one (cyclotomic k))
     at_identity =
         ap (element_value k s i.value) (sym (identities_agree w W (at i).value (at i).below))
-        ∙ value_at_place (identity_of tw.group) (identity_below tw.group tw_lawful.group)
+        ∙ value_at_place (identity_of (tw (at i)).group) (identity_below (tw (at i)).group (tw_lawful (at i)).group)
         ∙ ap (λ t. chars.chi r (identity_of t.group)) (sym over_is) ∙ degree.1 ∙ whole_multiple k (degree_at k s i.value)
 
     -- a side of the clause that rows are central
-    side : (p q v : Below (size tw))
-        → value_product (cyclotomic k) (slant_root setting (at i) (at_place p) (at_place q)) (conjugate_value k (element_value k s i.value (element tw v.value)))
-        ≡ (with_phase tw p.value q.value (conjugate_value_at tw chars r v.value)).value
-    unfolding slant_root
-    side p q v =
-        let phase_is : slant_phase (group w W) w.roots (exponent w) (at i) (at_place p) (at_place q) ≡ phase tw p.value q.value =
-        theta_is w W (at i) (at_place p) (at_place q) ∙ sym (phases_agree w W (at i).value p.value q.value (at i).below p.below q.below) in
-        ap₂ (λ v u. value_product (cyclotomic k) (root k v) (conjugate_value k u))
-        (ap (root_exponent k w) phase_is ∙ ap (λ n. phase tw p.value q.value * (k / n)) (sym (modulus_is w (at i).value)))
-        (value_at_place v.value v.below)
+    side : (p q v : Below (size (tw (at i))))
+        → value_product (cyclotomic k) (slant_root setting (at i) (at_place (at i) p) (at_place (at i) q)) (conjugate_value k (element_value k s i.value (element (tw (at i)) v.value)))
+        ≡ (with_phase (tw (at i)) p.value q.value (conjugate_value_at (tw (at i)) chars r v.value)).value
+    side p q v = ap₂ (λ z u. value_product (cyclotomic k) z (conjugate_value k u)) (phase_root (at i) p q) (value_at_place v.value v.below)
 
     pub central : (c x : Below s.cocycle.group.order) → Commuting setting c (at i) → Commuting setting x (at i)
         → conjugate_value k (value i (setting.group.op (setting.group.op c x) (setting.group.inv c)))
         ≡ value_product (cyclotomic k) (conjugation_root setting (at i) c x) (conjugate_value k (value i x))
     central =
-        central_at_places setting (at i) place at_place centraliser (λ x. conjugate_value k (value i x))
+        central_at_places setting (at i) (place (at i)) (at_place (at i)) (centraliser (at i)) (λ x. conjugate_value k (value i x))
         (λ y x.
-        let left = place.op (place.inv y) x in
-        let right = place.op x (place.inv y) in
+        let left = (place (at i)).op ((place (at i)).inv y) x in
+        let right = (place (at i)).op x ((place (at i)).inv y) in
         side y left left
         ∙ subst (λ t. (y x : ℕ) → y < size t → x < size t → (central_left t chars r y x).value ≡ (central_right t chars r y x).value) over_is
         (λ y x. good.central r y x (row i).row_below) y.value x.value y.below x.below

@@ -8,3 +8,5 @@ pub mod Doubles
 pub mod Centralisers
 pub mod DoubleSimples
 pub mod CharacterLaws
+pub mod Distinct
+pub mod GoodTables
