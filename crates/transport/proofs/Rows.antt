@@ -1,0 +1,24 @@
+-- The rows of the tables of the first classes.
+use Rattle.std.proofs.Common.{◌≡◌, ℕ, zero, suc, ◌+◌, ◌<◌, List, [], ◌++◌, refl, arith}
+use mathlib.Core.Logic.{◌⊎◌, inl, inr}
+use Rattle.table_check.specs.Characters.{RowsOver}
+use Rattle.transport.specs.Simples.{table_at, rows_of, rows_below}
+
+pub rows_below-zero : (k : ℕ) (tables : List RowsOver) → rows_below k 0 tables ≡ []
+unfolding rows_below
+rows_below-zero k tables = refl
+
+pub rows_below-suc : (k c : ℕ) (tables : List RowsOver) → rows_below k (suc c) tables ≡ rows_below k c tables ++ rows_of k c (table_at tables c)
+unfolding rows_below
+rows_below-suc k c tables = refl
+
+-- a number below c + 1 is below c, or c
+pub last_or_less : (n c : ℕ) → n < c + 1 → (n < c) ⊎ (n ≡ c)
+last_or_less zero zero below = inr refl
+last_or_less zero (suc c) below = inl (omega arith)
+last_or_less (suc n) zero below = absurd (omega (arith, below))
+last_or_less (suc n) (suc c) below = by (last_or_less n c (omega (arith, below)))
+  where
+    by : (n < c) ⊎ (n ≡ c) → (suc n < suc c) ⊎ (suc n ≡ suc c)
+    by (inl less) = inl (omega (arith, less))
+    by (inr e) = inr (omega (arith, e))

@@ -1,0 +1,9 @@
+use Rattle.std.proofs.Common.{◌≡◌, ◌++◌, map}
+use Rattle.std.specs.List.{range_with_len}
+use Rattle.transport.specs.Simples.{simple_of}
+use Rattle.transport.specs.Kept.{simple_in}
+use Rattle.transport.proofs.listing.append_rows.Given as goal
+
+-- the rows before r, after those that were there
+abbrev pub invariant-loop-r : goal.invariant-loop-r
+invariant-loop-r g l = map (simple_in g.row.K) l.entries.items ≡ map (simple_in g.row.K) l.initial.entries.items ++ map (simple_of g.row.K l.c l.table) (range_with_len 0 l.r)

@@ -1,0 +1,9 @@
+use Rattle.std.proofs.Common.{◌≡◌, map}
+use Rattle.std.specs.List.{range_with_len}
+use Rattle.table_check.specs.Characters.{characters_of}
+use Rattle.transport.specs.Kept.{coefficients_of}
+use Rattle.transport.proofs.listing.values_of.Given as goal
+
+-- the coefficients of the values before p
+abbrev pub invariant-loop-p : goal.invariant-loop-p
+invariant-loop-p g l = coefficients_of g.row.K l.values.items ≡ map (λ p. ((characters_of g.row.K l.table.rows).chi l.r p).coefficients) (range_with_len 0 l.p)

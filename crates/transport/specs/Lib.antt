@@ -1,0 +1,4 @@
+pub mod Simples
+pub mod FullCharacters
+pub mod SSums
+pub mod Kept
