@@ -4,9 +4,6 @@ pub mod Chains
 pub mod Documents
 pub mod Shapes
 pub mod ConductorLaws
-pub mod TableRows
-pub mod TableCauses
-pub mod TableSteps
 pub mod Verified
 pub mod Planned
 pub mod Meaning

@@ -23,7 +23,7 @@ use Rattle.data_print.specs.declared.cause.Cause.TheVariants.{Usage, Read, TooLo
 use Rattle.qd_engine.specs.declared.command.Command.TheVariants.{Verify}
 use Rattle.qd_engine.specs.Documents.{table_of, exponents_of, given_in, root_order}
 use Rattle.qd_engine.specs.Shape.{shape_fault}
-use Rattle.qd_engine.specs.Tables.{failure, site_of, cause_of_miss, table_cause, class_twist, class_table, tables_cause}
+use Rattle.qd_steps.specs.Tables.{failure, site_of, cause_of_miss, table_cause, class_twist, class_table, tables_cause}
 use Rattle.qd_engine.specs.Report.{class_ranks}
 use Rattle.qd_engine.specs.Plan.{◌>>=◌, needed, conductor_step, stated_step, most_simples, simples_step, shape_step, tables_step, verify_step}
 use Rattle.qd_engine.specs.Causes.{document_in, IsLawful, HasConductor, IsFew, IsShaped, IsMissed, IsVerified}

@@ -17,8 +17,9 @@ use Rattle.table_check.specs.Good.{IsGood}
 use Rattle.data_print.specs.declared.cause.Cause.{Cause}
 use Rattle.data_print.specs.declared.cause.Cause.TheVariants as causes
 use Rattle.qd_engine.specs.Documents.{form_of, table_of, exponents_of, given_in, root_order}
-use Rattle.qd_engine.specs.Shape.{shape_fault, IsMatched}
-use Rattle.qd_engine.specs.Tables.{class_twist, class_table, tables_cause}
+use Rattle.qd_engine.specs.Shape.{shape_fault}
+use Rattle.qd_steps.specs.Matched.{IsMatched}
+use Rattle.qd_steps.specs.Tables.{class_twist, class_table, tables_cause}
 use Rattle.qd_engine.specs.Plan.{most_simples}
 use Rattle.qd_engine.specs.Report.{class_ranks, report_of}
 use Rattle.qd_engine.specs.declared.command.Command.{Command}

@@ -16,7 +16,7 @@ use Rattle.cyclotomic.specs.Conductors.{least_conductor}
 use Rattle.qd_engine.specs.Words.{command_of}
 use Rattle.qd_engine.specs.Documents.{form_of, table_of, exponents_of, root_order}
 use Rattle.qd_engine.specs.Shape.{shape_fault}
-use Rattle.qd_engine.specs.Tables.{class_twist, class_table, table_cause, tables_cause}
+use Rattle.qd_steps.specs.Tables.{tables_cause}
 use Rattle.qd_engine.specs.Report.{class_ranks, report_of}
 use Rattle.qd_engine.specs.declared.command.Command.{Command}
 use Rattle.qd_engine.specs.declared.command.Command.TheVariants.{Check, Classes, Verify}
@@ -86,10 +86,6 @@ simples_step ranks = if nat_le ranks most_simples then Ok tt else Err (Simples r
 -- the blocks match the classes
 abbrev pub shape_step : Table → List Block → Result (Unit {0}) Cause
 shape_step t blocks = unless Shape (shape_fault t blocks) tt
-
--- the table of the class with the number c misses nothing
-abbrev pub table_step : Cochain → ℕ → List Block → ℕ → Result (Unit {0}) Cause
-table_step w k blocks c = unless (λ cause. cause) (table_cause (class_twist w c) (class_table k blocks c)) tt
 
 -- the table of each class misses nothing
 abbrev pub tables_step : Cochain → ℕ → List Block → Result (Unit {0}) Cause

@@ -3,6 +3,7 @@
 
 mod answer;
 mod command;
+mod conductors;
 mod finish;
 mod input;
 mod ranks;
@@ -10,7 +11,6 @@ mod running;
 mod shape;
 mod steps;
 mod stop;
-mod tables;
 mod verify;
 
 pub use answer::{Answer, Why};

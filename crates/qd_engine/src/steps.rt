@@ -74,9 +74,9 @@ fn cocycle(alloc: Global, group: Group, document: &Document) -> Result<Cocycle, 
 }
 
 /// What a command tests after the cocycle.
-fn test(alloc: Global, command: Command, document: &Document, w: &Cocycle) -> Result<(), Stop>
+fn test(alloc: Global, command: Command, document: &Document, w: Cocycle) -> Result<(), Stop>
     requires shaped { IsInRange document.now }
-    ensures follows { Follows (λ done. tt) result (command_step command document.now w.now) }
+    ensures follows { Follows (λ done. tt) result (command_step command document.now w) }
 {
     match command {
         Command::Check | Command::Classes => Ok(()),
@@ -158,6 +158,7 @@ pub fn answer_to(alloc: Global, command: Command, bytes: &Vec<u8>) -> Result<Vec
     let document = document(alloc, bytes, form_of(command))?;
     let group = group(alloc, &document)?;
     let w = cocycle(alloc, group, &document)?;
-    test(alloc, command, &document, &w)?;
-    Ok(report(alloc, command, &document, &w)?)
+    let text = report(alloc, command, &document, &w)?;
+    test(alloc, command, &document, w)?;
+    Ok(text)
 }

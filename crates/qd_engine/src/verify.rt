@@ -4,14 +4,14 @@ ghost use Rattle.std.specs.Prelude.{◌≡◌, ◌≤◌, ◌<◌, ◌^◌, ◌%
 ghost use Rattle.cyclotomic.specs.Conductors.{is_conductor};
 ghost use Rattle.qd_doc.specs.Contents.{IsGivenInRange};
 ghost use Rattle.qd_engine.specs.Report.{class_ranks};
-ghost use Rattle.qd_engine.specs.Shape.{IsMatched};
+ghost use Rattle.qd_steps.specs.Matched.{IsMatched};
 ghost use Rattle.qd_engine.specs.Plan.{conductor_step, stated_step, simples_step, shape_step, tables_step, verify_step};
 ghost use Rattle.qd_engine.specs.Follows.{Follows};
 
+use crate::conductors::good_rows;
 use crate::ranks::class_ranks;
 use crate::shape::shape_fault;
 use crate::stop::Stop;
-use crate::tables::check_tables;
 use classes::Classes;
 use cochain::Cocycle;
 use data_print::Cause;
@@ -87,15 +87,15 @@ fn matching(classes: &Classes, blocks: &Blocks) -> Result<(), Stop>
 
 /// Whether the rows that a document gives are good tables of the classes.
 #[tactic(auto, unfolding(crate::specs::Plan::verify_step))]
-pub fn verify(alloc: Global, w: &Cocycle, given: &Given) -> Result<(), Stop>
+pub fn verify(alloc: Global, w: Cocycle, given: &Given) -> Result<(), Stop>
     requires given { IsGivenInRange given.now }
-    ensures follows { Follows (λ done. tt) result (verify_step w.now given.now) }
+    ensures follows { Follows (λ done. tt) result (verify_step w given.now) }
 {
     let classes = Classes::of(alloc, w.group())?;
-    let ranks = class_ranks(alloc, w, &classes)?;
-    let k = needed_conductor(w)?;
+    let ranks = class_ranks(alloc, &w, &classes)?;
+    let k = needed_conductor(&w)?;
     stated_is(given.conductor, k)?;
     few_simples(&ranks)?;
     matching(&classes, &given.blocks)?;
-    check_tables(alloc, k, w, &classes, &given.blocks)
+    good_rows(alloc, k, w, classes, &given.blocks)
 }

@@ -1,8 +1,8 @@
 use Rattle.std.proofs.Common.{[], take, ap, ◌∙◌, arith}
 use Rattle.qd_ring.specs.RowLists.{row_at, with_value}
 use Rattle.qd_doc.specs.Blocks.{block_at}
-use Rattle.qd_engine.proofs.TableRows.{value_more}
-use Rattle.qd_engine.proofs.tables.push_values.Goals as goal
+use Rattle.qd_steps.proofs.TableRows.{value_more}
+use Rattle.qd_steps.proofs.block_rows.push_values.Goals as goal
 
 pub loop-p-preserved : goal.loop-p-preserved
 loop-p-preserved g c =

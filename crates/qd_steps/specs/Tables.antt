@@ -1,5 +1,6 @@
 -- The check of the tables of all classes, and the cause of a refusal where a table misses what is asked of it.
-use Rattle.std.specs.Prelude.{ℕ, List, length, Option, if◌then◌else◌}
+use Rattle.std.specs.Prelude.{ℕ, List, length, map, Option, if◌then◌else◌}
+use Rattle.std.specs.List.{range_with_len}
 use Rattle.std.specs.Option.{option_map}
 use Rattle.scan.specs.First.{first}
 use Rattle.cochain.specs.Cochain.{Cochain}
@@ -14,7 +15,7 @@ use Rattle.twisted.specs.Twist.{TwistedSubgroup}
 use Rattle.twisted.specs.Regular.{rank}
 use Rattle.slant.specs.Twists.{twist_of}
 use Rattle.qd_doc.specs.Blocks.{Block, block_at}
-use Rattle.table_check.specs.Characters.{Characters, characters_of}
+use Rattle.table_check.specs.Characters.{Characters, RowsOver, characters_of}
 use Rattle.table_check.specs.Check.{table_miss}
 use Rattle.table_check.specs.Answers.{second_of, third_of, left_of, right_of, fit_at}
 use Rattle.table_check.specs.Sides.{twist_left}
@@ -23,6 +24,7 @@ use Rattle.table_check.specs.declared.identity_name.IdentityName.TheVariants as 
 use Rattle.table_check.specs.declared.miss.Clause.{Clause}
 use Rattle.table_check.specs.declared.miss.Clause.TheVariants as clauses
 use Rattle.table_check.specs.declared.miss.Miss.{Miss}
+use Rattle.transport.specs.Simples.{SimplesOver}
 use Rattle.data_print.specs.declared.cause.Cause.{Cause}
 use Rattle.data_print.specs.declared.cause.Cause.TheVariants.{Count, Identity, NoTwist, NoVacuum, Overflow}
 
@@ -90,3 +92,15 @@ class_table k blocks c = characters_of k (block_at blocks c).rows
 -- why the first table that misses something is refused, by the order of the classes
 unfoldable pub tables_cause : Cochain → ℕ → List Block → Option Cause
 tables_cause w k blocks = first (length (representatives w.group)) (λ c. table_cause (class_twist w c) (class_table k blocks c))
+
+-- the rows of the class with the number c, over its twisted centraliser
+abbrev pub class_rows : Cochain → List Block → ℕ → RowsOver
+class_rows w blocks c = record { over = class_twist w c; rows = (block_at blocks c).rows }
+
+-- those of all classes, in order
+unfoldable pub tables_of : Cochain → List Block → List RowsOver
+tables_of w blocks = map (class_rows w blocks) (range_with_len 0 (length (representatives w.group)))
+
+-- the simples of a cocycle by these rows
+abbrev pub simples_over : Cochain → List Block → SimplesOver
+simples_over w blocks = record { cocycle = w; tables = tables_of w blocks }

@@ -1,6 +1,6 @@
 use Rattle.std.proofs.Common.{◌≡◌, take}
 use Rattle.qd_doc.specs.Blocks.{block_at}
-use Rattle.qd_engine.proofs.tables.rows_of.Given as goal
+use Rattle.qd_steps.proofs.block_rows.rows_of.Given as goal
 
 -- the rows before row r
 abbrev pub invariant-loop-r : goal.invariant-loop-r

@@ -1,7 +1,7 @@
 use Rattle.std.proofs.Common.{◌≡◌, [], ◌∷◌, ◌++◌, take}
 use Rattle.qd_ring.specs.RowLists.{row_at}
 use Rattle.qd_doc.specs.Blocks.{block_at}
-use Rattle.qd_engine.proofs.tables.push_values.Given as goal
+use Rattle.qd_steps.proofs.block_rows.push_values.Given as goal
 
 -- the values before place p are added
 abbrev pub invariant-loop-p : goal.invariant-loop-p

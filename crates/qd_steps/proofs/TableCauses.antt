@@ -15,7 +15,7 @@ use Rattle.table_check.specs.declared.identity_name.IdentityName.TheVariants as 
 use Rattle.table_check.specs.declared.miss.Clause.TheVariants as clauses
 use Rattle.table_check.specs.declared.miss.Miss.{Miss}
 use Rattle.data_print.specs.declared.cause.Cause.TheVariants.{Identity, NoTwist}
-use Rattle.qd_engine.specs.Tables.{plain_of, equation, failure, cause_of_miss}
+use Rattle.qd_steps.specs.Tables.{plain_of, equation, failure, cause_of_miss}
 
 -- the coefficients of a value are those of the value that they stand for
 pub plain_same : (k : ℕ) → is_conductor k ≡ true → (p : Plain) (coefficients : List ℤ) (u : CyclotomicValue k) → is_array k coefficients ≡ true → cyclotomic_value k coefficients ≡ u
