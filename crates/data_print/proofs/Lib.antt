@@ -1,2 +1,4 @@
 pub mod Ranks
 pub mod Fronts
+mod ValueTexts
+mod Places

@@ -21,6 +21,7 @@ mod total;
 pub use identity_name::IdentityName;
 pub use refusal::TableRefusal;
 pub use table::Table;
+pub use total::Total;
 
 /// The elements of the conjugates of a good table's rows are, up to whole factors, orthogonal central idempotents of the twisted group
 /// algebra that add up to one; there are as many as the rank of its centre.

@@ -12,8 +12,10 @@ const GREATEST: u128 = (1 << 120) - 1;
 /// A listed sum while it is added up: the sum of the terms so far, and that of their sizes.
 #[derive(Clone, Copy, Debug)]
 pub struct Total<const K: u32> {
-    sum: Cyc<K>,
-    sizes: u128,
+    /// The sum of the terms so far.
+    pub sum: Cyc<K>,
+    /// The sum of their sizes.
+    pub sizes: u128,
 }
 
 impl<const K: u32> Total<K> {

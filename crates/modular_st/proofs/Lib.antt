@@ -1,0 +1,5 @@
+mod Noughts
+mod AllAts
+mod Terms
+mod Kept
+mod RowsMade

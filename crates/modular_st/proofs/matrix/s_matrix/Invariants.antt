@@ -1,0 +1,9 @@
+use Rattle.std.proofs.Common.{◌≡◌, map}
+use Rattle.std.specs.List.{range_with_len}
+use Rattle.transport.specs.Simples.{count}
+use Rattle.modular_st.specs.SMatrices.{values_of_rows, s_front}
+use Rattle.modular_st.proofs.matrix.s_matrix.Given as goal
+
+-- the rows before i
+abbrev pub invariant-loop-i : goal.invariant-loop-i
+invariant-loop-i g l = values_of_rows g.row.K l.rows ≡ map (λ i. s_front g.row.K l.simples i (count g.row.K l.simples)) (range_with_len 0 l.i)

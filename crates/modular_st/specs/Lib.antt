@@ -1,0 +1,4 @@
+pub mod Numerators
+pub mod Conjugates
+pub mod SMatrices
+pub mod Refusal
