@@ -1,3 +1,5 @@
+pub mod MatrixLines
+pub mod VerifySteps
 pub mod Inputs
 pub mod RankLaws
 pub mod Chains

@@ -3,9 +3,9 @@
 
 mod answer;
 mod command;
-mod conductors;
 mod finish;
 mod input;
+mod numbers;
 mod ranks;
 mod running;
 mod shape;
