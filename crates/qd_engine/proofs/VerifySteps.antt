@@ -1,5 +1,5 @@
 -- What the program answers after the cocycle is what the steps of the plan give, unless S overflows.
-use Rattle.std.proofs.Common.{◌≡◌, ℕ, ◌≤◌, List, ◌++◌, length, Some, None, Result, Ok, Err, refl, sym, ap, subst, ◌∙◌, inl, inr, append_assoc, append-nil}
+use Rattle.std.proofs.Common.{◌≡◌, ℕ, ◌≤◌, List, ◌++◌, length, Result, Ok, Err, refl, sym, ap, subst, ◌∙◌, inl, inr, append_assoc}
 use Rattle.std.specs.Global.{Vec}
 use Rattle.qd_ring.specs.declared.site.Site.{Site}
 use Rattle.cochain.specs.Cochain.{Cochain}
@@ -14,8 +14,7 @@ use Rattle.qd_steps.specs.Tables.{simples_over}
 use Rattle.qd_engine.specs.declared.stop.Stop.{Stop}
 use Rattle.qd_engine.specs.declared.stop.Stop.TheVariants as stops
 use Rattle.qd_engine.specs.declared.command.Command.{Command}
-use Rattle.qd_engine.specs.declared.command.Command.TheVariants.{Check, Classes, Verify}
-use Rattle.qd_engine.specs.Documents.{form_of, exponents_of, given_in}
+use Rattle.qd_engine.specs.Documents.{form_of}
 use Rattle.qd_engine.specs.Report.{class_ranks, conductor_line, end_line, numbers_text, rows_report}
 use Rattle.qd_engine.specs.Plan.{◌>>=◌, tables_step, numbers_step, matching_step, verify_step, rows_step, cause_of_stop, document_step, group_step, cocycle_step, report_step, answer_to}
 use Rattle.qd_engine.specs.Causes.{document_in, OverflowsFor}
@@ -78,22 +77,25 @@ module _ (w : Cochain) (given : Given) where
       let (done, passed, rest) = bind_ok (tables_step w k given.blocks) (λ tested. Ok (numbers_text k (simples_over w given.blocks))) lines shown in
       inr (rows_report w given, rows_of_tables k made ∙ rw passed refl, (site, is, subst (λ (n : ℕ). IsOverflow n (simples_over w given.blocks) site) (sym same) over))
 
-  pub rows_made : (k : ℕ) (front lines text : List ℕ) → matching_step w given ≡ Ok k → given.conductor ≡ k → numbers_step w k given.blocks ≡ Ok lines
-      → front ≡ head_of w ++ (classes_text w.group (class_ranks w) ++ conductor_line k) → text ≡ front ++ (lines ++ end_line) → rows_step w given ≡ Ok text
-  rows_made k front lines text made same shown front_is text_is =
-      let (done, passed, rest) = bind_ok (tables_step w k given.blocks) (λ tested. Ok (numbers_text k (simples_over w given.blocks))) lines shown in
-      let numbers : numbers_text k (simples_over w given.blocks) ≡ lines = cc in
-      rows_of_tables k made ∙ rw passed (ap Ok (sym (text_is ∙ rw (front_is, sym numbers, same) (grouped (head_of w) (classes_text w.group (class_ranks w)) (conductor_line k) _))))
+  made_at : (front lines text : List ℕ) → matching_step w given ≡ Ok given.conductor → numbers_step w given.conductor given.blocks ≡ Ok lines
+      → front ≡ head_of w ++ (classes_text w.group (class_ranks w) ++ conductor_line given.conductor) → text ≡ front ++ (lines ++ end_line) → rows_step w given ≡ Ok text
+  made_at front lines text made shown front_is text_is =
+      let (done, passed, rest) = bind_ok (tables_step w given.conductor given.blocks) (λ tested. Ok (numbers_text given.conductor (simples_over w given.blocks))) lines shown in
+      let numbers : lines ≡ numbers_text given.conductor (simples_over w given.blocks) = cc in
+      let a = head_of w in
+      let b = classes_text w.group (class_ranks w) in
+      let c = conductor_line given.conductor in
+      let whole : text ≡ rows_report w given = text_is ∙ ap (λ (f : List ℕ). f ++ (lines ++ end_line)) front_is ∙ ap (λ (l : List ℕ). (a ++ (b ++ c)) ++ (l ++ end_line)) numbers ∙ grouped a b c _ in
+      rows_of_tables given.conductor made ∙ ap (λ (tables : Result (Unit {0}) Cause). tables >>= λ tested. Ok (rows_report w given)) passed ∙ ap Ok (sym whole)
     where
       grouped : (a b c d : List ℕ) → (a ++ (b ++ c)) ++ d ≡ a ++ (b ++ (c ++ d))
       grouped a b c d = append_assoc a (b ++ c) d ∙ ap (λ r. a ++ r) (append_assoc b c d)
 
--- ---- the report of a command
-pub verify_reports : (w : Cochain) (document : Document) (given : Given) (answer : Result (Vec ℕ) Stop) → w ≡ exponents_of document → document.characters ≡ Some given
-    → FollowsUnless (IsOverflow given.conductor (simples_over w given.blocks)) bytes_of answer (rows_step w given)
-    → FollowsUnless (OverflowsFor Verify document) bytes_of answer (report_step Verify document w)
-unfolding report_step rows_step
-verify_reports w document given answer is gives follows = rw (is, gives) (rw is at follows)
+  pub rows_made : (k : ℕ) (front lines text : List ℕ) → matching_step w given ≡ Ok k → given.conductor ≡ k → numbers_step w k given.blocks ≡ Ok lines
+      → front ≡ head_of w ++ (classes_text w.group (class_ranks w) ++ conductor_line k) → text ≡ front ++ (lines ++ end_line) → rows_step w given ≡ Ok text
+  rows_made k front lines text made same shown front_is text_is =
+      made_at front lines text (subst (λ (n : ℕ). matching_step w given ≡ Ok n) (sym same) made) (subst (λ (n : ℕ). numbers_step w n given.blocks ≡ Ok lines) (sym same) shown)
+      (subst (λ (n : ℕ). front ≡ head_of w ++ (classes_text w.group (class_ranks w) ++ conductor_line n)) (sym same) front_is) text_is
 
 -- ---- from the input to the report
 module _ (command : Command) (bytes : List ℕ) (short : length bytes ≤ INPUT_LIMIT) where

@@ -107,13 +107,8 @@ fn classes_report(alloc: Global, w: &Cocycle) -> Result<Vec<u8>, AllocError>
 }
 
 /// The report of a command on a document and its cocycle, or why there is none.
-#[tactic(auto, using(crate::proofs::VerifySteps::verify_reports), unfolding(crate::specs::Plan::report_step))]
-fn report(
-    alloc: Global,
-    command: Command,
-    document: &Document,
-    w: Cocycle,
-) -> Result<Vec<u8>, Stop>
+#[tactic(auto, unfolding(crate::specs::Plan::report_step, crate::specs::Plan::rows_step))]
+fn report(alloc: Global, command: Command, document: &Document, w: Cocycle) -> Result<Vec<u8>, Stop>
     requires shaped { IsInRange document.now }
     requires cocycle { w ≡ exponents_of document.now }
     ensures follows { FollowsUnless (OverflowsFor command document.now) (λ (text : Vec ℕ). text.items) result (report_step command document.now w) }

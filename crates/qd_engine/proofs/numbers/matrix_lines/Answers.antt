@@ -1,8 +1,7 @@
-use Rattle.std.proofs.Common.{◌≡◌, [], ◌<◌, le_antisymm, refl, sym, ap, subst, ◌∙◌, arith}
+use Rattle.std.proofs.Common.{◌≡◌, [], ◌<◌, le_antisymm, sym, ap, subst, ◌∙◌, arith}
 use Rattle.data_print.specs.Text.{first_lines}
 use Rattle.data_print.proofs.Fronts.{first_lines-more}
 use Rattle.cochain.specs.Cochain.{Cochain}
-use Rattle.qd_ring.specs.RowLists.{row_at}
 use Rattle.modular_st.specs.SMatrices.{values_of_rows, s_rows}
 use Rattle.qd_engine.proofs.MatrixLines.{line_of_row, all_lines, rows_count, line_is}
 use Rattle.qd_engine.proofs.numbers.matrix_lines.Goals as goal

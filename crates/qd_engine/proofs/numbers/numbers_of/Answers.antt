@@ -1,4 +1,4 @@
-use Rattle.std.proofs.Common.{Ok, sym, subst}
+use Rattle.std.proofs.Common.{Ok, subst}
 use Rattle.std.proofs.lemmas.Result.{err_from_is_err_and}
 use Rattle.transport.specs.Simples.{SimplesOver}
 use Rattle.modular_st.specs.Numerators.{IsOverflow}

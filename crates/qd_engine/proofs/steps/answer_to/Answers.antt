@@ -1,4 +1,4 @@
-use Rattle.std.proofs.Common.{◌≡◌, ◌≤◌, Err, Ok, sym, subst}
+use Rattle.std.proofs.Common.{◌≤◌, subst}
 use Rattle.std.proofs.lemmas.Result.{err_from_is_err_and}
 use Rattle.qd_io.specs.declared.reading.TheConstants.{INPUT_LIMIT}
 use Rattle.qd_engine.proofs.VerifySteps.{document_stops, group_stops, cocycle_stops, report_answers}

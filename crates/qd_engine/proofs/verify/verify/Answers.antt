@@ -1,7 +1,5 @@
-use Rattle.std.proofs.Common.{◌≡◌, ◌≤◌, All, length, sym, ap, subst, ◌∙◌}
+use Rattle.std.proofs.Common.{◌≤◌, length, sym, ap, subst, ◌∙◌}
 use Rattle.std.proofs.lemmas.Result.{err_from_is_err_and}
-use Rattle.qd_doc.specs.Blocks.{Block}
-use Rattle.qd_doc.specs.Contents.{IsValueOf}
 use Rattle.qd_engine.proofs.RankLaws.{class_ranks_few, length-class_ranks}
 use Rattle.qd_engine.proofs.VerifySteps.{matching_stops, numbers_stop, rows_made}
 use Rattle.qd_engine.proofs.verify.verify.Goals as goal
