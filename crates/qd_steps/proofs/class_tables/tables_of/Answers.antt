@@ -1,4 +1,4 @@
-use Rattle.std.proofs.Common.{◌≡◌, ◌<◌, length, le_antisymm, ap, subst, ◌∙◌, arith}
+use Rattle.std.proofs.Common.{◌<◌, length, le_antisymm, ap, subst, ◌∙◌, arith}
 use Rattle.group_table.specs.Group.{Table}
 use Rattle.classes.specs.Conjugacy.{representatives}
 use Rattle.scan.proofs.Places.{first-zero, first_none-step}
