@@ -19,9 +19,9 @@ use Rattle.data_print.specs.declared.cause.Cause.TheVariants.{Group, Cocycle, Sh
 use Rattle.qd_engine.specs.Words.{command_of}
 use Rattle.qd_engine.specs.Documents.{form_of, table_of, exponents_of, given_in, root_order}
 use Rattle.qd_engine.specs.Shape.{shape_fault}
-use Rattle.qd_engine.specs.Tables.{class_twist, class_table, table_cause, tables_cause, cause_of_miss}
+use Rattle.qd_steps.specs.Tables.{class_twist, class_table, table_cause, tables_cause, cause_of_miss}
 use Rattle.qd_engine.specs.Report.{class_ranks, report_of}
-use Rattle.qd_engine.specs.Plan.{◌>>=◌, unless, asked, within_limit, cause_of_stop, document_step, group_step, cocycle_step, conductor_step, stated_step, most_simples, simples_step, shape_step, tables_step, verify_step, characters_step, command_step, answer_to, plan}
+use Rattle.qd_engine.specs.Plan.{◌>>=◌, unless, asked, within_limit, cause_of_stop, document_step, group_step, cocycle_step, conductor_step, stated_step, most_simples, simples_step, shape_step, tables_step, matching_step, verify_step, characters_step, command_step, report_step, answer_to, plan}
 use Rattle.qd_engine.specs.Causes.{document_in, IsDocument, IsLawful, IsShaped, IsVerified}
 use Rattle.qd_engine.specs.Acceptable.{AllFit, IsAcceptable}
 use Rattle.qd_engine.specs.declared.command.Command.{Command}
@@ -66,23 +66,25 @@ module _ (d : Document) where
   -- every test passes for blocks that match, where no table misses anything
   shaped_passes : IsShaped d → ((c : ℕ) → c < length (representatives (table_of d)) → table_miss (class_twist (exponents_of d) c) (class_table (given_in d).conductor (given_in d).blocks c) ≡ None)
       → verify_step (exponents_of d) (given_in d) ≡ Ok tt
-  unfolding verify_step
+  unfolding verify_step matching_step
   shaped_passes shaped passes =
       let w = exponents_of d in
       let given = given_in d in
       let few = shaped.few in
-      bind_made (conductor_step w) _ given.conductor tt (conductor_made w given.conductor few.conductor.conductor)
-      (bind_made (stated_step given.conductor given.conductor) _ tt tt (stated_made given.conductor)
-      (bind_made (simples_step (sum (class_ranks w))) _ tt tt (simples_made (sum (class_ranks w)) few.few)
-      (bind_made (shape_step w.group given.blocks) _ tt tt (unless_made Shape (shape_fault w.group given.blocks) tt (matched_no_fault w.group given.blocks shaped.shape))
-      (tables_made w given.conductor given.blocks passes))))
+      bind_made (matching_step w given) _ given.conductor tt
+      (bind_made (conductor_step w) _ given.conductor given.conductor (conductor_made w given.conductor few.conductor.conductor)
+      (bind_made (stated_step given.conductor given.conductor) _ tt given.conductor (stated_made given.conductor)
+      (bind_made (simples_step (sum (class_ranks w))) _ tt given.conductor (simples_made (sum (class_ranks w)) few.few)
+      (bind_made (shape_step w.group given.blocks) _ tt given.conductor (unless_made Shape (shape_fault w.group given.blocks) tt (matched_no_fault w.group given.blocks shaped.shape))
+      refl))))
+      (tables_made w given.conductor given.blocks passes)
 
 -- ---- the whole plan
 
 lawful_answer : (command : Command) (bytes : List ℕ) → IsDocument command bytes → IsLawful (document_in command bytes)
     → command_step command (document_in command bytes) (exponents_of (document_in command bytes)) ≡ Ok tt
     → answer_to command bytes ≡ Ok (report_of command (document_in command bytes) (exponents_of (document_in command bytes)))
-unfolding answer_to
+unfolding answer_to report_step
 lawful_answer command bytes document lawful tested =
     let form = form_of command in
     let read = document_in command bytes in

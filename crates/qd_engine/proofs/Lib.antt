@@ -1,12 +1,11 @@
+pub mod MatrixLines
+pub mod VerifySteps
 pub mod Inputs
 pub mod RankLaws
 pub mod Chains
 pub mod Documents
 pub mod Shapes
 pub mod ConductorLaws
-pub mod TableRows
-pub mod TableCauses
-pub mod TableSteps
 pub mod Verified
 pub mod Complete
 pub mod Planned

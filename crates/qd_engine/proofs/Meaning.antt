@@ -8,16 +8,18 @@ use Rattle.qd_engine.specs.Words.{command_of}
 use Rattle.qd_doc.specs.declared.document.Document.{Document}
 use Rattle.qd_engine.specs.Documents.{exponents_of}
 use Rattle.qd_engine.specs.Plan.{plan}
-use Rattle.qd_engine.specs.Report.{report_of}
+use Rattle.qd_doc.specs.declared.document.Given.{Given}
+use Rattle.qd_ring.specs.declared.site.Site.{Site}
+use Rattle.qd_engine.specs.Report.{characters_report, report_of}
 use Rattle.data_print.specs.Lines.{memory_line}
 use Rattle.qd_engine.specs.Answers.{why_of_cause, why_of, status_of}
-use Rattle.qd_engine.specs.Causes.{OfInput, document_in, IsLawful, IsVerified, Means, Plans, Comes, IsDone}
+use Rattle.qd_engine.specs.Causes.{Agrees, OfInput, OverflowsIn, document_in, IsLawful, IsVerified, Means, Plans, Comes, IsDone}
 use Rattle.std.specs.Prelude.{IsOk}
 use Rattle.std.specs.Global.{Vec}
 use Rattle.qd_engine.specs.declared.stop.Stop.{Stop}
 use Rattle.qd_engine.specs.declared.stop.Stop.TheVariants as stops
 use Rattle.data_print.specs.Lines.{line_of}
-use Rattle.qd_engine.specs.Endings.{IsCause, Says, Writing, Ends, EndsSaying, Decides, Prepares, SaysPrepared}
+use Rattle.qd_engine.specs.Endings.{Overflows, RefusedSo, IsCause, Says, Writing, Ends, EndsSaying, Decides, Prepares, SaysPrepared}
 use Rattle.qd_engine.proofs.Documents.{document_group, document_cocycle}
 use Rattle.qd_engine.specs.Acceptable.{IsAcceptable}
 use Rattle.qd_engine.proofs.Complete.{acceptable_plan}
@@ -75,7 +77,7 @@ ending writing failed whys.Memory outcome text e = inr (record { is = e.0; added
 
 -- a cause is the source's failure, or the plan's refusal of some input
 cause_kind : (words : List (List ℕ)) (left : Option (List ℕ)) (failed : Type 0) (cause : Cause) → IsCause words left failed cause
-    → (failed × IsSome (command_of words) × (cause ≡ Read)) ⊎ OfInput left (λ bytes. plan words bytes ≡ Err cause)
+    → (failed × IsSome (command_of words) × (cause ≡ Read)) ⊎ OfInput left (λ bytes. RefusedSo words bytes cause)
 cause_kind words left failed Read h = inl (h.1, h.0, refl)
 cause_kind words left failed Usage h = inr h
 cause_kind words left failed TooLong h = inr h
@@ -96,14 +98,7 @@ cause_kind words left failed (NoTwist at row value) h = inr h
 cause_kind words left failed (NoVacuum rows) h = inr h
 cause_kind words left failed (Overflow site) h = inr h
 
-cause_means : (words : List (List ℕ)) (left : Option (List ℕ)) (failed : Type 0) (cause : Cause) → IsCause words left failed cause → Means words left failed (why_of_cause cause)
-cause_means words left failed cause h =
-    elim (cause_kind words left failed cause h) [
-      | inl (rose, some, is) ↦ subst (λ (c : Cause). Means words left failed (why_of_cause c)) (sym is) (some, rose)
-      | inr (bytes, agrees, e) ↦ refusal_means words left failed bytes cause agrees e
-    ]
-
--- the table is a group, and the exponents are a cocycle of it
+-- the table is a group, and the exponents a cocycle
 passes_lawful : (command : Command) (bytes text : List ℕ) → Passes command bytes text → IsLawful (document_in command bytes)
 passes_lawful command bytes text passes = record {
   group = document_group command bytes passes.document passes.group;
@@ -117,6 +112,24 @@ passes_verified Classes bytes text passes is = absurd cc
 passes_verified Verify bytes text passes is =
     let given = verify_given bytes in
     rows_verified (document_in Verify bytes) (passes_lawful Verify bytes text passes) (rw given at passes.tested)
+
+-- S overflows for rows that are good
+over_means : (words : List (List ℕ)) (left : Option (List ℕ)) (failed : Type 0) (bytes report : List ℕ) (site : Site) → Agrees left bytes → plan words bytes ≡ Ok report → Overflows words bytes site
+    → Means words left failed (whys.Overflow site)
+over_means words left failed bytes report site agrees e (asks, over) =
+    let (command, found, passes) = report_passes words bytes report e in
+    let same : command ≡ Verify = let one : Some command ≡ Some Verify = sym found ∙ asks in cc in
+    let verifies : Passes Verify bytes report = subst (λ (c : Command). Passes c bytes report) same passes in
+    (asks, (bytes, agrees, (verifies.document, inr (record { lawful = passes_lawful Verify bytes report verifies; verified = passes_verified Verify bytes report verifies refl; overflows = over }))))
+
+cause_means : (words : List (List ℕ)) (left : Option (List ℕ)) (failed : Type 0) (cause : Cause) → IsCause words left failed cause → Means words left failed (why_of_cause cause)
+cause_means words left failed cause h =
+    elim (cause_kind words left failed cause h) [
+      | inl (rose, some, is) ↦ subst (λ (c : Cause). Means words left failed (why_of_cause c)) (sym is) (some, rose)
+      | inr (bytes, agrees, inl e) ↦ refusal_means words left failed bytes cause agrees e
+      | inr (bytes, agrees, inr (report, e, (site, is, over))) ↦
+          subst (λ (c : Cause). Means words left failed (why_of_cause c)) (sym is) (over_means words left failed bytes report site agrees e over)
+    ]
 
 report_means : (words : List (List ℕ)) (left : Option (List ℕ)) (failed : Type 0) (text : List ℕ) → OfInput left (λ bytes. plan words bytes ≡ Ok text) → Means words left failed whys.Done
 report_means words left failed text (bytes, agrees, e) =
@@ -223,30 +236,31 @@ done_means words left source_failed writing sink_failed why (outcome, text, says
 
 -- ---- what the plan gives is what the program answers
 
-same_cause : (words : List (List ℕ)) (bytes : List ℕ) (cause : Cause) → plan words bytes ≡ Err cause → Decides (plan words bytes) (why_of_cause cause)
-same_cause words bytes cause e = rw e (inl refl)
+same_cause : (words : List (List ℕ)) (bytes : List ℕ) (cause : Cause) → RefusedSo words bytes cause → Decides (Overflows words bytes) (plan words bytes) (why_of_cause cause)
+same_cause words bytes cause (inl e) = rw e (inl refl)
+same_cause words bytes cause (inr (report, e, (site, is, over))) = rw (e, is) (inr (inr (site, refl, over)))
 
 outcome_decides : (words : List (List ℕ)) (bytes : List ℕ) (failed : Type 0) (outcome : Outcome) (text : List ℕ) → (failed → ⊥) → Says words (Some bytes) failed outcome text
-    → Decides (plan words bytes) (why_of outcome)
-outcome_decides words bytes failed Report text sure (input, agrees, e) = subst (λ (b : List ℕ). Decides (plan words b) whys.Done) agrees (rw e (inl refl))
+    → Decides (Overflows words bytes) (plan words bytes) (why_of outcome)
+outcome_decides words bytes failed Report text sure (input, agrees, e) = subst (λ (b : List ℕ). Decides (Overflows words b) (plan words b) whys.Done) agrees (rw e (inl refl))
 outcome_decides words bytes failed (Refused cause) text sure says =
     elim (cause_kind words (Some bytes) failed cause says.0) [
       | inl (rose, some, is) ↦ absurd (sure rose)
-      | inr (input, agrees, e) ↦ subst (λ (b : List ℕ). Decides (plan words b) (why_of_cause cause)) agrees (same_cause words input cause e)
+      | inr (input, agrees, e) ↦ subst (λ (b : List ℕ). Decides (Overflows words b) (plan words b) (why_of_cause cause)) agrees (same_cause words input cause e)
     ]
 outcome_decides words bytes failed Memory text sure says = decides_memory (plan words bytes)
   where
-    decides_memory : (planned : Result (List ℕ) Cause) → Decides planned whys.Memory
-    decides_memory (Ok report) = inr refl
+    decides_memory : (planned : Result (List ℕ) Cause) → Decides (Overflows words bytes) planned whys.Memory
+    decides_memory (Ok report) = inr (inl refl)
     decides_memory (Err cause) = inr refl
 
 pub plan_decides : (words : List (List ℕ)) (left : Option (List ℕ)) (source_failed : Type 0) (writing : Writing) (sink_failed : Type 0) (why : Why) (bytes : List ℕ)
-    → EndsSaying words left source_failed writing sink_failed why → left ≡ Some bytes → (source_failed → ⊥) → (sink_failed → ⊥) → Decides (plan words bytes) why
+    → EndsSaying words left source_failed writing sink_failed why → left ≡ Some bytes → (source_failed → ⊥) → (sink_failed → ⊥) → Decides (Overflows words bytes) (plan words bytes) why
 plan_decides words left source_failed writing sink_failed why bytes (outcome, text, says, ends) told sure_source sure_sink =
     elim (ending writing sink_failed why outcome text ends) [
       | inl failed ↦ absurd (sure_sink failed.rose)
       | inr written ↦
-          subst (Decides (plan words bytes)) (sym written.is)
+          subst (Decides (Overflows words bytes) (plan words bytes)) (sym written.is)
           (outcome_decides words bytes source_failed outcome text sure_source (subst (λ (l : Option (List ℕ)). Says words l source_failed outcome text) told says))
     ]
 
@@ -256,7 +270,11 @@ plan_decides words left source_failed writing sink_failed why bytes (outcome, te
 report_long : (command : Command) (document : Document) (w : Cochain) → length memory_line ≤ length (report_of command document w)
 report_long Check document w = simp length-append (omega arith)
 report_long Classes document w = simp length-append (omega arith)
-report_long Verify document w = simp length-append (omega arith)
+report_long Verify document w = characters_long document.characters
+  where
+    characters_long : (characters : Option Given) → length memory_line ≤ length (characters_report w characters)
+    characters_long None = simp length-append (omega arith)
+    characters_long (Some given) = simp length-append (omega arith)
 
 room_for_less : (room : Option ℕ) (long short : List ℕ) → length short ≤ length long → HasRoom room long → HasRoom room short
 room_for_less None long short less has = has
@@ -270,43 +288,56 @@ memory_room words bytes report room e has =
 
 -- what there was to say has room where the report has
 outcome_room : (words : List (List ℕ)) (bytes report : List ℕ) (failed : Type 0) (room : Option ℕ) (outcome : Outcome) (text : List ℕ) → (failed → ⊥)
-    → plan words bytes ≡ Ok report → HasRoom room report → Says words (Some bytes) failed outcome text → HasRoom room text
-outcome_room words bytes report failed room Report text sure e has (input, agrees, planned) =
+    → plan words bytes ≡ Ok report → ((site : Site) → Overflows words bytes site → ⊥) → HasRoom room report → Says words (Some bytes) failed outcome text → HasRoom room text
+outcome_room words bytes report failed room Report text sure e none has (input, agrees, planned) =
     let again : plan words bytes ≡ Ok text = subst (λ (b : List ℕ). plan words b ≡ Ok text) agrees planned in
     let same : report ≡ text = cc in
     subst (HasRoom room) same has
-outcome_room words bytes report failed room (Refused cause) text sure e has says =
+outcome_room words bytes report failed room (Refused cause) text sure e none has says =
     elim (cause_kind words (Some bytes) failed cause says.0) [
       | inl (rose, some, is) ↦ absurd (sure rose)
-      | inr (input, agrees, planned) ↦
+      | inr (input, agrees, inl planned) ↦
           let again : plan words bytes ≡ Err cause = subst (λ (b : List ℕ). plan words b ≡ Err cause) agrees planned in
           absurd cc
+      | inr (input, agrees, inr (other, planned, (site, is, over))) ↦ absurd (none site (subst (λ (b : List ℕ). Overflows words b site) agrees over))
     ]
-outcome_room words bytes report failed room Memory text sure e has says = subst (HasRoom room) (sym says) (memory_room words bytes report room e has)
+outcome_room words bytes report failed room Memory text sure e none has says = subst (HasRoom room) (sym says) (memory_room words bytes report room e has)
 
 -- a report, or the word that there was no memory
-report_or_memory : (words : List (List ℕ)) (bytes report : List ℕ) (why : Why) → plan words bytes ≡ Ok report → Decides (plan words bytes) why → (why ≡ whys.Done) ⊎ (why ≡ whys.Memory)
-report_or_memory words bytes report why e decides = rw e at decides
+report_or_memory : (words : List (List ℕ)) (bytes report : List ℕ) (why : Why) → plan words bytes ≡ Ok report → ((site : Site) → Overflows words bytes site → ⊥)
+    → Decides (Overflows words bytes) (plan words bytes) why → (why ≡ whys.Done) ⊎ (why ≡ whys.Memory)
+report_or_memory words bytes report why e none decides = by (rw e at decides)
+  where
+    by : Decides (Overflows words bytes) (Ok report) why → (why ≡ whys.Done) ⊎ (why ≡ whys.Memory)
+    by (inl done) = inl done
+    by (inr (inl memory)) = inr memory
+    by (inr (inr (site, is, over))) = absurd (none site over)
 
 pub room_decides : (words : List (List ℕ)) (left : Option (List ℕ)) (source_failed : Type 0) (writing : Writing) (sink_failed : Type 0) (why : Why) (bytes report : List ℕ)
-    → EndsSaying words left source_failed writing sink_failed why → left ≡ Some bytes → (source_failed → ⊥) → plan words bytes ≡ Ok report → HasRoom writing.room report
-    → (why ≡ whys.Done) ⊎ (why ≡ whys.Memory)
-room_decides words left source_failed writing sink_failed why bytes report (outcome, text, says, ends) told sure e has =
+    → EndsSaying words left source_failed writing sink_failed why → left ≡ Some bytes → (source_failed → ⊥) → plan words bytes ≡ Ok report
+    → ((site : Site) → Overflows words bytes site → ⊥) → HasRoom writing.room report → (why ≡ whys.Done) ⊎ (why ≡ whys.Memory)
+room_decides words left source_failed writing sink_failed why bytes report (outcome, text, says, ends) told sure e none has =
     let known = subst (λ (l : Option (List ℕ)). Says words l source_failed outcome text) told says in
     elim (ending writing sink_failed why outcome text ends) [
-      | inl failed ↦ absurd (failed.no_room (outcome_room words bytes report source_failed writing.room outcome text sure e has known))
+      | inl failed ↦ absurd (failed.no_room (outcome_room words bytes report source_failed writing.room outcome text sure e none has known))
       | inr written ↦
-          report_or_memory words bytes report why e (subst (Decides (plan words bytes)) (sym written.is) (outcome_decides words bytes source_failed outcome text sure known))
+          report_or_memory words bytes report why e none (subst (Decides (Overflows words bytes) (plan words bytes)) (sym written.is) (outcome_decides words bytes source_failed outcome text sure known))
     ]
 
 -- ---- an acceptable input
+
+-- no sum of S overflows
+sums_fit : (words : List (List ℕ)) (bytes : List ℕ) → IsAcceptable words bytes → (site : Site) → Overflows words bytes site → ⊥
+sums_fit words bytes accepts site (asks, over) =
+    let same : accepts.command ≡ Verify = let one : Some accepts.command ≡ Some Verify = sym accepts.asked ∙ asks in cc in
+    accepts.sums same site (subst (λ (c : Command). OverflowsIn (document_in c bytes) site) (sym same) over)
 
 pub acceptable_decides : (words : List (List ℕ)) (left : Option (List ℕ)) (source_failed : Type 0) (writing : Writing) (sink_failed : Type 0) (why : Why) (bytes : List ℕ)
     → EndsSaying words left source_failed writing sink_failed why → left ≡ Some bytes → (source_failed → ⊥) → (sink_failed → ⊥) → IsAcceptable words bytes
     → (why ≡ whys.Done) ⊎ (why ≡ whys.Memory)
 acceptable_decides words left source_failed writing sink_failed why bytes ends told sure_source sure_sink accepts =
     let (report, planned) = acceptable_plan words bytes accepts in
-    report_or_memory words bytes report why planned (plan_decides words left source_failed writing sink_failed why bytes ends told sure_source sure_sink)
+    report_or_memory words bytes report why planned (sums_fit words bytes accepts) (plan_decides words left source_failed writing sink_failed why bytes ends told sure_source sure_sink)
 
 -- ---- from what was prepared to how the program ends
 

@@ -24,16 +24,17 @@ use Rattle.qd_doc.specs.declared.refusal.DocRefusal.TheVariants as stops
 use Rattle.group_table.specs.Group.{group_fault}
 use Rattle.cochain.specs.Cochain.{Cochain, cocycle_fault}
 use Rattle.qd_engine.specs.Words.{command_of}
-use Rattle.qd_engine.specs.Plan.{◌>>=◌, asked, within_limit, cause_of_stop, document_step, group_step, cocycle_step, command_step, answer_to, plan}
+use Rattle.qd_engine.specs.Plan.{◌>>=◌, asked, within_limit, cause_of_stop, document_step, group_step, cocycle_step, command_step, report_step, answer_to, plan}
 use Rattle.qd_engine.specs.Documents.{form_of, table_of, exponents_of}
 use Rattle.qd_engine.specs.Report.{report_of}
 use Rattle.qd_engine.specs.Answers.{why_of_cause}
-use Rattle.qd_engine.specs.Causes.{Agrees, OfInput, document_in, IsDocument, IsLawful, Stops, Means}
+use Rattle.qd_engine.specs.Causes.{Agrees, OfInput, document_in, IsDocument, IsLawful, Stops, OverflowsFor, Means}
 use Rattle.qd_engine.proofs.Chains.{bind_err, bind_ok, unless_err, unless_ok}
 use Rattle.qd_engine.proofs.Documents.{document_group, document_cocycle}
 use Rattle.qd_engine.proofs.Verified.{RowsRefuse, verify_given, verify_refuses}
-use Rattle.qd_engine.specs.Endings.{IsCause, Reads, Prepares}
-use Rattle.qd_engine.specs.Follows.{Follows}
+use Rattle.qd_engine.specs.Endings.{IsCause, RefusedSo, Reads, Prepares}
+use Rattle.qd_engine.specs.Follows.{FollowsUnless}
+use Rattle.qd_ring.specs.declared.site.Site.{Site}
 use Rattle.std.specs.Global.{Vec}
 use Rattle.qd_engine.specs.declared.stop.Stop.{Stop}
 use Rattle.qd_engine.specs.declared.stop.Stop.TheVariants as ends
@@ -203,7 +204,7 @@ after_limit : Command → List ℕ → Result (List ℕ) Cause
 after_limit command input = document_step (form_of command) input >>= λ document. after_document command document
 
 answer_parts : (command : Command) (bytes : List ℕ) → answer_to command bytes ≡ (within_limit bytes >>= λ input. after_limit command input)
-unfolding answer_to after_limit after_document after_group after_cocycle
+unfolding answer_to report_step after_limit after_document after_group after_cocycle
 answer_parts command bytes = refl
 
 -- a refusal of the rows is one of `verify`
@@ -353,7 +354,7 @@ refuses_means words left failed command bytes (Count at rows rank) asks agrees (
 refuses_means words left failed command bytes (Identity name at i j x left_side right_side) asks agrees (is, document, h) = (asks ∙ ap Some is, (bytes, agrees, (document, h)))
 refuses_means words left failed command bytes (NoTwist at row value) asks agrees (is, document, h) = (asks ∙ ap Some is, (bytes, agrees, (document, h)))
 refuses_means words left failed command bytes (NoVacuum rows) asks agrees (is, document, h) = (asks ∙ ap Some is, (bytes, agrees, (document, h)))
-refuses_means words left failed command bytes (Overflow site) asks agrees (is, document, h) = (asks ∙ ap Some is, (bytes, agrees, (document, h)))
+refuses_means words left failed command bytes (Overflow site) asks agrees (is, document, h) = (asks ∙ ap Some is, (bytes, agrees, (document, inl h)))
 
 -- a refusal of the plan means what its answer means
 pub refusal_means : (words : List (List ℕ)) (left : Option (List ℕ)) (failed : Type 0) (bytes : List ℕ) (cause : Cause) → Agrees left bytes → plan words bytes ≡ Err cause
@@ -389,14 +390,14 @@ some_input : (left : Option (List ℕ)) → OfInput left (λ bytes. Unit {0})
 some_input None = ([], tt, tt)
 some_input (Some bytes) = (bytes, refl, tt)
 
-pub usage_prepares : (words : List (List ℕ)) (left : Option (List ℕ)) → command_of words ≡ None → OfInput left (λ bytes. plan words bytes ≡ Err Usage)
-usage_prepares words left none = let (bytes, agrees, trivial) = some_input left in (bytes, agrees, plan_usage words bytes none)
+pub usage_prepares : (words : List (List ℕ)) (left : Option (List ℕ)) → command_of words ≡ None → OfInput left (λ bytes. RefusedSo words bytes Usage)
+usage_prepares words left none = let (bytes, agrees, trivial) = some_input left in (bytes, agrees, inl (plan_usage words bytes none))
 
 pub read_prepares : (words : List (List ℕ)) (left : Option (List ℕ)) (failed : Type 0) (command : Command) (stop : Stop) → command_of words ≡ Some command
     → Reads left failed (Err stop) → Prepares words left failed (Err stop)
 read_prepares words left failed command ends.Memory asks h = tt
 read_prepares words left failed command (ends.Refused Read) asks h = (some_command words command asks, h)
-read_prepares words left failed command (ends.Refused TooLong) asks (bytes, agrees, long) = (bytes, agrees, plan_long words command bytes asks long)
+read_prepares words left failed command (ends.Refused TooLong) asks (bytes, agrees, long) = (bytes, agrees, inl (plan_long words command bytes asks long))
 read_prepares words left failed command (ends.Refused Usage) asks h = absurd h
 read_prepares words left failed command (ends.Refused (Syntax offset wanted)) asks h = absurd h
 read_prepares words left failed command (ends.Refused (Wide offset)) asks h = absurd h
@@ -419,32 +420,41 @@ planned_is_cause : (words : List (List ℕ)) (left : Option (List ℕ)) (failed 
     → answer_to command bytes ≡ Err cause → IsCause words left failed cause
 unfolding Refuses
 planned_is_cause words left failed command bytes Read asks agrees e = absurd (answer_refuses command bytes Read e)
-planned_is_cause words left failed command bytes Usage asks agrees e = (bytes, agrees, plan_asked words command bytes asks ∙ e)
-planned_is_cause words left failed command bytes TooLong asks agrees e = (bytes, agrees, plan_asked words command bytes asks ∙ e)
-planned_is_cause words left failed command bytes (Syntax offset wanted) asks agrees e = (bytes, agrees, plan_asked words command bytes asks ∙ e)
-planned_is_cause words left failed command bytes (Wide offset) asks agrees e = (bytes, agrees, plan_asked words command bytes asks ∙ e)
-planned_is_cause words left failed command bytes (Section offset) asks agrees e = (bytes, agrees, plan_asked words command bytes asks ∙ e)
-planned_is_cause words left failed command bytes (Order number) asks agrees e = (bytes, agrees, plan_asked words command bytes asks ∙ e)
-planned_is_cause words left failed command bytes (Roots number) asks agrees e = (bytes, agrees, plan_asked words command bytes asks ∙ e)
-planned_is_cause words left failed command bytes (Group fault) asks agrees e = (bytes, agrees, plan_asked words command bytes asks ∙ e)
-planned_is_cause words left failed command bytes (Cocycle fault) asks agrees e = (bytes, agrees, plan_asked words command bytes asks ∙ e)
-planned_is_cause words left failed command bytes (NoConductor multiple) asks agrees e = (bytes, agrees, plan_asked words command bytes asks ∙ e)
-planned_is_cause words left failed command bytes (Conductor stated needed) asks agrees e = (bytes, agrees, plan_asked words command bytes asks ∙ e)
-planned_is_cause words left failed command bytes (Simples ranks most) asks agrees e = (bytes, agrees, plan_asked words command bytes asks ∙ e)
-planned_is_cause words left failed command bytes (Shape fault) asks agrees e = (bytes, agrees, plan_asked words command bytes asks ∙ e)
-planned_is_cause words left failed command bytes (Count at rows rank) asks agrees e = (bytes, agrees, plan_asked words command bytes asks ∙ e)
-planned_is_cause words left failed command bytes (Identity name at i j x left_side right_side) asks agrees e = (bytes, agrees, plan_asked words command bytes asks ∙ e)
-planned_is_cause words left failed command bytes (NoTwist at row value) asks agrees e = (bytes, agrees, plan_asked words command bytes asks ∙ e)
-planned_is_cause words left failed command bytes (NoVacuum rows) asks agrees e = (bytes, agrees, plan_asked words command bytes asks ∙ e)
-planned_is_cause words left failed command bytes (Overflow site) asks agrees e = (bytes, agrees, plan_asked words command bytes asks ∙ e)
+planned_is_cause words left failed command bytes Usage asks agrees e = (bytes, agrees, inl (plan_asked words command bytes asks ∙ e))
+planned_is_cause words left failed command bytes TooLong asks agrees e = (bytes, agrees, inl (plan_asked words command bytes asks ∙ e))
+planned_is_cause words left failed command bytes (Syntax offset wanted) asks agrees e = (bytes, agrees, inl (plan_asked words command bytes asks ∙ e))
+planned_is_cause words left failed command bytes (Wide offset) asks agrees e = (bytes, agrees, inl (plan_asked words command bytes asks ∙ e))
+planned_is_cause words left failed command bytes (Section offset) asks agrees e = (bytes, agrees, inl (plan_asked words command bytes asks ∙ e))
+planned_is_cause words left failed command bytes (Order number) asks agrees e = (bytes, agrees, inl (plan_asked words command bytes asks ∙ e))
+planned_is_cause words left failed command bytes (Roots number) asks agrees e = (bytes, agrees, inl (plan_asked words command bytes asks ∙ e))
+planned_is_cause words left failed command bytes (Group fault) asks agrees e = (bytes, agrees, inl (plan_asked words command bytes asks ∙ e))
+planned_is_cause words left failed command bytes (Cocycle fault) asks agrees e = (bytes, agrees, inl (plan_asked words command bytes asks ∙ e))
+planned_is_cause words left failed command bytes (NoConductor multiple) asks agrees e = (bytes, agrees, inl (plan_asked words command bytes asks ∙ e))
+planned_is_cause words left failed command bytes (Conductor stated needed) asks agrees e = (bytes, agrees, inl (plan_asked words command bytes asks ∙ e))
+planned_is_cause words left failed command bytes (Simples ranks most) asks agrees e = (bytes, agrees, inl (plan_asked words command bytes asks ∙ e))
+planned_is_cause words left failed command bytes (Shape fault) asks agrees e = (bytes, agrees, inl (plan_asked words command bytes asks ∙ e))
+planned_is_cause words left failed command bytes (Count at rows rank) asks agrees e = (bytes, agrees, inl (plan_asked words command bytes asks ∙ e))
+planned_is_cause words left failed command bytes (Identity name at i j x left_side right_side) asks agrees e = (bytes, agrees, inl (plan_asked words command bytes asks ∙ e))
+planned_is_cause words left failed command bytes (NoTwist at row value) asks agrees e = (bytes, agrees, inl (plan_asked words command bytes asks ∙ e))
+planned_is_cause words left failed command bytes (NoVacuum rows) asks agrees e = (bytes, agrees, inl (plan_asked words command bytes asks ∙ e))
+planned_is_cause words left failed command bytes (Overflow site) asks agrees e = (bytes, agrees, inl (plan_asked words command bytes asks ∙ e))
 
 -- a refusal of too much comes of no input that is short enough
 pub long_refused : (command : Command) (bytes : List ℕ) → answer_to command bytes ≡ Err TooLong → INPUT_LIMIT < length bytes
 unfolding Refuses
 long_refused command bytes e = answer_refuses command bytes TooLong e
 
+-- S overflows where the plan gives a report
+late_is_cause : (words : List (List ℕ)) (left : Option (List ℕ)) (failed : Type 0) (command : Command) (bytes text : List ℕ) (site : Site) → command_of words ≡ Some command → Agrees left bytes
+    → answer_to command bytes ≡ Ok text → OverflowsFor command (document_in command bytes) site → IsCause words left failed (Overflow site)
+late_is_cause words left failed Check bytes text site asks agrees e over = absurd over
+late_is_cause words left failed Classes bytes text site asks agrees e over = absurd over
+late_is_cause words left failed Verify bytes text site asks agrees e over = (bytes, agrees, inr (text, plan_asked words Verify bytes asks ∙ e, (site, refl, (asks, over))))
+
 pub answer_prepares : (words : List (List ℕ)) (left : Option (List ℕ)) (failed : Type 0) (command : Command) (bytes : List ℕ) (result : Result (Vec ℕ) Stop) → command_of words ≡ Some command
-    → Agrees left bytes → Follows (λ (text : Vec ℕ). text.items) result (answer_to command bytes) → Prepares words left failed result
+    → Agrees left bytes → FollowsUnless (OverflowsFor command (document_in command bytes)) (λ (text : Vec ℕ). text.items) result (answer_to command bytes) → Prepares words left failed result
 answer_prepares words left failed command bytes (Ok text) asks agrees e = (bytes, agrees, plan_asked words command bytes asks ∙ e)
-answer_prepares words left failed command bytes (Err (ends.Refused cause)) asks agrees e = planned_is_cause words left failed command bytes cause asks agrees e
+answer_prepares words left failed command bytes (Err (ends.Refused cause)) asks agrees (inl e) = planned_is_cause words left failed command bytes cause asks agrees e
+answer_prepares words left failed command bytes (Err (ends.Refused cause)) asks agrees (inr (text, e, (site, is, over))) =
+    subst (IsCause words left failed) (sym is) (late_is_cause words left failed command bytes text site asks agrees e over)
 answer_prepares words left failed command bytes (Err ends.Memory) asks agrees e = tt

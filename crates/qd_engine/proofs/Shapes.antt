@@ -8,7 +8,8 @@ use Rattle.group_table.specs.Group.{Table}
 use Rattle.qd_doc.specs.Blocks.{Block, block_at}
 use Rattle.data_print.specs.declared.cause.ShapeFault.{ShapeFault}
 use Rattle.data_print.specs.declared.cause.ShapeFault.TheVariants.{Blocks, Representative, Width}
-use Rattle.qd_engine.specs.Shape.{unless_same, representative_fault_at, width_fault_in, width_fault_at, shape_fault, IsMatched}
+use Rattle.qd_engine.specs.Shape.{unless_same, representative_fault_at, width_fault_in, width_fault_at, shape_fault}
+use Rattle.qd_steps.specs.Matched.{IsMatched}
 
 none_where : (same : Bool) (fault : ShapeFault) → cond same None (Some fault) ≡ None → same ≡ true
 none_where true fault e = refl

@@ -9,7 +9,8 @@ use Rattle.data_print.specs.Lines.{line_of, memory_line}
 use Rattle.qd_engine.specs.Answers.{why_of_cause, why_of, status_of}
 use Rattle.qd_engine.specs.Endings.{Writing, Ends, SaysPrepared, Takes, TakesFor}
 use Rattle.qd_engine.specs.Plan.{answer_to}
-use Rattle.qd_engine.specs.Follows.{Follows}
+use Rattle.qd_engine.specs.Follows.{FollowsUnless}
+use Rattle.qd_engine.specs.Causes.{document_in, OverflowsFor}
 use Rattle.qd_engine.proofs.Meaning.{ending, done_prepared}
 use Rattle.qd_engine.proofs.Planned.{long_refused}
 use Rattle.qd_engine.specs.declared.command.Command.{Command}
@@ -152,10 +153,11 @@ prepared_takes before after writing failed why (Err (stops.Refused (Overflow sit
 
 -- the steps after the reading take no more
 pub answer_takes : (before after : Option (List ℕ)) (command : Command) (bytes : List ℕ) (result : Result (Vec ℕ) Stop) → length bytes ≤ INPUT_LIMIT
-    → Follows (λ (text : Vec ℕ). text.items) result (answer_to command bytes) → TakesUpTo INPUT_LIMIT before after → Takes before after result
+    → FollowsUnless (OverflowsFor command (document_in command bytes)) (λ (text : Vec ℕ). text.items) result (answer_to command bytes) → TakesUpTo INPUT_LIMIT before after → Takes before after result
 answer_takes before after command bytes (Ok text) short e few = few
 answer_takes before after command bytes (Err stops.Memory) short e few = few
-answer_takes before after command bytes (Err (stops.Refused TooLong)) short e few = absurd (let long : INPUT_LIMIT < length bytes = long_refused command bytes e in omega (arith, long, short))
+answer_takes before after command bytes (Err (stops.Refused TooLong)) short (inr (text, e, (site, is, over))) few = absurd cc
+answer_takes before after command bytes (Err (stops.Refused TooLong)) short (inl e) few = absurd (let long : INPUT_LIMIT < length bytes = long_refused command bytes e in omega (arith, long, short))
 answer_takes before after command bytes (Err (stops.Refused Usage)) short e few = few
 answer_takes before after command bytes (Err (stops.Refused Read)) short e few = few
 answer_takes before after command bytes (Err (stops.Refused (Syntax offset wanted))) short e few = few

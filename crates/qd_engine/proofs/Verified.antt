@@ -23,9 +23,9 @@ use Rattle.data_print.specs.declared.cause.Cause.TheVariants.{Usage, Read, TooLo
 use Rattle.qd_engine.specs.declared.command.Command.TheVariants.{Verify}
 use Rattle.qd_engine.specs.Documents.{table_of, exponents_of, given_in, root_order}
 use Rattle.qd_engine.specs.Shape.{shape_fault}
-use Rattle.qd_engine.specs.Tables.{failure, site_of, cause_of_miss, table_cause, class_twist, class_table, tables_cause}
+use Rattle.qd_steps.specs.Tables.{failure, site_of, cause_of_miss, table_cause, class_twist, class_table, tables_cause}
 use Rattle.qd_engine.specs.Report.{class_ranks}
-use Rattle.qd_engine.specs.Plan.{◌>>=◌, needed, conductor_step, stated_step, most_simples, simples_step, shape_step, tables_step, verify_step}
+use Rattle.qd_engine.specs.Plan.{◌>>=◌, needed, conductor_step, stated_step, most_simples, simples_step, shape_step, tables_step, matching_step, verify_step}
 use Rattle.qd_engine.specs.Causes.{document_in, IsLawful, HasConductor, IsFew, IsShaped, IsMissed, IsVerified}
 use Rattle.qd_engine.proofs.Chains.{bind_err, bind_ok, unless_err, unless_ok}
 use Rattle.qd_engine.proofs.Shapes.{shape_matches}
@@ -145,9 +145,31 @@ after_stated w k given = simples_step (sum (class_ranks w)) >>= λ few. after_si
 after_conductor : Cochain → Given → ℕ → Result (Unit {0}) Cause
 after_conductor w given k = stated_step given.conductor k >>= λ stated. after_stated w k given
 
+-- the steps before the tables may be grouped either way
+split_shape : (shape : Result (Unit {0}) Cause) (k : ℕ) (next : ℕ → Result (Unit {0}) Cause) → ((shape >>= λ shaped. Ok k) >>= next) ≡ (shape >>= λ shaped. next k)
+split_shape (Ok shaped) k next = refl
+split_shape (Err cause) k next = refl
+
+split_simples : (simples shape : Result (Unit {0}) Cause) (k : ℕ) (next : ℕ → Result (Unit {0}) Cause)
+    → ((simples >>= λ few. shape >>= λ shaped. Ok k) >>= next) ≡ (simples >>= λ few. shape >>= λ shaped. next k)
+split_simples (Ok few) shape k next = split_shape shape k next
+split_simples (Err cause) shape k next = refl
+
+split_stated : (same simples shape : Result (Unit {0}) Cause) (k : ℕ) (next : ℕ → Result (Unit {0}) Cause)
+    → ((same >>= λ stated. simples >>= λ few. shape >>= λ shaped. Ok k) >>= next) ≡ (same >>= λ stated. simples >>= λ few. shape >>= λ shaped. next k)
+split_stated (Ok stated) simples shape k next = split_simples simples shape k next
+split_stated (Err cause) simples shape k next = refl
+
+split_conductor : (conductor : Result ℕ Cause) (same : ℕ → Result (Unit {0}) Cause) (simples shape : Result (Unit {0}) Cause) (next : ℕ → Result (Unit {0}) Cause)
+    → ((conductor >>= λ k. same k >>= λ stated. simples >>= λ few. shape >>= λ shaped. Ok k) >>= next)
+    ≡ (conductor >>= λ k. same k >>= λ stated. simples >>= λ few. shape >>= λ shaped. next k)
+split_conductor (Ok k) same simples shape next = split_stated (same k) simples shape k next
+split_conductor (Err cause) same simples shape next = refl
+
 verify_parts : (w : Cochain) (given : Given) → verify_step w given ≡ (conductor_step w >>= λ k. after_conductor w given k)
-unfolding verify_step after_conductor after_stated after_simples after_shape
-verify_parts w given = refl
+unfolding verify_step matching_step after_conductor after_stated after_simples after_shape
+verify_parts w given =
+    split_conductor (conductor_step w) (λ k. stated_step given.conductor k) (simples_step (sum (class_ranks w))) (shape_step w.group given.blocks) (λ k. tables_step w k given.blocks)
 
 shaped_refuses : (d : Document) (cause : Cause) → IsShaped d → after_shape (exponents_of d) (given_in d).conductor (given_in d) ≡ Err cause → RowsRefuse d cause
 unfolding after_shape

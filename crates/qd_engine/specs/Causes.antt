@@ -1,5 +1,5 @@
 -- What each answer of the program means: for each one, what holds where it comes.
-use Rattle.std.specs.Prelude.{◌≡◌, ◌≢◌, ℕ, ◌<◌, ◌≤◌, List, length, sum, Option, Some, None, IsSome, ⊤}
+use Rattle.std.specs.Prelude.{◌≡◌, ◌≢◌, ℕ, ◌<◌, ◌≤◌, List, length, sum, Option, Some, None, IsSome, ⊤, ◌⊎◌}
 use Rattle.std.specs.Io.KnownBytes.{Appends}
 use Rattle.qd_io.specs.declared.reading.TheConstants.{INPUT_LIMIT}
 use Rattle.qd_text.specs.Tokens.{tokens}
@@ -17,8 +17,11 @@ use Rattle.table_check.specs.Good.{IsGood}
 use Rattle.data_print.specs.declared.cause.Cause.{Cause}
 use Rattle.data_print.specs.declared.cause.Cause.TheVariants as causes
 use Rattle.qd_engine.specs.Documents.{form_of, table_of, exponents_of, given_in, root_order}
-use Rattle.qd_engine.specs.Shape.{shape_fault, IsMatched}
-use Rattle.qd_engine.specs.Tables.{class_twist, class_table, tables_cause}
+use Rattle.qd_engine.specs.Shape.{shape_fault}
+use Rattle.qd_steps.specs.Matched.{IsMatched}
+use Rattle.qd_steps.specs.Tables.{class_twist, class_table, tables_cause, simples_over}
+use Rattle.qd_ring.specs.declared.site.Site.{Site}
+use Rattle.modular_st.specs.Numerators.{IsOverflow}
 use Rattle.qd_engine.specs.Plan.{most_simples}
 use Rattle.qd_engine.specs.Report.{class_ranks, report_of}
 use Rattle.qd_engine.specs.Answers.{status_of}
@@ -85,6 +88,21 @@ pub record IsVerified (document : Document) : Type 0 where
   pub good : (c : ℕ) → c < length (representatives (table_of document))
       → IsGood (class_twist (exponents_of document) c) (class_table (given_in document).conductor (given_in document).blocks c)
 
+-- by the rows that a document gives, the numerator of S at this site overflows
+abbrev pub OverflowsIn : Document → Site → Type 0
+OverflowsIn document site = IsOverflow (given_in document).conductor (simples_over (exponents_of document) (given_in document).blocks) site
+
+-- the same for a command; only `verify` adds up S
+abbrev pub OverflowsFor : Command → Document → Site → Type 0
+OverflowsFor Verify document site = OverflowsIn document site
+OverflowsFor command document site = ⊥
+
+-- the rows are good tables, and S overflows
+pub record IsOver (site : Site) (document : Document) : Type 0 where
+  pub lawful : IsLawful document
+  pub verified : IsVerified document
+  pub overflows : OverflowsIn document site
+
 -- a fact about the document of the command `verify`
 abbrev pub OfVerify : List (List ℕ) → Option (List ℕ) → (Document → Type 0) → Type 0
 OfVerify words left P = (command_of words ≡ Some Verify) × OfInput left (λ bytes. IsDocument Verify bytes × P (document_in Verify bytes))
@@ -118,7 +136,7 @@ Means words left failed (Count at rows rank) = OfVerify words left (IsMissed (ca
 Means words left failed (Identity name at i j x left_side right_side) = OfVerify words left (IsMissed (causes.Identity name at i j x left_side right_side))
 Means words left failed (NoTwist at row value) = OfVerify words left (IsMissed (causes.NoTwist at row value))
 Means words left failed (NoVacuum rows) = OfVerify words left (IsMissed (causes.NoVacuum rows))
-Means words left failed (Overflow site) = OfVerify words left (IsMissed (causes.Overflow site))
+Means words left failed (Overflow site) = OfVerify words left (λ document. IsMissed (causes.Overflow site) document ⊎ IsOver site document)
 Means words left failed Done =
     OfCommand words left (λ command bytes. IsDocument command bytes × IsLawful (document_in command bytes)
     × (command ≡ Verify → IsVerified (document_in command bytes)))

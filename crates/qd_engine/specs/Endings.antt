@@ -1,12 +1,16 @@
 -- What the program has to say, and how it ends by writing that.
-use Rattle.std.specs.Prelude.{◌≡◌, ℕ, ◌<◌, List, length, Option, Result, Ok, Err, ⊤, ◌⊎◌}
+use Rattle.std.specs.Prelude.{◌≡◌, ℕ, ◌<◌, List, length, Option, Some, Result, Ok, Err, ⊤, ◌⊎◌}
 use Rattle.std.specs.Global.{Vec}
 use Rattle.std.specs.Io.KnownBytes.{Appends}
 use Rattle.qd_io.specs.Stream.{AppendsFront, HasRoom, TakesUpTo, TakesOver}
 use Rattle.qd_engine.specs.Plan.{plan}
 use Rattle.data_print.specs.Lines.{line_of, memory_line}
 use Rattle.qd_engine.specs.Answers.{why_of, why_of_cause, status_of}
-use Rattle.qd_engine.specs.Causes.{Agrees, OfInput, Means}
+use Rattle.qd_engine.specs.Words.{command_of}
+use Rattle.qd_engine.specs.Follows.{IsOverflowAt}
+use Rattle.qd_engine.specs.Causes.{Agrees, OfInput, OverflowsIn, document_in, Means}
+use Rattle.qd_ring.specs.declared.site.Site.{Site}
+use Rattle.qd_engine.specs.declared.command.Command.TheVariants.{Verify}
 use Rattle.qd_engine.specs.declared.answer.Why.{Why}
 use Rattle.qd_engine.specs.declared.answer.Why.TheVariants as whys
 use Rattle.qd_engine.specs.declared.answer.Outcome.{Outcome}
@@ -17,10 +21,18 @@ use Rattle.qd_engine.specs.declared.stop.Stop.{Stop}
 use Rattle.qd_engine.specs.declared.stop.Stop.TheVariants as stops
 use Rattle.qd_io.specs.declared.reading.TheConstants.{INPUT_LIMIT}
 
--- a cause of a refusal: the source failed, or the plan refuses the input so
+-- for `verify`, S overflows at this site
+abbrev pub Overflows : List (List ℕ) → List ℕ → Site → Type 0
+Overflows words bytes site = (command_of words ≡ Some Verify) × OverflowsIn (document_in Verify bytes) site
+
+-- the plan refuses the input so, or S overflows where the plan gives a report
+abbrev pub RefusedSo : List (List ℕ) → List ℕ → Cause → Type 0
+RefusedSo words bytes cause = (plan words bytes ≡ Err cause) ⊎ ((report : List ℕ) × (plan words bytes ≡ Ok report) × IsOverflowAt (Overflows words bytes) cause)
+
+-- a cause of a refusal: the source failed, or the input is refused so
 abbrev pub IsCause : List (List ℕ) → Option (List ℕ) → Type 0 → Cause → Type 0
 IsCause words left failed Read = Means words left failed whys.Read
-IsCause words left failed cause = OfInput left (λ bytes. plan words bytes ≡ Err cause)
+IsCause words left failed cause = OfInput left (λ bytes. RefusedSo words bytes cause)
 
 -- what the program has to say, and its text
 abbrev pub Says : List (List ℕ) → Option (List ℕ) → Type 0 → Outcome → List ℕ → Type 0
@@ -71,10 +83,10 @@ abbrev pub EndsSaying : List (List ℕ) → Option (List ℕ) → Type 0 → Wri
 EndsSaying words left source_failed writing sink_failed why =
     (outcome : Outcome) × (text : List ℕ) × Says words left source_failed outcome text × Ends writing sink_failed why outcome text
 
--- what the plan gives is what the program answers, or it has no memory
-abbrev pub Decides : Result (List ℕ) Cause → Why → Type 0
-Decides (Ok text) why = (why ≡ whys.Done) ⊎ (why ≡ whys.Memory)
-Decides (Err cause) why = (why ≡ why_of_cause cause) ⊎ (why ≡ whys.Memory)
+-- What the plan gives is what the program answers, or it has no memory; in place of a report it may answer a site which overflows.
+abbrev pub Decides : (Site → Type 0) → Result (List ℕ) Cause → Why → Type 0
+Decides overflows (Ok text) why = (why ≡ whys.Done) ⊎ ((why ≡ whys.Memory) ⊎ ((site : Site) × (why ≡ whys.Overflow site) × overflows site))
+Decides overflows (Err cause) why = (why ≡ why_of_cause cause) ⊎ (why ≡ whys.Memory)
 
 -- what was prepared is said: the report, the line of the refusal, or that there was no memory
 abbrev pub SaysPrepared : Result (Vec ℕ) Stop → Writing → Type 0 → Why → Type 0

@@ -1,7 +1,6 @@
 pub mod Words
 pub mod Documents
 pub mod Shape
-pub mod Tables
 pub mod Report
 pub mod Plan
 pub mod Follows

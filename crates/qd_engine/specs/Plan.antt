@@ -16,8 +16,8 @@ use Rattle.cyclotomic.specs.Conductors.{least_conductor}
 use Rattle.qd_engine.specs.Words.{command_of}
 use Rattle.qd_engine.specs.Documents.{form_of, table_of, exponents_of, root_order}
 use Rattle.qd_engine.specs.Shape.{shape_fault}
-use Rattle.qd_engine.specs.Tables.{class_twist, class_table, table_cause, tables_cause}
-use Rattle.qd_engine.specs.Report.{class_ranks, report_of}
+use Rattle.qd_steps.specs.Tables.{tables_cause, simples_over}
+use Rattle.qd_engine.specs.Report.{class_ranks, numbers_text, rows_report, report_of}
 use Rattle.qd_engine.specs.declared.command.Command.{Command}
 use Rattle.qd_engine.specs.declared.command.Command.TheVariants.{Check, Classes, Verify}
 use Rattle.data_print.specs.declared.cause.Cause.{Cause}
@@ -87,24 +87,38 @@ simples_step ranks = if nat_le ranks most_simples then Ok tt else Err (Simples r
 abbrev pub shape_step : Table → List Block → Result (Unit {0}) Cause
 shape_step t blocks = unless Shape (shape_fault t blocks) tt
 
--- the table of the class with the number c misses nothing
-abbrev pub table_step : Cochain → ℕ → List Block → ℕ → Result (Unit {0}) Cause
-table_step w k blocks c = unless (λ cause. cause) (table_cause (class_twist w c) (class_table k blocks c)) tt
-
 -- the table of each class misses nothing
 abbrev pub tables_step : Cochain → ℕ → List Block → Result (Unit {0}) Cause
 tables_step w k blocks = unless (λ cause. cause) (tables_cause w k blocks) tt
 
--- what `verify` tests of the rows that are given
-unfoldable pub verify_step : Cochain → Given → Result (Unit {0}) Cause
-verify_step w given = do
+-- the lines of the simples and of their matrix S, where the table of each class misses nothing
+abbrev pub numbers_step : Cochain → ℕ → List Block → Result (List ℕ) Cause
+numbers_step w k blocks = do
+  tested ← tables_step w k blocks
+  Ok (numbers_text k (simples_over w blocks))
+
+-- what `verify` tests before the tables, from which it has the conductor
+unfoldable pub matching_step : Cochain → Given → Result ℕ Cause
+matching_step w given = do
   k ← conductor_step w
   stated ← stated_step given.conductor k
   few ← simples_step (sum (class_ranks w))
   shaped ← shape_step w.group given.blocks
+  Ok k
+
+-- what `verify` tests of the rows that are given
+unfoldable pub verify_step : Cochain → Given → Result (Unit {0}) Cause
+verify_step w given = do
+  k ← matching_step w given
   tables_step w k given.blocks
 
--- the same of what a document gives. One with characters gives rows, so its first line is never met
+-- the report on the rows that are given
+unfoldable pub rows_step : Cochain → Given → Result (List ℕ) Cause
+rows_step w given = do
+  tested ← verify_step w given
+  Ok (rows_report w given)
+
+-- what is tested of what a document gives. One with characters gives rows, so its first line is never met
 abbrev pub characters_step : Cochain → Option Given → Result (Unit {0}) Cause
 characters_step w None = Ok tt
 characters_step w (Some given) = verify_step w given
@@ -115,6 +129,12 @@ command_step Check document w = Ok tt
 command_step Classes document w = Ok tt
 command_step Verify document w = characters_step w document.characters
 
+-- from the cocycle to the report
+unfoldable pub report_step : Command → Document → Cochain → Result (List ℕ) Cause
+report_step command document w = do
+  tested ← command_step command document w
+  Ok (report_of command document w)
+
 -- from the input to the report
 unfoldable pub answer_to : Command → List ℕ → Result (List ℕ) Cause
 answer_to command bytes = do
@@ -122,10 +142,10 @@ answer_to command bytes = do
   document ← document_step (form_of command) input
   group ← group_step document
   w ← cocycle_step document
-  tested ← command_step command document w
-  Ok (report_of command document w)
+  report_step command document w
 
--- from the words and the input to the report, or the first cause of a refusal
+-- From the words and the input to the report, or the first cause of a refusal. Whether S overflows is no step here: past these the answer
+-- may be such a site in place of the report.
 unfoldable pub plan : List (List ℕ) → List ℕ → Result (List ℕ) Cause
 plan words bytes = do
   command ← asked (command_of words)

@@ -1,5 +1,5 @@
 -- How blocks of rows match the conjugacy classes of a group: one for each class, in order.
-use Rattle.std.specs.Prelude.{◌≡◌, ℕ, ◌<◌, ◌==◌, List, length, Option, Some, None, if◌then◌else◌}
+use Rattle.std.specs.Prelude.{ℕ, ◌==◌, List, length, Option, Some, None, if◌then◌else◌}
 use Rattle.scan.specs.First.{first, option_or}
 use Rattle.group_table.specs.Group.{Table}
 use Rattle.classes.specs.Conjugacy.{representatives, representative_at, centraliser_of}
@@ -37,10 +37,3 @@ width_fault t blocks = first (length blocks) (width_fault_in t blocks)
 -- the first way in which the blocks don't match the classes, at its least place
 unfoldable pub shape_fault : Table → List Block → Option ShapeFault
 shape_fault t blocks = option_or (blocks_fault t blocks) (option_or (representative_fault t blocks) (width_fault t blocks))
-
--- the blocks match the classes
-pub record IsMatched (t : Table) (blocks : List Block) : Type 0 where
-  pub count : length blocks ≡ length (representatives t)
-  pub representative : (b : ℕ) → b < length blocks → (block_at blocks b).representative ≡ representative_at t b
-  pub width : (b r : ℕ) → b < length blocks → r < length (block_at blocks b).rows
-      → length (row_at (block_at blocks b).rows r) ≡ length (centraliser_of t (representative_at t b))

@@ -5,12 +5,12 @@ mod answer;
 mod command;
 mod finish;
 mod input;
+mod numbers;
 mod ranks;
 mod running;
 mod shape;
 mod steps;
 mod stop;
-mod tables;
 mod verify;
 
 pub use answer::{Answer, Why};

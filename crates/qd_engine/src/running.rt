@@ -8,7 +8,8 @@ ghost use Rattle.qd_engine.specs.Answers.{status_of};
 ghost use Rattle.qd_engine.specs.Causes.{Comes, IsDone};
 ghost use Rattle.qd_engine.specs.Acceptable.{IsAcceptable};
 ghost use Rattle.qd_engine.specs.declared.answer.Why.{Why};
-ghost use Rattle.qd_engine.specs.Endings.{Prepares, Takes, TakesFor, SaysPrepared, EndsSaying, Decides};
+ghost use Rattle.qd_engine.specs.Endings.{Prepares, Takes, TakesFor, SaysPrepared, EndsSaying, Overflows, Decides};
+ghost use Rattle.qd_ring.specs.declared.site.Site.{Site};
 
 use crate::answer::{Answer, Outcome};
 use crate::command::command_of;
@@ -88,19 +89,20 @@ pub fn run<S: Source, W: Sink>(
         (record { before = W.written sink.old; after = W.written sink.new; room = W.room sink.old })
         (Rises (W.faults sink.old) (W.faults sink.new)) result.why }
 
-    // Where the input is known and nothing fails, the answer is what the plan gives, or that there was no memory. So an
-    // acceptable input has its report; a sink that promises room for a report takes it.
+    // Where the input is known and nothing fails, the answer is what the plan gives, or that there was no memory; for `verify` it may be
+    // a site at which S overflows, in place of a report. So an acceptable input has its report; a sink that promises room takes it.
     ensures decided { (bytes : List ℕ) → S.left source.old ≡ Some bytes
         → (Rises (S.faults source.old) (S.faults source.new) → ⊥)
         → (Rises (W.faults sink.old) (W.faults sink.new) → ⊥)
-        → Decides (plan (texts words.now.items) bytes) result.why }
+        → Decides (Overflows (texts words.now.items) bytes) (plan (texts words.now.items) bytes) result.why }
     ensures complete { (bytes : List ℕ) → S.left source.old ≡ Some bytes
         → (Rises (S.faults source.old) (S.faults source.new) → ⊥)
         → (Rises (W.faults sink.old) (W.faults sink.new) → ⊥)
         → IsAcceptable (texts words.now.items) bytes → (result.why ≡ Why.Done) ⊎ (result.why ≡ Why.Memory) }
     ensures roomy { (bytes report : List ℕ) → S.left source.old ≡ Some bytes
         → (Rises (S.faults source.old) (S.faults source.new) → ⊥)
-        → plan (texts words.now.items) bytes ≡ Ok report → HasRoom (W.room sink.old) report
+        → plan (texts words.now.items) bytes ≡ Ok report → ((site : Site) → Overflows (texts words.now.items) bytes site → ⊥)
+        → HasRoom (W.room sink.old) report
         → (result.why ≡ Why.Done) ⊎ (result.why ≡ Why.Memory) }
 
     // What becomes of the source.

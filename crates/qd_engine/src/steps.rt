@@ -4,11 +4,13 @@ ghost use Rattle.std.specs.Prelude.{◌≡◌, ◌≤◌, length, ◌++◌, ℕ,
 ghost use Rattle.std.specs.Global.{Vec};
 ghost use Rattle.qd_doc.specs.Contents.{IsInRange};
 ghost use Rattle.qd_io.specs.declared.reading.TheConstants.{INPUT_LIMIT};
+ghost use Rattle.data_print.specs.Head.{head_of};
 ghost use Rattle.data_print.specs.ClassLines.{classes_text};
-ghost use Rattle.qd_engine.specs.Documents.{form_of, table_of, given_in};
-ghost use Rattle.qd_engine.specs.Report.{class_ranks, conductor_line, report_of};
-ghost use Rattle.qd_engine.specs.Plan.{document_step, group_step, cocycle_step, command_step, answer_to};
-ghost use Rattle.qd_engine.specs.Follows.{Follows};
+ghost use Rattle.qd_engine.specs.Documents.{form_of, table_of, exponents_of};
+ghost use Rattle.qd_engine.specs.Report.{class_ranks, end_line};
+ghost use Rattle.qd_engine.specs.Plan.{document_step, group_step, cocycle_step, report_step, answer_to};
+ghost use Rattle.qd_engine.specs.Causes.{document_in, OverflowsFor};
+ghost use Rattle.qd_engine.specs.Follows.{Follows, FollowsUnless};
 
 use crate::command::Command;
 use crate::ranks::class_ranks;
@@ -68,35 +70,12 @@ fn cocycle(alloc: Global, group: Group, document: &Document) -> Result<Cocycle, 
     requires shaped { IsInRange document.now }
     requires group { group ≡ table_of document.now }
     ensures follows { Follows (λ w. w) result (cocycle_step document.now) }
+    ensures exponents { IfOk result (λ w. w ≡ exponents_of document.now) }
 {
     match Cocycle::from_exponents(alloc, group, document.roots, &document.exponents) {
         Ok(cocycle) => Ok(cocycle),
         Err(CocycleRefusal::Fault(fault)) => Err(Stop::Refused(Cause::Cocycle(fault))),
         Err(CocycleRefusal::Memory) => Err(Stop::Memory),
-    }
-}
-
-/// What a command tests after the cocycle.
-fn test(alloc: Global, command: Command, document: &Document, w: &Cocycle) -> Result<(), Stop>
-    requires shaped { IsInRange document.now }
-    ensures follows { Follows (λ done. tt) result (command_step command document.now w.now) }
-{
-    match command {
-        Command::Check | Command::Classes => Ok(()),
-        Command::Verify => match &document.characters {
-            None => Ok(()),
-            Some(given) => verify(alloc, w, given),
-        },
-    }
-}
-
-/// The conductor that a document states; 0 where it gives no rows.
-fn stated_conductor(document: &Document) -> u32
-    ensures stated { result ≡ (given_in document.now).conductor }
-{
-    match &document.characters {
-        None => 0,
-        Some(given) => given.conductor,
     }
 }
 
@@ -109,58 +88,52 @@ fn append_ranked_classes(alloc: Global, out: &mut Vec<u8>, w: &Cocycle) -> Resul
     append_classes(out, &classes, &ranks)
 }
 
-/// Adds the line of a conductor.
-fn append_conductor(out: &mut Vec<u8>, k: u32) -> Result<(), AllocError>
-    ensures added { OnOk result (out.new.items ≡ out.old.items ++ conductor_line k) }
-{
-    let alloc = *out.allocator();
-    let text = format!(in alloc; "conductor {k}\n")?;
-    out.extend_from_slice(text.as_bytes())
-}
-
-/// Adds the lines of the classes, and that of the conductor that a document states.
-fn append_verified(
-    alloc: Global,
-    out: &mut Vec<u8>,
-    document: &Document,
-    w: &Cocycle,
-) -> Result<(), AllocError>
-    ensures added { OnOk result (out.new.items
-        ≡ out.old.items ++ (classes_text w.now.group (class_ranks w.now) ++ conductor_line (given_in document.now).conductor)) }
-{
-    append_ranked_classes(alloc, out, w)?;
-    append_conductor(out, stated_conductor(document))
-}
-
-/// The report of a command on a document and its cocycle.
-fn report(
-    alloc: Global,
-    command: Command,
-    document: &Document,
-    w: &Cocycle,
-) -> Result<Vec<u8>, AllocError>
-    ensures report { IfOk result (λ text. text.items ≡ report_of command document.now w.now) }
+/// The report of `check`.
+fn head_report(alloc: Global, w: &Cocycle) -> Result<Vec<u8>, AllocError>
+    ensures report { IfOk result (λ text. text.items ≡ head_of w.now ++ end_line) }
 {
     let mut text = Vec::new(alloc);
     append_head(&mut text, w)?;
-    match command {
-        Command::Check => {}
-        Command::Classes => append_ranked_classes(alloc, &mut text, w)?,
-        Command::Verify => append_verified(alloc, &mut text, document, w)?,
-    }
     text.extend_from_slice(b"end\n")?;
     Ok(text)
 }
 
-/// The report of a command on the bytes that came, or the first cause of a refusal.
-#[tactic(auto, unfolding(crate::specs::Plan::answer_to))]
+/// The report of `classes`.
+fn classes_report(alloc: Global, w: &Cocycle) -> Result<Vec<u8>, AllocError>
+    ensures report { IfOk result (λ text. text.items ≡ head_of w.now ++ (classes_text w.now.group (class_ranks w.now) ++ end_line)) }
+{
+    let mut text = Vec::new(alloc);
+    append_head(&mut text, w)?;
+    append_ranked_classes(alloc, &mut text, w)?;
+    text.extend_from_slice(b"end\n")?;
+    Ok(text)
+}
+
+/// The report of a command on a document and its cocycle, or why there is none.
+#[tactic(auto, unfolding(crate::specs::Plan::report_step, crate::specs::Plan::rows_step))]
+fn report(alloc: Global, command: Command, document: &Document, w: Cocycle) -> Result<Vec<u8>, Stop>
+    requires shaped { IsInRange document.now }
+    requires cocycle { w ≡ exponents_of document.now }
+    ensures follows { FollowsUnless (OverflowsFor command document.now) (λ (text : Vec ℕ). text.items) result (report_step command document.now w) }
+{
+    match command {
+        Command::Check => Ok(head_report(alloc, &w)?),
+        Command::Classes => Ok(classes_report(alloc, &w)?),
+        Command::Verify => match &document.characters {
+            None => Ok(head_report(alloc, &w)?),
+            Some(given) => verify(alloc, w, given),
+        },
+    }
+}
+
+/// The report of a command on the bytes that came, or why there is none.
 pub fn answer_to(alloc: Global, command: Command, bytes: &Vec<u8>) -> Result<Vec<u8>, Stop>
     requires limit { vec_len bytes.now ≤ INPUT_LIMIT }
-    ensures follows { Follows (λ (text : Vec ℕ). text.items) result (answer_to command bytes.now.items) }
+    ensures follows { FollowsUnless (OverflowsFor command (document_in command bytes.now.items)) (λ (text : Vec ℕ). text.items) result
+        (answer_to command bytes.now.items) }
 {
     let document = document(alloc, bytes, form_of(command))?;
     let group = group(alloc, &document)?;
     let w = cocycle(alloc, group, &document)?;
-    test(alloc, command, &document, &w)?;
-    Ok(report(alloc, command, &document, &w)?)
+    report(alloc, command, &document, w)
 }

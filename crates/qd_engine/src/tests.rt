@@ -15,10 +15,16 @@ const CLASSES: &str = "group order 2 identity 0 exponent 2\ncocycle roots 2\n\
     class 0 at 0 size 1 centraliser 2 rank 2\nclass 1 at 1 size 1 centraliser 2 rank 2\nsimples 4\nend\n";
 
 const VERIFIED: &str = "group order 2 identity 0 exponent 2\ncocycle roots 2\n\
-    class 0 at 0 size 1 centraliser 2 rank 2\nclass 1 at 1 size 1 centraliser 2 rank 2\nsimples 4\nconductor 4\nend\n";
+    class 0 at 0 size 1 centraliser 2 rank 2\nclass 1 at 1 size 1 centraliser 2 rank 2\nsimples 4\nconductor 4\n\
+    simple 0 class 0 degree 1 dimension 1 twist 0\nchi 0 1 1\nsimple 1 class 0 degree 1 dimension 1 twist 0\nchi 1 1 -1\n\
+    simple 2 class 1 degree 1 dimension 1 twist 3\nchi 2 1 -1z1\nsimple 3 class 1 degree 1 dimension 1 twist 1\nchi 3 1 1z1\n\
+    S over 2\nS 0 1 1 1 1\nS 1 1 1 -1 -1\nS 2 1 -1 -1 1\nS 3 1 -1 1 -1\nend\n";
 
 const VERIFIED_TRIVIAL: &str = "group order 2 identity 0 exponent 2\ncocycle roots 1\n\
-    class 0 at 0 size 1 centraliser 2 rank 2\nclass 1 at 1 size 1 centraliser 2 rank 2\nsimples 4\nconductor 4\nend\n";
+    class 0 at 0 size 1 centraliser 2 rank 2\nclass 1 at 1 size 1 centraliser 2 rank 2\nsimples 4\nconductor 4\n\
+    simple 0 class 0 degree 1 dimension 1 twist 0\nchi 0 1 1\nsimple 1 class 0 degree 1 dimension 1 twist 0\nchi 1 1 -1\n\
+    simple 2 class 1 degree 1 dimension 1 twist 2\nchi 2 1 -1\nsimple 3 class 1 degree 1 dimension 1 twist 0\nchi 3 1 1\n\
+    S over 2\nS 0 1 1 1 1\nS 1 1 1 -1 -1\nS 2 1 -1 1 -1\nS 3 1 -1 -1 1\nend\n";
 
 /// The document of the group of order two, with its cocycle that isn't trivial and then with the trivial one, up to the rows that it gives.
 const TWISTED: &str =

@@ -1,7 +1,0 @@
-use Rattle.std.proofs.Common.{◌≡◌, take}
-use Rattle.qd_doc.specs.Blocks.{block_at}
-use Rattle.qd_engine.proofs.tables.rows_of.Given as goal
-
--- the rows before row r
-abbrev pub invariant-loop-r : goal.invariant-loop-r
-invariant-loop-r g l = l.rows ≡ take l.r (block_at l.blocks l.b).rows
