@@ -1,5 +1,5 @@
 -- Finite sums in a commutative ring (textbook).
-use Rattle.std.specs.Prelude.{ℕ, zero, suc, Bool, true, false, List, [], ◌∷◌}
+use Rattle.std.specs.Prelude.{◌≡◌, ◌≤◌, ℕ, zero, suc, Bool, true, false, List, [], ◌∷◌}
 use Rattle.algebra.specs.Structures.{CommRing}
 
 module _ {A : Type 0} (R : CommRing A) where
@@ -27,3 +27,7 @@ module _ {A : Type 0} (R : CommRing A) where
   unfoldable pub sum_list : List A → A
   sum_list [] = R.nought
   sum_list (x ∷ xs) = R.add x (sum_list xs)
+
+-- only nought has a multiple by a whole number from 1 on that is nought (textbook)
+pub record IsTorsionFree {A : Type 0} (R : CommRing A) : Type 0 where
+  pub cancel : (n : ℕ) (x : A) → 1 ≤ n → multiple R n x ≡ R.nought → x ≡ R.nought

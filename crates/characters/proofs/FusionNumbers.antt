@@ -2,14 +2,14 @@
 use Rattle.characters.proofs.OrthogonalityLaws.{of_whole}
 use Rattle.std.proofs.Common.{◌≡◌, ℕ, sym, ◌∙◌, ap}
 use mathlib.Core.Path.{ap₂}
-use Rattle.algebra.specs.Sums.{pick, multiple}
+use Rattle.algebra.specs.Sums.{IsTorsionFree, pick, multiple}
 use Rattle.algebra.specs.Totals.{Finite, equals, total}
 use Rattle.algebra.proofs.RingLaws.{product_rules, mul_left_comm}
 use Rattle.algebra.proofs.SumLaws.{pick_map, multiple_map, mul_multiple, multiple_mul, mul_pick}
 use Rattle.algebra.proofs.TotalLaws.{total_ext, total_exchange, total_pick, mul_total, total_mul, total_map}
 use Rattle.characters.specs.Setting.{Setting, Classes, Commuting}
 use Rattle.characters.specs.Simples.{Simples}
-use Rattle.characters.specs.Tables.{IsTorsionFree, group_order, GoodTables}
+use Rattle.characters.specs.Tables.{group_order, GoodTables}
 use Rattle.characters.specs.FullCharacters.{in_class, full_character}
 use Rattle.characters.specs.SMatrix.{s_sum, dimension}
 use Rattle.characters.specs.Fusion.{tensor_character, fusion_sum, AreFusionNumbers}

@@ -2,7 +2,7 @@
 use Rattle.std.proofs.Common.{◌≡◌, ℕ, ◌≤◌, Bool, true, false, refl, sym, ◌∙◌, ap}
 use mathlib.Core.Path.{ap₂}
 use Rattle.algebra.specs.Structures.{CommRing}
-use Rattle.algebra.specs.Sums.{pick, multiple}
+use Rattle.algebra.specs.Sums.{IsTorsionFree, pick, multiple}
 use Rattle.algebra.specs.Totals.{Finite, equals, total}
 use Rattle.algebra.specs.Groups.{conj}
 use Rattle.algebra.proofs.RingLaws.{mul_nought, nought_mul, neg_unique, neg_neg}
@@ -12,7 +12,7 @@ use Rattle.algebra.proofs.TotalLaws.{total_ext, total_exchange, total_pick, tota
 use Rattle.characters.specs.Setting.{Setting, Classes, commute}
 use Rattle.characters.specs.PhaseRoots.{slant_root, transport_root}
 use Rattle.characters.specs.Simples.{Simples}
-use Rattle.characters.specs.Tables.{IsTorsionFree, group_order, centraliser_order, centraliser_product, GoodTable, GoodTables}
+use Rattle.characters.specs.Tables.{group_order, centraliser_order, centraliser_product, GoodTable, GoodTables}
 use Rattle.characters.specs.Pairs.{inner_product}
 use Rattle.characters.specs.FullCharacters.{in_class, full_character}
 use Rattle.characters.proofs.SettingLaws.{same_test, commute_of, commute_true, commute_symmetric, commute_conj, slant_root_bar, transport_root_bar, cancel_pair, one_commutes}

@@ -1,7 +1,7 @@
 -- The relations of S and T.
 use Rattle.std.proofs.Common.{◌≡◌, refl, sym, ◌∙◌, ap}
 use mathlib.Core.Path.{ap₂}
-use Rattle.algebra.specs.Sums.{pick}
+use Rattle.algebra.specs.Sums.{IsTorsionFree, pick}
 use Rattle.algebra.specs.Totals.{Finite, equals, total}
 use Rattle.algebra.proofs.RingLaws.{product_rules, one_mul, mul_left_comm}
 use Rattle.algebra.proofs.SumLaws.{mul_pick, pick_mul}
@@ -12,7 +12,7 @@ use Rattle.characters.specs.Setting.{Setting, Classes, Commuting}
 use Rattle.characters.specs.PhaseRoots.{slant_root}
 use Rattle.characters.specs.Simples.{Simples}
 use Rattle.characters.specs.Twists.{AreTwists}
-use Rattle.characters.specs.Tables.{IsTorsionFree, group_order, GoodTables}
+use Rattle.characters.specs.Tables.{group_order, GoodTables}
 use Rattle.characters.specs.Pairs.{pair_sum}
 use Rattle.characters.specs.FullCharacters.{full_character}
 use Rattle.characters.specs.SMatrix.{s_sum, pair_term}

@@ -1,7 +1,7 @@
 -- Full characters at products with their own element, and at inverses.
 use Rattle.std.proofs.Common.{◌≡◌, Bool, true, false, refl, sym, ◌∙◌, ap, subst}
 use mathlib.Core.Path.{ap₂}
-use Rattle.algebra.specs.Sums.{pick, multiple}
+use Rattle.algebra.specs.Sums.{IsTorsionFree, pick, multiple}
 use Rattle.algebra.specs.Totals.{Finite, equals, total}
 use Rattle.algebra.specs.Groups.{conj}
 use Rattle.algebra.proofs.RingLaws.{product_rules, one_mul, mul_nought, mul_left_comm}
@@ -13,7 +13,7 @@ use Rattle.characters.specs.Setting.{Setting, Classes, Commuting}
 use Rattle.characters.specs.PhaseRoots.{slant_root, transport_root, conjugation_root}
 use Rattle.characters.specs.Simples.{Simples}
 use Rattle.characters.specs.Twists.{AreTwists}
-use Rattle.characters.specs.Tables.{IsTorsionFree, centraliser_order, centraliser_product, GoodTables}
+use Rattle.characters.specs.Tables.{centraliser_order, centraliser_product, GoodTables}
 use Rattle.characters.specs.FullCharacters.{in_class, full_character}
 use Rattle.characters.proofs.ClassLaws.{carried_back}
 use Rattle.characters.proofs.SettingLaws.{same_test, commuting_conj, commuting_inv, commuting_product, cancel_unit, slant_root_bar, slant_root_swap, conjugation_root_is, transport_root_bar, transport_root_product, transport_root_of_itself, transport_root_of_one, cancel_pair}

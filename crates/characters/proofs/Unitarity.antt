@@ -1,7 +1,7 @@
 -- S is unitary.
 use Rattle.std.proofs.Common.{◌≡◌, sym, ◌∙◌, ap}
 use mathlib.Core.Path.{ap₂}
-use Rattle.algebra.specs.Sums.{pick}
+use Rattle.algebra.specs.Sums.{IsTorsionFree, pick}
 use Rattle.algebra.specs.Totals.{Finite, equals, total}
 use Rattle.algebra.specs.Groups.{conj}
 use Rattle.algebra.proofs.SumLaws.{mul_pick}
@@ -9,7 +9,7 @@ use Rattle.algebra.proofs.TotalLaws.{total_ext}
 use Rattle.characters.specs.Setting.{Setting, Classes}
 use Rattle.characters.specs.PhaseRoots.{transport_root}
 use Rattle.characters.specs.Simples.{Simples}
-use Rattle.characters.specs.Tables.{IsTorsionFree, group_order, GoodTables}
+use Rattle.characters.specs.Tables.{group_order, GoodTables}
 use Rattle.characters.specs.Pairs.{inner_product, IsCovariant}
 use Rattle.characters.specs.FullCharacters.{full_character}
 use Rattle.characters.specs.SMatrix.{s_sum, pair_term}

@@ -1,7 +1,7 @@
 -- Verlinde's formula.
 use Rattle.std.proofs.Common.{◌≡◌, ◌≤◌, ◌<◌, Bool, true, false, refl, sym, ◌∙◌, ap, subst, arith}
 use mathlib.Core.Path.{ap₂}
-use Rattle.algebra.specs.Sums.{pick, multiple}
+use Rattle.algebra.specs.Sums.{IsTorsionFree, pick, multiple}
 use Rattle.algebra.specs.Totals.{Finite, equals, total}
 use Rattle.algebra.specs.Groups.{conj}
 use Rattle.algebra.proofs.RingLaws.{product_rules, one_mul, mul_nought, nought_mul, mul_left_comm}
@@ -11,7 +11,7 @@ use Rattle.algebra.proofs.TotalLaws.{total_ext, total_exchange, total_pick, tota
 use Rattle.characters.specs.Setting.{Setting, Classes, Commuting, commute}
 use Rattle.characters.specs.PhaseRoots.{slant_root, transport_root, conjugation_root}
 use Rattle.characters.specs.Simples.{Simples}
-use Rattle.characters.specs.Tables.{IsTorsionFree, group_order, centraliser_sum, centraliser_order, centraliser_product, GoodTables}
+use Rattle.characters.specs.Tables.{group_order, centraliser_sum, centraliser_order, centraliser_product, GoodTables}
 use Rattle.characters.specs.FullCharacters.{in_class, full_character}
 use Rattle.characters.specs.SMatrix.{pair_term, s_sum, dimension}
 use Rattle.characters.specs.Fusion.{tensor_character, fusion_sum}

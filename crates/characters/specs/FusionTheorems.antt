@@ -1,12 +1,12 @@
 -- The laws of tensor products that the crate's law functions carry. As in the other laws, the ring is taken on the natural numbers, and the
 -- group and the simples on the numbers below their counts.
 use Rattle.std.specs.Prelude.{◌≡◌, ℕ}
-use Rattle.algebra.specs.Sums.{multiple}
+use Rattle.algebra.specs.Sums.{IsTorsionFree, multiple}
 use Rattle.algebra.specs.Totals.{Finite, total}
 use Rattle.algebra.specs.Below.{Below}
 use Rattle.characters.specs.Setting.{Setting, Classes, Commuting}
 use Rattle.characters.specs.Simples.{Simples}
-use Rattle.characters.specs.Tables.{IsTorsionFree, group_order, GoodTables}
+use Rattle.characters.specs.Tables.{group_order, GoodTables}
 use Rattle.characters.specs.FullCharacters.{full_character}
 use Rattle.characters.specs.SMatrix.{s_sum, dimension}
 use Rattle.characters.specs.Fusion.{tensor_character, fusion_sum, AreFusionNumbers}

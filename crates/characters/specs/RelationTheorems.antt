@@ -1,14 +1,14 @@
 -- The relations of S and T that the crate's law functions carry. As in the other laws, the ring is taken on the natural numbers, and the
 -- group and the simples on the numbers below their counts. Sums of S are the entries times the order of the group.
 use Rattle.std.specs.Prelude.{◌≡◌, ℕ}
-use Rattle.algebra.specs.Sums.{pick}
+use Rattle.algebra.specs.Sums.{IsTorsionFree, pick}
 use Rattle.algebra.specs.Totals.{Finite, equals, total}
 use Rattle.algebra.specs.Below.{Below}
 use Rattle.characters.specs.Setting.{Setting, Classes, Commuting}
 use Rattle.characters.specs.PhaseRoots.{slant_root}
 use Rattle.characters.specs.Simples.{Simples}
 use Rattle.characters.specs.Twists.{AreTwists}
-use Rattle.characters.specs.Tables.{IsTorsionFree, group_order, GoodTables}
+use Rattle.characters.specs.Tables.{group_order, GoodTables}
 use Rattle.characters.specs.FullCharacters.{full_character}
 use Rattle.characters.specs.SMatrix.{s_sum}
 

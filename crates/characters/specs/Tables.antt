@@ -1,15 +1,11 @@
 -- Good tables of projective characters.
-use Rattle.std.specs.Prelude.{◌≡◌, ℕ, ◌≤◌}
+use Rattle.std.specs.Prelude.{◌≡◌, ℕ}
 use Rattle.algebra.specs.Structures.{CommRing}
 use Rattle.algebra.specs.Sums.{pick, multiple}
 use Rattle.algebra.specs.Totals.{Finite, equals, total}
 use Rattle.characters.specs.Setting.{Setting, Classes, Commuting, commute}
 use Rattle.characters.specs.PhaseRoots.{slant_root, conjugation_root}
 use Rattle.characters.specs.Simples.{Simples}
-
--- only nought has a multiple by a whole number from 1 on that is nought (textbook)
-pub record IsTorsionFree {A : Type 0} (R : CommRing A) : Type 0 where
-  pub cancel : (n : ℕ) (x : A) → 1 ≤ n → multiple R n x ≡ R.nought → x ≡ R.nought
 
 module _ {A G : Type 0} (T : Setting A G) where
   -- the order of the group, as an element of the ring
@@ -29,8 +25,9 @@ module _ {A G : Type 0} (T : Setting A G) where
   centraliser_product a p r x =
       centraliser_sum a (λ y. T.ring.mul (slant_root T a y (T.group.op (T.group.inv y) x)) (T.ring.mul (p y) (r (T.group.op (T.group.inv y) x))))
 
--- the rows over a representative a are the characters of the simple modules of its twisted group algebra: with E_i for the element whose
--- coefficients are the conjugates of the values of i, and m for the order of the centraliser (Coste, Gannon, Ruelle 2000, and textbook)
+-- what the characters of the simple modules of the twisted group algebra of a satisfy, and what is asked of the rows over a, with E_i for
+-- the element whose coefficients are the conjugates of the values of i, and m for the order of the centraliser (Coste, Gannon, Ruelle
+-- 2000, and textbook)
 pub record GoodTable {A G S : Type 0} {T : Setting A G} {C : Classes T.group} (X : Simples T C S) (E : Finite S) (a : G) : Type 0 where
   -- the value at x^-1 is e(th_a(x, x^-1)) times the conjugate of the value at x
   pub unitary : (i : S) (x : G) → X.at i ≡ a → Commuting T x a

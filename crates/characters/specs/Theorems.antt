@@ -1,7 +1,7 @@
 -- The laws of full characters and of S that the crate's law functions carry. The ring is taken on the natural numbers, as every
 -- countably infinite one is up to names, and the group and the simples on the numbers below their counts.
 use Rattle.std.specs.Prelude.{◌≡◌, ℕ}
-use Rattle.algebra.specs.Sums.{pick}
+use Rattle.algebra.specs.Sums.{IsTorsionFree, pick}
 use Rattle.algebra.specs.Totals.{Finite, equals, total}
 use Rattle.algebra.specs.Groups.{conj}
 use Rattle.algebra.specs.Below.{Below}
@@ -9,7 +9,7 @@ use Rattle.characters.specs.Setting.{Setting, Classes, Commuting}
 use Rattle.characters.specs.PhaseRoots.{transport_root}
 use Rattle.characters.specs.Simples.{Simples, IsVacuum}
 use Rattle.characters.specs.Pairs.{inner_product, IsCovariant}
-use Rattle.characters.specs.Tables.{IsTorsionFree, group_order, centraliser_sum, centraliser_order, GoodTables}
+use Rattle.characters.specs.Tables.{group_order, centraliser_sum, centraliser_order, GoodTables}
 use Rattle.characters.specs.FullCharacters.{full_character}
 use Rattle.characters.specs.SMatrix.{pair_term, s_sum, dimension}
 

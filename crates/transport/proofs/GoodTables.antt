@@ -1,7 +1,7 @@
 -- The good tables of a cocycle's classes are good tables of its twisted quantum double.
 use Rattle.std.proofs.Common.{◌≡◌, ℕ, ◌*◌, ◌<◌, Bool, true, false, ◌==◌, length, refl, sym, ap, ap₂, ◌∙◌, arith, subst, eq-eqb}
 use Rattle.std.proofs.lemmas.List.{get_or_default}
-use Rattle.algebra.specs.Sums.{pick, multiple, sum_below}
+use Rattle.algebra.specs.Sums.{IsTorsionFree, pick, multiple, sum_below}
 use Rattle.algebra.specs.Totals.{Finite, equals, total}
 use Rattle.algebra.specs.Groups.{Group, conj}
 use Rattle.algebra.specs.Below.{Below, below_equal}
@@ -38,7 +38,7 @@ use Rattle.characters.specs.Setting.{Setting}
 use Rattle.characters.specs.PhaseRoots.{conjugation_root}
 use Rattle.characters.specs.Parts.{IsPart}
 use Rattle.characters.specs.PlaceTables.{GoodTableAtPlaces, row_product}
-use Rattle.characters.specs.Tables.{GoodTables, IsTorsionFree}
+use Rattle.characters.specs.Tables.{GoodTables}
 use Rattle.characters.specs.Simples.{IsVacuum}
 use Rattle.cyclotomic.proofs.Orthogonality.{cancel_multiple, multiple-is}
 use Rattle.twisted.proofs.Places.{place_there}
