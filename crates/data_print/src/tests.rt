@@ -84,23 +84,13 @@ fn whole(number: i128) -> Plain {
 }
 
 #[test]
-fn prints_refusals(rt: HostRuntime) -> Result<(), Fail> {
+fn prints_refusals_of_documents(rt: HostRuntime) -> Result<(), Fail> {
     let alloc = rt.alloc();
-    let product = Cause::Identity {
-        name: IdentityName::Product,
-        at: 0,
-        i: 0,
-        j: 1,
-        x: 0,
-        left: whole(2),
-        right: whole(0),
-    };
-    let site = Site {
-        part: Part::Product,
-        at: 0,
-        i: 0,
-        j: 1,
-        x: 0,
+    let width = ShapeFault::Width {
+        block: 1,
+        row: 1,
+        given: 1,
+        wanted: 2,
     };
     let rows = [
         (
@@ -121,32 +111,49 @@ fn prints_refusals(rt: HostRuntime) -> Result<(), Fail> {
             },
             "refused 6 simples 900\n",
         ),
-        (
-            Cause::Shape(ShapeFault::Width {
-                block: 1,
-                row: 1,
-                given: 1,
-                wanted: 2,
-            }),
-            "refused 9 width 1 1 1 2\n",
-        ),
-        (
-            Cause::Count {
-                at: 0,
-                rows: 1,
-                rank: 2,
-            },
-            "refused 9 count 0 1 2\n",
-        ),
+        (Cause::Shape(width), "refused 9 width 1 1 1 2\n"),
+    ];
+    for (why, wanted) in rows {
+        let mut out = Vec::new(alloc);
+        append_refusal(&mut out, &why)?;
+        assert_eq!(rt; out.as_slice(), wanted.as_bytes());
+    }
+    Ok(())
+}
+
+#[test]
+fn prints_refusals_of_tables(rt: HostRuntime) -> Result<(), Fail> {
+    let alloc = rt.alloc();
+    let count = Cause::Count {
+        at: 0,
+        rows: 1,
+        rank: 2,
+    };
+    let product = Cause::Identity {
+        name: IdentityName::Product,
+        at: 0,
+        i: 0,
+        j: 1,
+        x: 0,
+        left: whole(2),
+        right: whole(0),
+    };
+    let twist = Cause::NoTwist {
+        at: 1,
+        row: 1,
+        value: whole(2),
+    };
+    let site = Site {
+        part: Part::Product,
+        at: 0,
+        i: 0,
+        j: 1,
+        x: 0,
+    };
+    let rows = [
+        (count, "refused 9 count 0 1 2\n"),
         (product, "refused 9 product 0 0 1 0 2 0\n"),
-        (
-            Cause::NoTwist {
-                at: 1,
-                row: 1,
-                value: whole(2),
-            },
-            "refused 9 twist 1 1 2\n",
-        ),
+        (twist, "refused 9 twist 1 1 2\n"),
         (
             Cause::Overflow { site },
             "refused 11 overflow product 0 0 1 0\n",

@@ -173,79 +173,29 @@ fn characters(rt: HostRuntime) -> Result<(), Fail> {
     Ok(())
 }
 
+/// A refusal for a token that isn't what is expected.
+fn syntax(offset: u32, expected: Expected) -> DocRefusal {
+    DocRefusal::Syntax { offset, expected }
+}
+
 #[test]
-fn refusals_of_characters(rt: HostRuntime) {
+fn refusals_of_the_conductor(rt: HostRuntime) {
     for (text, refusal) in [
         (
             "qdouble 1 order 1 table 0 roots 1 omega trivial end",
-            DocRefusal::Syntax {
-                offset: 48,
-                expected: Expected::Characters,
-            },
+            syntax(48, Expected::Characters),
         ),
         (
             "qdouble 1 order 1 table 0 roots 1 omega trivial characters 5",
-            DocRefusal::Syntax {
-                offset: 59,
-                expected: Expected::Conductor,
-            },
+            syntax(59, Expected::Conductor),
         ),
         (
             "qdouble 1 order 1 table 0 roots 1 omega trivial characters class",
-            DocRefusal::Syntax {
-                offset: 59,
-                expected: Expected::Number,
-            },
+            syntax(59, Expected::Number),
         ),
         (
             "qdouble 1 order 1 table 0 roots 1 omega trivial characters 4294967296",
             DocRefusal::Wide { offset: 59 },
-        ),
-        (
-            "qdouble 1 order 1 table 0 roots 1 omega trivial characters 4 row 1 end",
-            DocRefusal::Syntax {
-                offset: 61,
-                expected: Expected::End,
-            },
-        ),
-        (
-            "qdouble 1 order 1 table 0 roots 1 omega trivial characters 4 class 0 5 end",
-            DocRefusal::Syntax {
-                offset: 69,
-                expected: Expected::End,
-            },
-        ),
-        (
-            "qdouble 1 order 1 table 0 roots 1 omega trivial characters 4 class 0 row +1 end",
-            DocRefusal::Syntax {
-                offset: 73,
-                expected: Expected::End,
-            },
-        ),
-        (
-            "qdouble 1 order 1 table 0 roots 1 omega trivial characters 4 class 0 row -x end",
-            DocRefusal::Syntax {
-                offset: 73,
-                expected: Expected::Value,
-            },
-        ),
-        (
-            "qdouble 1 order 1 table 0 roots 1 omega trivial characters 4 class 0 row 01 end",
-            DocRefusal::Syntax {
-                offset: 73,
-                expected: Expected::Value,
-            },
-        ),
-        (
-            "qdouble 1 order 1 table 0 roots 1 omega trivial characters 4 class 0 row 1329227995784915872903807060280344576z9 end",
-            DocRefusal::Syntax {
-                offset: 73,
-                expected: Expected::Value,
-            },
-        ),
-        (
-            "qdouble 1\norder 2\ntable\n0 1\n1 0\nroots 2\nomega dense\n0 0\n0 0\n0 0\n0 1\ncharacters 4\nclass 0\nrow 1 1\nrow 1 1329227995784915872903807060280344576\n",
-            DocRefusal::Wide { offset: 103 },
         ),
     ] {
         assert_eq!(rt;
@@ -258,6 +208,46 @@ fn refusals_of_characters(rt: HostRuntime) {
         read(&rt, CERT).err(),
         Some(DocRefusal::Section { offset: 68 })
     );
+}
+
+#[test]
+fn refusals_of_rows(rt: HostRuntime) {
+    for (text, refusal) in [
+        (
+            "qdouble 1 order 1 table 0 roots 1 omega trivial characters 4 row 1 end",
+            syntax(61, Expected::End),
+        ),
+        (
+            "qdouble 1 order 1 table 0 roots 1 omega trivial characters 4 class 0 5 end",
+            syntax(69, Expected::End),
+        ),
+        (
+            "qdouble 1 order 1 table 0 roots 1 omega trivial characters 4 class 0 row +1 end",
+            syntax(73, Expected::End),
+        ),
+        (
+            "qdouble 1 order 1 table 0 roots 1 omega trivial characters 4 class 0 row -x end",
+            syntax(73, Expected::Value),
+        ),
+        (
+            "qdouble 1 order 1 table 0 roots 1 omega trivial characters 4 class 0 row 01 end",
+            syntax(73, Expected::Value),
+        ),
+        (
+            "qdouble 1 order 1 table 0 roots 1 omega trivial characters 4 class 0 row 1329227995784915872903807060280344576z9 end",
+            syntax(73, Expected::Value),
+        ),
+        (
+            "qdouble 1\norder 2\ntable\n0 1\n1 0\nroots 2\nomega dense\n0 0\n0 0\n0 0\n0 1\ncharacters 4\nclass 0\nrow 1 1\nrow 1 1329227995784915872903807060280344576\n",
+            DocRefusal::Wide { offset: 103 },
+        ),
+    ] {
+        assert_eq!(rt;
+            read_as(&rt, text, Form::WithCharacters).err(),
+            Some(refusal),
+            "at {text}"
+        );
+    }
 }
 
 #[test]
