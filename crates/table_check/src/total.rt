@@ -22,7 +22,7 @@ impl<const K: u32> Total<K> {
     /// The sum of no terms.
     pub fn zero() -> Total<K>
         requires { is_conductor K ≡ true }
-        ensures { (term : ℕ → Formed K) → IsTotal term 0 (cyclotomic_value K result.sum.coefficients) result.sizes }
+        ensures none_added { (term : ℕ → Formed K) → IsTotal term 0 (cyclotomic_value K result.sum.coefficients) result.sizes }
     {
         Total {
             sum: Cyc::zero(),
@@ -52,7 +52,7 @@ impl<const K: u32> Total<K> {
 
     /// The sum, where all terms were added.
     pub fn sum(self) -> Cyc<K>
-        ensures { (term : ℕ → Formed K) (n : ℕ) → IsTotal term n (cyclotomic_value K self.entry.sum.coefficients) self.entry.sizes → Forms (listed K n term) (Some result) }
+        ensures all_added { (term : ℕ → Formed K) (n : ℕ) → IsTotal term n (cyclotomic_value K self.entry.sum.coefficients) self.entry.sizes → Forms (listed K n term) (Some result) }
     {
         self.sum
     }

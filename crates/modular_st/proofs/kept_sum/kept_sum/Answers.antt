@@ -7,4 +7,4 @@ use Rattle.modular_st.proofs.kept_sum.kept_sum.Goals as goal
 pub loop-g-init : goal.loop-g-init
 loop-g-init g c =
     let term = s_term g.row.K c.args.simples.now c.args.i c.args.j in
-    subst (λ m. IsTotal term m (cyclotomic_value g.row.K c.zero-total.result.sum.coefficients) c.zero-total.result.sizes) (omega arith) (c.zero-total.ensures term)
+    subst (λ m. IsTotal term m (cyclotomic_value g.row.K c.zero-total.result.sum.coefficients) c.zero-total.result.sizes) (omega arith) (c.zero-total.ensures.none_added term)

@@ -5,7 +5,7 @@ use Rattle.modular_st.specs.Numerators.{s_term}
 use Rattle.modular_st.proofs.numerator.sum.Goals as goal
 
 pub loop-p-init : goal.loop-p-init
-loop-p-init g c = c.zero-total.ensures (s_term g.row.K c.args.simples.now c.args.i c.args.j)
+loop-p-init g c = c.zero-total.ensures.none_added (s_term g.row.K c.args.simples.now c.args.i c.args.j)
 
 pub returns-in_default : goal.returns-in_default
 returns-in_default g c =
@@ -23,7 +23,7 @@ returns g c =
     let n = c.args.simples.now.cocycle.group.order in
     let all : c.loop-p.p ≡ c.order-order.result * c.order-order.result = omega (arith, c.loop-p-test.false, c.loop-p.auto) in
     record {
-      forms = c.sum.ensures (s_term g.row.K c.args.simples.now c.args.i c.args.j) (n * n)
+      forms = c.sum.ensures.all_added (s_term g.row.K c.args.simples.now c.args.i c.args.j) (n * n)
           (subst (λ p. IsTotal (s_term g.row.K c.args.simples.now c.args.i c.args.j) p (cyclotomic_value g.row.K c.loop-p.total.sum.coefficients) c.loop-p.total.sizes)
           (all ∙ ap (λ m. m * m) c.order-order.ensures.order) c.loop-p.invariant);
     }

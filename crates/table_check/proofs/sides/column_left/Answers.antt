@@ -6,7 +6,7 @@ use Rattle.table_check.specs.Totals.{IsTotal}
 use Rattle.table_check.proofs.sides.column_left.Goals as goal
 
 pub loop-i-init : goal.loop-i-init
-loop-i-init g c = c.zero-total.ensures (row_term c.args.table.now.over (characters_of g.row.K c.args.table.now.rows) c.args.x c.args.y)
+loop-i-init g c = c.zero-total.ensures.none_added (row_term c.args.table.now.over (characters_of g.row.K c.args.table.now.rows) c.args.x c.args.y)
 
 pub returns-in_default : goal.returns-in_default
 returns-in_default g c = record {
@@ -18,5 +18,5 @@ loop-i-preserved g c = c.in-Some.ensures.more (row_term c.args.table.now.over (c
 
 pub returns : goal.returns
 returns g c = record {
-  forms = c.sum.ensures (row_term c.args.table.now.over (characters_of g.row.K c.args.table.now.rows) c.args.x c.args.y) (length c.args.table.now.rows) (subst (λ n. IsTotal (row_term c.args.table.now.over (characters_of g.row.K c.args.table.now.rows) c.args.x c.args.y) n (cyclotomic_value g.row.K c.loop-i.total.sum.coefficients) c.loop-i.total.sizes) (omega (arith, c.rows-rows.ensures.rows, ap (λ t. length t.rows) c.candidate.ensures.candidate)) c.loop-i.invariant);
+  forms = c.sum.ensures.all_added (row_term c.args.table.now.over (characters_of g.row.K c.args.table.now.rows) c.args.x c.args.y) (length c.args.table.now.rows) (subst (λ n. IsTotal (row_term c.args.table.now.over (characters_of g.row.K c.args.table.now.rows) c.args.x c.args.y) n (cyclotomic_value g.row.K c.loop-i.total.sum.coefficients) c.loop-i.total.sizes) (omega (arith, c.rows-rows.ensures.rows, ap (λ t. length t.rows) c.candidate.ensures.candidate)) c.loop-i.invariant);
 }

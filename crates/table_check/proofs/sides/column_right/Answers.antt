@@ -6,7 +6,7 @@ use Rattle.table_check.specs.Totals.{IsTotal}
 use Rattle.table_check.proofs.sides.column_right.Goals as goal
 
 pub loop-c-init : goal.loop-c-init
-loop-c-init g c = c.zero-total.ensures (column_term c.args.table.now.over c.args.x c.args.y)
+loop-c-init g c = c.zero-total.ensures.none_added (column_term c.args.table.now.over c.args.x c.args.y)
 
 pub returns-in_default : goal.returns-in_default
 returns-in_default g c = record {
@@ -18,5 +18,5 @@ loop-c-preserved g c = c.in-Some.ensures.more (column_term c.args.table.now.over
 
 pub returns : goal.returns
 returns g c = record {
-  forms = c.sum.ensures (column_term c.args.table.now.over c.args.x c.args.y) (size c.args.table.now.over) (subst (λ n. IsTotal (column_term c.args.table.now.over c.args.x c.args.y) n (cyclotomic_value g.row.K c.loop-c.total.sum.coefficients) c.loop-c.total.sizes) (omega (arith, c.size-places.ensures.size, ap (λ t. size t) c.over.ensures.over)) c.loop-c.invariant);
+  forms = c.sum.ensures.all_added (column_term c.args.table.now.over c.args.x c.args.y) (size c.args.table.now.over) (subst (λ n. IsTotal (column_term c.args.table.now.over c.args.x c.args.y) n (cyclotomic_value g.row.K c.loop-c.total.sum.coefficients) c.loop-c.total.sizes) (omega (arith, c.size-places.ensures.size, ap (λ t. size t) c.over.ensures.over)) c.loop-c.invariant);
 }

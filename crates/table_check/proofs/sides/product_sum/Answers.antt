@@ -7,7 +7,7 @@ use Rattle.table_check.specs.Totals.{IsTotal}
 use Rattle.table_check.proofs.sides.product_sum.Goals as goal
 
 pub loop-y-init : goal.loop-y-init
-loop-y-init g c = c.zero-total.ensures (product_term c.args.table.now.over (characters_of g.row.K c.args.table.now.rows) c.args.i c.args.j c.args.x)
+loop-y-init g c = c.zero-total.ensures.none_added (product_term c.args.table.now.over (characters_of g.row.K c.args.table.now.rows) c.args.i c.args.j c.args.x)
 
 pub returns-in_default : goal.returns-in_default
 returns-in_default g c = record {
@@ -19,5 +19,5 @@ loop-y-preserved g c = c.in-Some.ensures.more (product_term c.args.table.now.ove
 
 pub returns : goal.returns
 returns g c = record {
-  forms = c.sum.ensures (product_term c.args.table.now.over (characters_of g.row.K c.args.table.now.rows) c.args.i c.args.j c.args.x) (size c.args.table.now.over) (subst (λ n. IsTotal (product_term c.args.table.now.over (characters_of g.row.K c.args.table.now.rows) c.args.i c.args.j c.args.x) n (cyclotomic_value g.row.K c.loop-y.total.sum.coefficients) c.loop-y.total.sizes) (omega (arith, c.size-places.ensures.size, ap (λ t. size t) (c.over.ensures.over ∙ ap (λ t. t.over) c.candidate.ensures.candidate))) c.loop-y.invariant);
+  forms = c.sum.ensures.all_added (product_term c.args.table.now.over (characters_of g.row.K c.args.table.now.rows) c.args.i c.args.j c.args.x) (size c.args.table.now.over) (subst (λ n. IsTotal (product_term c.args.table.now.over (characters_of g.row.K c.args.table.now.rows) c.args.i c.args.j c.args.x) n (cyclotomic_value g.row.K c.loop-y.total.sum.coefficients) c.loop-y.total.sizes) (omega (arith, c.size-places.ensures.size, ap (λ t. size t) (c.over.ensures.over ∙ ap (λ t. t.over) c.candidate.ensures.candidate))) c.loop-y.invariant);
 }

@@ -6,7 +6,7 @@ use Rattle.table_check.specs.Totals.{IsTotal}
 use Rattle.table_check.proofs.sides.sum_left.Goals as goal
 
 pub loop-i-init : goal.loop-i-init
-loop-i-init g c = c.zero-total.ensures (sum_term c.args.table.now.over (characters_of g.row.K c.args.table.now.rows) c.args.x)
+loop-i-init g c = c.zero-total.ensures.none_added (sum_term c.args.table.now.over (characters_of g.row.K c.args.table.now.rows) c.args.x)
 
 pub returns-in_default : goal.returns-in_default
 returns-in_default g c = record {
@@ -18,5 +18,5 @@ loop-i-preserved g c = c.in-Some.ensures.more (sum_term c.args.table.now.over (c
 
 pub returns : goal.returns
 returns g c = record {
-  forms = c.sum.ensures (sum_term c.args.table.now.over (characters_of g.row.K c.args.table.now.rows) c.args.x) (length c.args.table.now.rows) (subst (λ n. IsTotal (sum_term c.args.table.now.over (characters_of g.row.K c.args.table.now.rows) c.args.x) n (cyclotomic_value g.row.K c.loop-i.total.sum.coefficients) c.loop-i.total.sizes) (omega (arith, c.rows-rows.ensures.rows, ap (λ t. length t.rows) c.candidate.ensures.candidate)) c.loop-i.invariant);
+  forms = c.sum.ensures.all_added (sum_term c.args.table.now.over (characters_of g.row.K c.args.table.now.rows) c.args.x) (length c.args.table.now.rows) (subst (λ n. IsTotal (sum_term c.args.table.now.over (characters_of g.row.K c.args.table.now.rows) c.args.x) n (cyclotomic_value g.row.K c.loop-i.total.sum.coefficients) c.loop-i.total.sizes) (omega (arith, c.rows-rows.ensures.rows, ap (λ t. length t.rows) c.candidate.ensures.candidate)) c.loop-i.invariant);
 }

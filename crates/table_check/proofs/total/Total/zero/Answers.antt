@@ -4,4 +4,4 @@ use Rattle.table_check.proofs.Totals.{total_none}
 use Rattle.table_check.proofs.total.Total.zero.Goals as goal
 
 pub returns : goal.returns
-returns g c = λ term. subst (λ sum. IsTotal term 0 sum 0) (sym c.zero.ensures) (total_none term)
+returns g c = record { none_added = λ term. subst (λ sum. IsTotal term 0 sum 0) (sym c.zero.ensures) (total_none term) }
