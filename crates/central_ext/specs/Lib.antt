@@ -1,0 +1,4 @@
+pub mod Extension
+pub mod ExtensionClasses
+pub mod PowersOfUnits
+pub mod Laws
