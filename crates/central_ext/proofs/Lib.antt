@@ -1,1 +1,7 @@
 pub mod Lifts
+pub mod PairLaws
+pub mod RegularLifts
+pub mod ClassNumbers
+pub mod Carriers
+pub mod PairPowers
+pub mod AlgebraPowers

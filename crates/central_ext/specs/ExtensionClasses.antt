@@ -1,6 +1,6 @@
 -- Conjugacy in the extension of a twist, and the numbers of its classes by first appearance (the order of the pairs is this
 -- project's).
-use Rattle.std.specs.Prelude.{ℕ, ◌+◌, ◌*◌, ◌/◌, ◌%◌, Bool, ◌&&◌, ◌==◌, length, Option, Some, None, is_some, unwrap_or, if◌then◌else◌}
+use Rattle.std.specs.Prelude.{ℕ, ◌+◌, ◌*◌, ◌/◌, ◌%◌, Bool, ◌&&◌, ◌==◌, length, Some, None, is_some, unwrap_or, if◌then◌else◌}
 use Rattle.scan.specs.First.{first}
 use Rattle.group_table.specs.Numbers.{passing_below}
 use Rattle.twisted.specs.Twist.{TwistedSubgroup, size}
@@ -42,3 +42,7 @@ is_first_of_class s t = first_of_class s t == t
 -- the number of the class of the pair t, by first appearance: how many classes begin before its own
 unfoldable pub class_number : TwistedSubgroup → ℕ → ℕ
 class_number s t = length (passing_below (first_of_class s t) (is_first_of_class s))
+
+-- (c,0) carries a to b
+abbrev pub carries_to : TwistedSubgroup → Pair → Pair → ℕ → Bool
+carries_to s a b c = is_same_pair (ext_conjugate s (record { place = c; root = 0 }) a) b

@@ -1,7 +1,8 @@
-//! The group of pairs: products and inverses.
+//! The group of pairs: products, inverses and the identity.
 
 ghost use Rattle.std.specs.Prelude.{◌≡◌};
-ghost use Rattle.central_ext.specs.Extension.{IsPair, ext_product, ext_inverse};
+ghost use Rattle.twisted.specs.Twist.{IsTwist};
+ghost use Rattle.central_ext.specs.Extension.{IsPair, ext_product, ext_identity, ext_inverse};
 
 use crate::pair::Pair;
 use twisted::Twist;
@@ -32,5 +33,17 @@ pub fn ext_inverse(twist: &Twist, a: Pair) -> Pair
     Pair {
         place,
         root: (modulus - root) % modulus,
+    }
+}
+
+/// The identity of the extension.
+pub fn ext_identity(twist: &Twist) -> Pair
+    ensures identity { result ≡ ext_identity twist.now }
+    ensures pair { IsPair twist.now result }
+    ensures twist { IsTwist twist.now }
+{
+    Pair {
+        place: twist.group().identity(),
+        root: 0,
     }
 }

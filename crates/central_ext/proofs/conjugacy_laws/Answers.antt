@@ -1,0 +1,11 @@
+use Rattle.central_ext.proofs.PairLaws.{conjugate_itself, conjugate_back, conjugate_on}
+use Rattle.central_ext.proofs.ClassNumbers.{numbers_tell}
+use Rattle.central_ext.proofs.RegularLifts.{regular_exactly}
+use Rattle.central_ext.proofs.conjugacy_laws.Goals as goal
+
+pub returns : goal.returns
+returns c = record {
+  equivalence = λ s twist. (conjugate_itself s twist, conjugate_back s twist, conjugate_on s twist);
+  numbers = numbers_tell;
+  regular = regular_exactly;
+}
