@@ -5,3 +5,4 @@ pub mod ClassNumbers
 pub mod Carriers
 pub mod PairPowers
 pub mod AlgebraPowers
+pub mod InstanceChecks

@@ -44,7 +44,11 @@ fn some_carries(twist: &Twist, a: Pair, b: Pair) -> bool
 {
     first_below(
         twist.size(),
-        |c| if carries_to(twist, a, b, c) { Some(c) } else { None },
+        |c| if carries_to(twist, a, b, c) {
+            Some(c)
+        } else {
+            None
+        },
     )
     .is_some()
 }

@@ -3,11 +3,14 @@
 
 ghost use Rattle.central_ext.specs.Laws.{PairsClosed, PairsAssociate, PairsIdentity, PairsInverse, ConjugateOfPair};
 ghost use Rattle.central_ext.specs.Laws.{ConjugacyIsEquivalence, ClassNumbersTell, RegularExactly, PowerOfLift, PowerOfUnit};
+ghost use Rattle.central_ext.specs.Instances.{TwoIsTwist, PlainIsTwist, BitsIsTwist, TwoExtended, BitsExtended};
 
 mod conjugacy;
 mod extension;
 mod pair;
 mod powers;
+#[cfg(test)]
+mod tests;
 
 pub use conjugacy::{ext_classes, lifts_conjugate};
 pub use extension::{ext_inverse, ext_product};
@@ -38,4 +41,14 @@ pub fn conjugacy_laws()
 pub fn power_laws<R: Ring>(ring: &R)
     ensures lift { PowerOfLift }
     ensures unit { PowerOfUnit (R.ops ring.now) (R.unit ring.now) }
+{}
+
+/// Worked values: the cyclic group of order 4 as an extension, the product of the permutations of three points with a group of order 2,
+/// and an extension in which lifts are conjugate.
+pub fn instances()
+    ensures two { TwoIsTwist }
+    ensures plain { PlainIsTwist }
+    ensures bits { BitsIsTwist }
+    ensures two_extended { TwoExtended }
+    ensures bits_extended { BitsExtended }
 {}
