@@ -4,6 +4,7 @@ use Rattle.twisted.specs.Twist.{TwistedSubgroup, size, phase, IsTwist}
 use Rattle.orders.specs.Group.{power}
 use Rattle.orders.proofs.Powers.{power_below}
 use Rattle.group_table.proofs.Sentences.{group_below}
+use Rattle.twisted.proofs.Translation.{some_root}
 use Rattle.central_ext.specs.declared.pair.Pair.{Pair}
 use Rattle.central_ext.specs.Extension.{IsPair, ext_product, ext_identity, ext_power, place_power, power_phase}
 use Rattle.central_ext.proofs.PairLaws.{product_pair, identity_pair, product_associates, identity_product, product_identity, pair_equal}
@@ -76,3 +77,13 @@ module _ (s : TwistedSubgroup) (twist : IsTwist s) where
     where
       by : (v w : ℕ) → v + 0 + w ≡ v + w
       by v w = omega arith
+
+  pub phase_of_sum : (p i j : ℕ) → p < size s
+      → power_phase s p (i + j) ≡ (power_phase s p i + power_phase s p j + phase s (place_power s p i) (place_power s p j)) % s.modulus
+  phase_of_sum p i j below =
+      let lift : Pair = record { place = p; root = 0 } in
+      ap (λ (a : Pair). a.root)
+      (sym (power_of_lift p (i + j) below)
+      ∙ power_sum lift i j (record { place_below = below; root_below = some_root s twist })
+      ∙ ap (λ a. ext_product s a (ext_power s lift j)) (power_of_lift p i below)
+      ∙ ap (ext_product s (record { place = place_power s p i; root = power_phase s p i })) (power_of_lift p j below))

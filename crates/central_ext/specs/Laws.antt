@@ -2,7 +2,7 @@
 use Rattle.std.specs.Prelude.{◌≡◌, ℕ, ◌+◌, ◌%◌, ◌<◌, ◌↔◌, true}
 use Rattle.algebra.specs.Structures.{CommRing}
 use Rattle.algebra.specs.Roots.{RootOfUnity}
-use Rattle.twisted.specs.Twist.{TwistedSubgroup, size, IsTwist}
+use Rattle.twisted.specs.Twist.{TwistedSubgroup, size, phase, IsTwist}
 use Rattle.twisted.specs.Regular.{kappa, is_regular}
 use Rattle.twisted.specs.Algebra.{root, unit_vector}
 use Rattle.classes.specs.Conjugacy.{conjugate}
@@ -11,11 +11,17 @@ use Rattle.central_ext.specs.Extension.{IsPair, ext_product, ext_identity, ext_i
 use Rattle.central_ext.specs.ExtensionClasses.{pair_count, pair_at, ext_conjugate, are_conjugate, class_number}
 use Rattle.central_ext.specs.PowersOfUnits.{algebra_power}
 
--- products, the identity and inverses are pairs
-abbrev pub PairsClosed : Type 0
-PairsClosed =
-    (s : TwistedSubgroup) → IsTwist s
-    → ((a b : Pair) → IsPair s a → IsPair s b → IsPair s (ext_product s a b)) × IsPair s (ext_identity s) × ((a : Pair) → IsPair s a → IsPair s (ext_inverse s a))
+-- a product of pairs is a pair
+abbrev pub ProductIsPair : Type 0
+ProductIsPair = (s : TwistedSubgroup) → IsTwist s → (a b : Pair) → IsPair s a → IsPair s b → IsPair s (ext_product s a b)
+
+-- (e,0) is a pair
+abbrev pub IdentityIsPair : Type 0
+IdentityIsPair = (s : TwistedSubgroup) → IsTwist s → IsPair s (ext_identity s)
+
+-- the inverse of a pair is a pair
+abbrev pub InverseIsPair : Type 0
+InverseIsPair = (s : TwistedSubgroup) → IsTwist s → (a : Pair) → IsPair s a → IsPair s (ext_inverse s a)
 
 -- (a b) c = a (b c)
 abbrev pub PairsAssociate : Type 0
@@ -40,13 +46,20 @@ ConjugateOfPair =
     (s : TwistedSubgroup) → IsTwist s → (c a : Pair) → IsPair s c → IsPair s a
     → ext_conjugate s c a ≡ record { place = conjugate s.group c.place a.place; root = (a.root + kappa s c.place a.place) % s.modulus }
 
--- conjugacy of pairs is an equivalence
-abbrev pub ConjugacyIsEquivalence : Type 0
-ConjugacyIsEquivalence =
-    (s : TwistedSubgroup) → IsTwist s
-    → ((a : Pair) → IsPair s a → are_conjugate s a a ≡ true)
-    × ((a b : Pair) → IsPair s a → IsPair s b → are_conjugate s a b ≡ true → are_conjugate s b a ≡ true)
-    × ((a b c : Pair) → IsPair s a → IsPair s b → IsPair s c → are_conjugate s a b ≡ true → are_conjugate s b c ≡ true → are_conjugate s a c ≡ true)
+-- a pair is conjugate to itself
+abbrev pub ConjugateToItself : Type 0
+ConjugateToItself = (s : TwistedSubgroup) → IsTwist s → (a : Pair) → IsPair s a → are_conjugate s a a ≡ true
+
+-- conjugacy goes both ways
+abbrev pub ConjugateBothWays : Type 0
+ConjugateBothWays =
+    (s : TwistedSubgroup) → IsTwist s → (a b : Pair) → IsPair s a → IsPair s b → are_conjugate s a b ≡ true → are_conjugate s b a ≡ true
+
+-- and on
+abbrev pub ConjugateOnwards : Type 0
+ConjugateOnwards =
+    (s : TwistedSubgroup) → IsTwist s → (a b c : Pair) → IsPair s a → IsPair s b → IsPair s c
+    → are_conjugate s a b ≡ true → are_conjugate s b c ≡ true → are_conjugate s a c ≡ true
 
 -- two pairs have one class number exactly where they are conjugate
 abbrev pub ClassNumbersTell : Type 0
@@ -66,6 +79,12 @@ abbrev pub PowerOfLift : Type 0
 PowerOfLift =
     (s : TwistedSubgroup) → IsTwist s → (p j : ℕ) → p < size s
     → ext_power s (record { place = p; root = 0 }) j ≡ record { place = place_power s p j; root = power_phase s p j }
+
+-- power_phase(p, i + j) = power_phase(p,i) + power_phase(p,j) + th(p^i, p^j)
+abbrev pub PowerPhaseOfSum : Type 0
+PowerPhaseOfSum =
+    (s : TwistedSubgroup) → IsTwist s → (p i j : ℕ) → p < size s
+    → power_phase s p (i + j) ≡ (power_phase s p i + power_phase s p j + phase s (place_power s p i) (place_power s p j)) % s.modulus
 
 -- u_p^j = e(power_phase(p,j)) u_(p^j)
 abbrev pub PowerOfUnit : {A : Type 0} (R : CommRing A) {m : ℕ} → RootOfUnity R m → Type 0

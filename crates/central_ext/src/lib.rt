@@ -1,8 +1,9 @@
 //! The central extension of the group of a twist by its roots of unity: products, powers, conjugacy and classes.
 #![tactic(auto)]
 
-ghost use Rattle.central_ext.specs.Laws.{PairsClosed, PairsAssociate, PairsIdentity, PairsInverse, ConjugateOfPair};
-ghost use Rattle.central_ext.specs.Laws.{ConjugacyIsEquivalence, ClassNumbersTell, RegularExactly, PowerOfLift, PowerOfUnit};
+ghost use Rattle.central_ext.specs.Laws.{ProductIsPair, IdentityIsPair, InverseIsPair, PairsAssociate, PairsIdentity, PairsInverse, ConjugateOfPair};
+ghost use Rattle.central_ext.specs.Laws.{ConjugateToItself, ConjugateBothWays, ConjugateOnwards, ClassNumbersTell, RegularExactly};
+ghost use Rattle.central_ext.specs.Laws.{PowerOfLift, PowerPhaseOfSum, PowerOfUnit};
 ghost use Rattle.central_ext.specs.Instances.{TwoIsTwist, PlainIsTwist, BitsIsTwist, TwoExtended, BitsExtended};
 
 mod conjugacy;
@@ -18,28 +19,37 @@ pub use pair::Pair;
 pub use powers::power_phase;
 use qd_ring::Ring;
 
-/// The pairs are a group: products, the identity and inverses are pairs, products associate, and the identity and inverses do what
-/// they are to on both sides. Conjugation adds the conjugation phase.
+/// The pairs are a group: products, the identity and inverses are pairs, products associate, and the identity and inverses are such
+/// on both sides. The conjugate of `(p,i)` by `(c,k)` is `(c p c^-1, i + kappa(c,p))`.
 pub fn extension_laws()
-    ensures closed { PairsClosed }
+    ensures product { ProductIsPair }
+    ensures identity { IdentityIsPair }
+    ensures inverse { InverseIsPair }
     ensures associates { PairsAssociate }
-    ensures identity { PairsIdentity }
-    ensures inverse { PairsInverse }
+    ensures by_identity { PairsIdentity }
+    ensures by_inverse { PairsInverse }
     ensures conjugate { ConjugateOfPair }
 {}
 
 /// Conjugacy of pairs is an equivalence, and class numbers tell its classes apart. A place is regular exactly where its lifts are
 /// pairwise not conjugate.
 pub fn conjugacy_laws()
-    ensures equivalence { ConjugacyIsEquivalence }
+    ensures itself { ConjugateToItself }
+    ensures both_ways { ConjugateBothWays }
+    ensures onwards { ConjugateOnwards }
     ensures numbers { ClassNumbersTell }
     ensures regular { RegularExactly }
 {}
 
-/// The power of a lift of a place has the power of the place and its phase; that phase is the phase of the power of `u_p` in the twisted
-/// group algebra.
-pub fn power_laws<R: Ring>(ring: &R)
+/// The power of a lift `(p,0)` has the power of the place and its phase, and the phase of a power is that of its parts and of their
+/// product.
+pub fn power_phase_laws()
     ensures lift { PowerOfLift }
+    ensures sum { PowerPhaseOfSum }
+{}
+
+/// The phase of a power is that of the power of `u_p` in the twisted group algebra: `u_p^j` is its root times `u_q`, where `q` is `p^j`.
+pub fn power_laws<R: Ring>(ring: &R)
     ensures unit { PowerOfUnit (R.ops ring.now) (R.unit ring.now) }
 {}
 

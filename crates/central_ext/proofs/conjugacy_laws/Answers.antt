@@ -5,7 +5,9 @@ use Rattle.central_ext.proofs.conjugacy_laws.Goals as goal
 
 pub returns : goal.returns
 returns c = record {
-  equivalence = λ s twist. (conjugate_itself s twist, conjugate_back s twist, conjugate_on s twist);
+  itself = conjugate_itself;
+  both_ways = conjugate_back;
+  onwards = conjugate_on;
   numbers = numbers_tell;
   regular = regular_exactly;
 }

@@ -3,9 +3,11 @@ use Rattle.central_ext.proofs.extension_laws.Goals as goal
 
 pub returns : goal.returns
 returns c = record {
-  closed = λ s twist. (product_pair s twist, identity_pair s twist, inverse_pair s twist);
+  product = product_pair;
+  identity = identity_pair;
+  inverse = inverse_pair;
   associates = product_associates;
-  identity = λ s twist a p. (identity_product s twist a p, product_identity s twist a p);
-  inverse = λ s twist a p. (inverse_product s twist a p, product_inverse s twist a p);
+  by_identity = λ s twist a p. (identity_product s twist a p, product_identity s twist a p);
+  by_inverse = λ s twist a p. (inverse_product s twist a p, product_inverse s twist a p);
   conjugate = conjugate_is;
 }
