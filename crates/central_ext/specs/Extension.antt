@@ -27,7 +27,7 @@ ext_inverse s a =
       root = (s.modulus - (a.root + phase s a.place (inverse s.group a.place)) % s.modulus) % s.modulus;
     }
 
--- a^j: the product of j factors a, and the identity for j = 0
+-- a^j: the product of j factors a, and the identity for j = 0 (textbook)
 unfoldable pub ext_power : TwistedSubgroup → Pair → ℕ → Pair
 ext_power s a zero = ext_identity s
 ext_power s a (suc j) = ext_product s (ext_power s a j) a

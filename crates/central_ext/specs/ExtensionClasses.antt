@@ -19,6 +19,7 @@ pair_number s a = a.place * s.modulus + a.root
 abbrev pub pair_at : TwistedSubgroup → ℕ → Pair
 pair_at s t = record { place = t / s.modulus; root = t % s.modulus }
 
+-- a and b are one pair
 abbrev pub is_same_pair : Pair → Pair → Bool
 is_same_pair a b = (a.place == b.place) && (a.root == b.root)
 
@@ -26,7 +27,7 @@ is_same_pair a b = (a.place == b.place) && (a.root == b.root)
 abbrev pub ext_conjugate : TwistedSubgroup → Pair → Pair → Pair
 ext_conjugate s c a = ext_product s (ext_product s c a) (ext_inverse s c)
 
--- c a c^-1 = b for some pair c
+-- c a c^-1 = b for some pair c (textbook)
 unfoldable pub are_conjugate : TwistedSubgroup → Pair → Pair → Bool
 are_conjugate s a b = is_some (first (pair_count s) (λ t. if is_same_pair (ext_conjugate s (pair_at s t) a) b then Some t else None))
 

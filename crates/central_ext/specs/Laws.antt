@@ -46,6 +46,11 @@ ConjugateOfPair =
     (s : TwistedSubgroup) → IsTwist s → (c a : Pair) → IsPair s c → IsPair s a
     → ext_conjugate s c a ≡ record { place = conjugate s.group c.place a.place; root = (a.root + kappa s c.place a.place) % s.modulus }
 
+-- b is conjugate to a exactly where it is c a c^-1 for some pair c
+abbrev pub ConjugateExactly : Type 0
+ConjugateExactly =
+    (s : TwistedSubgroup) → IsTwist s → (a b : Pair) → (are_conjugate s a b ≡ true) ↔ ((c : Pair) × IsPair s c × (ext_conjugate s c a ≡ b))
+
 -- a pair is conjugate to itself
 abbrev pub ConjugateToItself : Type 0
 ConjugateToItself = (s : TwistedSubgroup) → IsTwist s → (a : Pair) → IsPair s a → are_conjugate s a a ≡ true
@@ -55,7 +60,7 @@ abbrev pub ConjugateBothWays : Type 0
 ConjugateBothWays =
     (s : TwistedSubgroup) → IsTwist s → (a b : Pair) → IsPair s a → IsPair s b → are_conjugate s a b ≡ true → are_conjugate s b a ≡ true
 
--- and on
+-- and goes on
 abbrev pub ConjugateOnwards : Type 0
 ConjugateOnwards =
     (s : TwistedSubgroup) → IsTwist s → (a b c : Pair) → IsPair s a → IsPair s b → IsPair s c

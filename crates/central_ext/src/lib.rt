@@ -2,7 +2,7 @@
 #![tactic(auto)]
 
 ghost use Rattle.central_ext.specs.Laws.{ProductIsPair, IdentityIsPair, InverseIsPair, PairsAssociate, PairsIdentity, PairsInverse, ConjugateOfPair};
-ghost use Rattle.central_ext.specs.Laws.{ConjugateToItself, ConjugateBothWays, ConjugateOnwards, ClassNumbersTell, RegularExactly};
+ghost use Rattle.central_ext.specs.Laws.{ConjugateExactly, ConjugateToItself, ConjugateBothWays, ConjugateOnwards, ClassNumbersTell, RegularExactly};
 ghost use Rattle.central_ext.specs.Laws.{PowerOfLift, PowerPhaseOfSum, PowerOfUnit};
 ghost use Rattle.central_ext.specs.Instances.{TwoIsTwist, PlainIsTwist, BitsIsTwist, TwoExtended, BitsExtended};
 
@@ -34,6 +34,7 @@ pub fn extension_laws()
 /// Conjugacy of pairs is an equivalence, and class numbers tell its classes apart. A place is regular exactly where its lifts are
 /// pairwise not conjugate.
 pub fn conjugacy_laws()
+    ensures exactly { ConjugateExactly }
     ensures itself { ConjugateToItself }
     ensures both_ways { ConjugateBothWays }
     ensures onwards { ConjugateOnwards }
