@@ -1,3 +1,6 @@
 pub mod Evaluation
 pub mod Moduli
 pub mod Inverses
+pub mod WholeNumbers
+pub mod Field
+pub mod Laws

@@ -41,7 +41,7 @@ all_have_inverses = refl
 -- ---- a^q = a
 -- a^n modulo q
 unfoldable pub power_modulo : ℕ → ℕ → ℕ → ℕ
-power_modulo q a zero = 1
+power_modulo q a zero = 1 % q
 power_modulo q a (suc n) = power_modulo q a n * a % q
 
 is_fixed : ℕ → ℕ → Bool
@@ -56,7 +56,7 @@ some_value : {A : Type 0} (o : Option A) → is_some o ≡ true → (x : A) × (
 some_value (Some x) e = (x, refl)
 some_value None e = absurd cc
 
-where_found : (test : Bool) (x y : ℕ) → (if test then Some x else None) ≡ Some y → (test ≡ true) × (x ≡ y)
+pub where_found : (test : Bool) (x y : ℕ) → (if test then Some x else None) ≡ Some y → (test ≡ true) × (x ≡ y)
 where_found true x y e = (refl, some_same e)
   where
     some_same : {x y : ℕ} → Some x ≡ Some y → x ≡ y
