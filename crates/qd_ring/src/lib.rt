@@ -7,7 +7,7 @@ mod cyc_ops;
 mod cyc_ring;
 mod cyc_ring_laws;
 mod plain;
-mod reduction;
+pub mod reduction;
 mod ring;
 mod root;
 mod rows;

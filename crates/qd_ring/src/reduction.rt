@@ -2,7 +2,7 @@ ghost use Rattle.std.specs.Prelude.{◌≡◌, ◌<◌, ◌≤◌, true};
 ghost use Rattle.cyclotomic.specs.Conductors.{is_conductor, reduction_of};
 
 /// The coefficients of the cyclotomic polynomial of conductor k below its leading 1.
-pub(crate) fn reduction(k: u32) -> &'static [i8]
+pub fn reduction(k: u32) -> &'static [i8]
     requires { is_conductor k ≡ true }
     ensures { result.now ≡ reduction_of k }
 {
