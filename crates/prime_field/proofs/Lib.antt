@@ -1,0 +1,4 @@
+pub mod MonicValues
+pub mod Inverses
+pub mod Computing
+pub mod Faults

@@ -1,6 +1,11 @@
-//! The field of residues modulo a prime with a root of a cyclotomic polynomial, as a ring object.
+//! The field of residues modulo a listed prime, as a ring object with a root of a cyclotomic polynomial.
 #![tactic(auto)]
 
+mod cyclotomic_root;
 mod fault;
+mod mod_ring;
+mod mod_ring_laws;
+mod moduli;
 
 pub use fault::ModulusFault;
+pub use mod_ring::ModRing;

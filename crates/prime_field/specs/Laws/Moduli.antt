@@ -1,11 +1,11 @@
 -- What holds of each listed modulus, by tests that are computed.
-use Rattle.std.proofs.Common.{◌≡◌, ◌≢◌, ℕ, zero, suc, ◌*◌, ◌%◌, ◌<◌, List, [], ◌∷◌, Bool, true, false, Option, Some, None, refl, sym, ap, ◌∙◌, arith, inl, inr, eqb-true}
+use Rattle.std.proofs.Common.{◌≡◌, ◌≢◌, ℕ, zero, suc, ◌*◌, ◌%◌, ◌<◌, ◌≤◌, List, [], ◌∷◌, Bool, true, false, Option, Some, None, refl, sym, ap, ◌∙◌, arith, inl, inr, eqb-true}
 use Rattle.std.proofs.lemmas.Bool.{cases_eq, ne_eqb}
 use Rattle.std.proofs.Math.Nat.{mod-lt, mod-eq_of_lt, zero-mod, zero-mul, one-mul, mul-zero}
 use Rattle.std.proofs.lemmas.Nat.{mul-mod_first, mul-mod_second}
-use Rattle.std.specs.Prelude.{◌==◌, ◌||◌, nat_lt, is_some, if◌then◌else◌}
+use Rattle.std.specs.Prelude.{◌==◌, ◌||◌, nat_lt, nat_le, is_some, if◌then◌else◌}
 use Rattle.std.specs.List.{list_all, list_any}
-use borrow.Author.Tests.{ltb-true}
+use borrow.Author.Tests.{ltb-true, leb-true}
 use Rattle.scan.specs.First.{first, all_below}
 use Rattle.scan.proofs.Places.{first_some, first_none, first-ext}
 use Rattle.cyclotomic.proofs.Tests.{and_left, and_right, all_below_means}
@@ -25,10 +25,14 @@ pub at_each_modulus : (test : ℕ → Bool) → list_all test moduli ≡ true �
 unfolding is_modulus
 at_each_modulus test all q found = all_listed test q moduli all found
 
--- ---- a modulus is over 1
+-- ---- a modulus is over 1, and at most 337
 all_over_one : list_all (λ q. nat_lt 1 q) moduli ≡ true
 unfolding moduli
 all_over_one = refl
+
+all_bounded : list_all (λ q. nat_le q 337) moduli ≡ true
+unfolding moduli
+all_bounded = refl
 
 -- ---- what isn't 0 has an inverse
 has_inverse : ℕ → ℕ → Bool
@@ -83,6 +87,9 @@ inverse_mod q a =
 module _ (q : ℕ) (listed : is_modulus q ≡ true) where
   pub modulus_over_one : 1 < q
   modulus_over_one = ltb-true 1 q (at_each_modulus (λ m. nat_lt 1 m) all_over_one q listed)
+
+  pub modulus_bound : q ≤ 337
+  modulus_bound = leb-true q 337 (at_each_modulus (λ m. nat_le m 337) all_bounded q listed)
 
   pub modulus_positive : 0 < q
   modulus_positive = omega (arith, modulus_over_one)

@@ -1,0 +1,16 @@
+-- The listed coefficients with a last 1 are those of the cyclotomic polynomial.
+use Rattle.std.proofs.Common.{[], ◌∷◌, ◌++◌, pos, nat_eq, sym, ap, ◌∙◌, arith}
+use Rattle.cyclotomic.specs.Fit.{size_of}
+use Rattle.cyclotomic.proofs.Checks.{cyclotomic_is}
+use Rattle.qd_ring.specs.ReductionSigns.{reduction_ternary}
+use Rattle.prime_field.specs.Evaluation.{reduced, is_root}
+use Rattle.prime_field.proofs.cyclotomic_root.is_root.Goals as goal
+
+pub monic_value-requires-clause-ternary : goal.monic_value-requires-clause-ternary
+monic_value-requires-clause-ternary c = omega (arith, ap size_of c.reduction.ensures, reduction_ternary c.args.conductor c.requires.entry)
+
+pub returns : goal.returns
+returns c =
+    ap (λ v. nat_eq v 0) c.monic_value.ensures.value
+    ∙ ap (λ p. is_root c.args.q (reduced c.args.q p) c.args.r)
+    (ap (λ l. l ++ pos 1 ∷ []) c.reduction.ensures ∙ sym (cyclotomic_is c.args.conductor c.requires.entry))

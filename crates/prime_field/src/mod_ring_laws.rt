@@ -1,0 +1,58 @@
+ghost use Rattle.std.specs.Prelude.{◌≡◌, ◌<◌, refl};
+ghost use Rattle.algebra.specs.Below.{Below};
+ghost use Rattle.qd_ring.specs.Fit.{no_limits};
+ghost use Rattle.prime_field.specs.Field.{field, field_residue};
+ghost use Rattle.prime_field.specs.Laws.Field.{field_unit};
+
+use crate::mod_ring::ModRing;
+use qd_ring::Ring;
+
+impl Ring for ModRing {
+    type Elem = u32;
+
+    ghost Carrier = { λ r. Below r.q };
+
+    ghost ops = { λ r. field r.q r.listed };
+
+    ghost order = { λ r. r.conductor };
+
+    ghost unit = { λ r. field_unit r.q r.listed r.conductor r.apart r.entry r.root r.least };
+
+    ghost rules = { λ r. no_limits (field r.q r.listed) };
+
+    ghost IsValue = { λ r a. a < r.q };
+
+    ghost of = { λ r a. field_residue r.q r.listed a };
+
+    ghost values_fit = { λ r a value. refl };
+
+    ghost roots_fit = { λ r e. refl };
+
+    fn unit_order(&self) -> u32 {
+        self.conductor
+    }
+
+    fn zero(&self) -> u32 {
+        0
+    }
+
+    fn one(&self) -> u32 {
+        1
+    }
+
+    fn try_add(&self, a: &u32, b: &u32) -> Option<u32> {
+        Some((*a + *b) % self.q)
+    }
+
+    fn try_mul(&self, a: &u32, b: &u32) -> Option<u32> {
+        Some(*a * *b % self.q)
+    }
+
+    fn try_scale(&self, e: u32, a: &u32) -> Option<u32> {
+        Some(self.root_power(e % self.conductor) * *a % self.q)
+    }
+
+    fn same(&self, a: &u32, b: &u32) -> bool {
+        *a == *b
+    }
+}
