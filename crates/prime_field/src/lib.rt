@@ -6,6 +6,8 @@ mod fault;
 mod mod_ring;
 mod mod_ring_laws;
 mod moduli;
+#[cfg(test)]
+mod tests;
 
 pub use fault::ModulusFault;
 pub use mod_ring::ModRing;
