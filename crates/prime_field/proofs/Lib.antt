@@ -2,3 +2,5 @@ pub mod MonicValues
 pub mod Inverses
 pub mod Computing
 pub mod Faults
+pub mod Primes
+pub mod ConductorModuli

@@ -1,5 +1,5 @@
 -- The moduli of the fields, and the first condition of a modulus that a number doesn't meet (this project's choice).
-use Rattle.std.specs.Prelude.{ℕ, ◌%◌, ◌==◌, ◌&&◌, nat_lt, Bool, List, [], ◌∷◌, Option, Some, None, is_some, if◌then◌else◌}
+use Rattle.std.specs.Prelude.{◌≡◌, ℕ, ◌%◌, ◌≤◌, ◌<◌, ◌==◌, ◌&&◌, nat_lt, Bool, List, [], ◌∷◌, Option, Some, None, is_some, if◌then◌else◌}
 use Rattle.std.specs.List.{list_any}
 use Rattle.scan.specs.First.{option_or, first}
 use Rattle.cyclotomic.specs.Cyclotomic.{cyclotomic}
@@ -38,3 +38,9 @@ root_fault q k = if is_some (least_root q k) then None else Some (NoRoot q k)
 -- the first condition that fails
 unfoldable pub modulus_fault : ℕ → ℕ → ℕ → Option ModulusFault
 modulus_fault q above k = option_or (range_fault q above) (option_or (listing_fault q) (option_or (divisor_fault q k) (root_fault q k)))
+
+-- q is over 60, is 1 modulo K, and is a valid modulus for K and every bound up to 60
+pub record ServesConductor (q k : ℕ) : Type 0 where
+  pub over : 60 < q
+  pub congruent : q % k ≡ 1
+  pub valid : (above : ℕ) → above ≤ 60 → modulus_fault q above k ≡ None

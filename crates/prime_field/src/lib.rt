@@ -3,6 +3,7 @@
 
 mod cyclotomic_root;
 mod fault;
+pub mod laws;
 mod mod_ring;
 mod mod_ring_laws;
 mod moduli;

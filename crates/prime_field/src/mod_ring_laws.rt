@@ -16,7 +16,7 @@ impl Ring for ModRing {
 
     ghost order = { λ r. r.conductor };
 
-    ghost unit = { λ r. field_unit r.q r.listed r.conductor r.apart r.entry r.root r.least };
+    ghost unit = { λ r. field_unit r.q r.listed r.conductor r.root r.least r.entry r.apart };
 
     ghost rules = { λ r. no_limits (field r.q r.listed) };
 

@@ -7,13 +7,13 @@ use Rattle.algebra.specs.Sums.{sum_below, multiple, power}
 use Rattle.algebra.specs.Roots.{RootOfUnity}
 use Rattle.algebra.proofs.RingLaws.{one_mul, nought_mul, add_mul, mul_left_comm}
 use Rattle.algebra.proofs.SumLaws.{sum_ext, sum_map, nought_map, power_zero, power_suc}
-use Rattle.cyclotomic.specs.Polynomial.{x_to, leading}
-use Rattle.cyclotomic.specs.Division.{degree}
+use Rattle.cyclotomic.specs.Polynomial.{plus, times, x_to, leading}
+use Rattle.cyclotomic.specs.Division.{degree, remainder}
 use Rattle.cyclotomic.specs.Cyclotomic.{cyclotomic}
 use Rattle.cyclotomic.specs.Conductors.{is_conductor}
 use Rattle.cyclotomic.specs.Ring.{Value, value_sum, value_nought, value_of, value_one, value_root}
 use Rattle.cyclotomic.specs.CyclotomicRing.{remainder_ring}
-use Rattle.cyclotomic.specs.Laws.Action.{LinearMap, iterate, act, act-nil, act-cons, act-plus, act-one, act-x_to, act-remainder}
+use Rattle.cyclotomic.specs.Laws.Action.{LinearMap, iterate, act, act-nil, act-cons, act-plus, act-times, act-one, act-x_to, act-remainder}
 use Rattle.cyclotomic.proofs.Checks.{conductor_positive}
 use Rattle.cyclotomic.proofs.Fields.{cyclotomic_monic, cyclotomic_period}
 use Rattle.cyclotomic.proofs.Orthogonality.{power-root, x_sum_vanishes}
@@ -47,6 +47,25 @@ module _ {A : Type 0} (R : CommRing A) (z : A) where
   value-act (a ∷ p) =
       ap₂ (λ u v. R.add u (R.mul z v)) (sym (R.mul_one (whole R a))) (value-act p) ∙ sym (act-cons times_z a p R.one)
 
+  -- the action is the product with the value at z
+  act-product : (p : List ℤ) (v : A) → act times_z p v ≡ R.mul (act times_z p R.one) v
+  act-product [] v = act-nil times_z v ∙ sym (ap (λ a. R.mul a v) (act-nil times_z R.one) ∙ nought_mul R v)
+  act-product (a ∷ p) v =
+      let w = act times_z p R.one in
+      act-cons times_z a p v
+      ∙ ap (λ x. R.add (R.mul (whole R a) v) (R.mul z x)) (act-product p v)
+      ∙ ap₂ (λ x y. R.add (R.mul x v) y) (sym (R.mul_one (whole R a))) (sym (R.mul_assoc z w v))
+      ∙ sym (add_mul R (R.mul (whole R a) R.one) (R.mul z w) v)
+      ∙ ap (λ x. R.mul x v) (sym (act-cons times_z a p R.one))
+
+  -- the value of a sum is the sum of the values, and so of a product
+  pub value-plus : (p r : List ℤ) → polynomial_at R z (plus p r) ≡ R.add (polynomial_at R z p) (polynomial_at R z r)
+  value-plus p r = value-act (plus p r) ∙ act-plus times_z p r R.one ∙ sym (ap₂ R.add (value-act p) (value-act r))
+
+  pub value-times : (p r : List ℤ) → polynomial_at R z (times p r) ≡ R.mul (polynomial_at R z p) (polynomial_at R z r)
+  value-times p r =
+      value-act (times p r) ∙ act-times times_z p r R.one ∙ act-product p (act times_z r R.one) ∙ sym (ap₂ R.mul (value-act p) (value-act r))
+
   iterate-power_of : (v : ℕ) → iterate (λ u. R.mul z u) v R.one ≡ power R z v
   unfolding iterate
   iterate-power_of zero = sym (power_zero R z)
@@ -54,6 +73,9 @@ module _ {A : Type 0} (R : CommRing A) (z : A) where
 
   module _ (m : List ℤ) (monic : leading m ≡ pos 1) (vanishes : polynomial_at R z m ≡ R.nought) where
     -- where m is nought at z, the value of a remainder modulo m at z is that of the polynomial
+    pub value-remainder : (p : List ℤ) → polynomial_at R z (remainder m p) ≡ polynomial_at R z p
+    value-remainder p = value-act (remainder m p) ∙ act-remainder times_z m p R.one monic (sym (value-act m) ∙ vanishes) ∙ sym (value-act p)
+
     evaluated : Value (degree m) → A
     evaluated u = act times_z u.coefficients R.one
 

@@ -6,6 +6,9 @@ use Rattle.algebra.specs.Below.{Below, below_equal}
 use Rattle.algebra.specs.Sums.{multiple, power}
 use Rattle.algebra.specs.Roots.{RootOfUnity}
 use Rattle.scan.proofs.Places.{first_some}
+use Rattle.std.specs.Prelude.{ℤ, List}
+use Rattle.cyclotomic.specs.Division.{remainder}
+use Rattle.cyclotomic.proofs.Fields.{cyclotomic_monic}
 use Rattle.cyclotomic.specs.Cyclotomic.{cyclotomic}
 use Rattle.cyclotomic.specs.Conductors.{is_conductor}
 use Rattle.prime_field.specs.WholeNumbers.{polynomial_at}
@@ -14,7 +17,7 @@ use Rattle.prime_field.specs.Moduli.{is_modulus, least_root}
 use Rattle.prime_field.specs.Field.{field, field_residue}
 use Rattle.prime_field.specs.Laws.Moduli.{modulus_over_one, modulus_positive, where_found, inverse_means, inverse_there, product_of_zero, power_fixed}
 use Rattle.prime_field.specs.Laws.Residues.{multiple_value, power_value, polynomial_value}
-use Rattle.prime_field.specs.Laws.Evaluation.{root_of_cyclotomic}
+use Rattle.prime_field.specs.Laws.Evaluation.{value-remainder, root_of_cyclotomic}
 
 -- ---- the least root of Phi_K
 pub record IsLeastRoot (q k r : ℕ) : Type 0 where
@@ -33,10 +36,10 @@ least_root_means q k r found =
     }
 
 module _ (q : ℕ) (listed : is_modulus q ≡ true) where
-  nought_value : (x : Below q) → x ≡ (field q listed).nought → x.value ≡ 0
+  pub nought_value : (x : Below q) → x ≡ (field q listed).nought → x.value ≡ 0
   nought_value x e = ap (λ y. y.value) e ∙ zero-mod q
 
-  value_nought : (x : Below q) → x.value ≡ 0 → x ≡ (field q listed).nought
+  pub value_nought : (x : Below q) → x.value ≡ 0 → x ≡ (field q listed).nought
   value_nought x e = below_equal _ _ (e ∙ sym (zero-mod q))
 
   -- a residue other than nought has an inverse
@@ -57,19 +60,23 @@ module _ (q : ℕ) (listed : is_modulus q ≡ true) where
   pub residue_power : (x : Below q) → power (field q listed) x q ≡ x
   residue_power x = below_equal _ _ (power_value q (modulus_positive q listed) x q ∙ power_fixed q listed x.value x.below)
 
-  module _ (k : ℕ) (apart : k % q ≢ 0) where
+  module _ (k : ℕ) where
     -- where q doesn't divide k, only nought has a k-fold that is nought
-    pub multiple_cancels : (x : Below q) → multiple (field q listed) k x ≡ (field q listed).nought → x ≡ (field q listed).nought
-    multiple_cancels x e =
+    pub multiple_cancels : k % q ≢ 0 → (x : Below q) → multiple (field q listed) k x ≡ (field q listed).nought → x ≡ (field q listed).nought
+    multiple_cancels apart x e =
         let product : (k * x.value) % q ≡ 0 = sym (multiple_value q (modulus_positive q listed) k x) ∙ nought_value (multiple (field q listed) k x) e in
         value_nought x (sym (mod-eq_of_lt x.below) ∙ product_of_zero q listed k x.value product apart)
 
-    module _ (entry : is_conductor k ≡ true) (z : ℕ) (least : least_root q k ≡ Some z) where
+    module _ (z : ℕ) (least : least_root q k ≡ Some z) where
       pub cyclotomic_vanishes : polynomial_at (field q listed) (field_residue q listed z) (cyclotomic k) ≡ (field q listed).nought
       cyclotomic_vanishes =
           value_nought (polynomial_at (field q listed) (field_residue q listed z) (cyclotomic k))
           (polynomial_value q (modulus_positive q listed) z (cyclotomic k) ∙ (least_root_means q k z least).root)
 
-      -- the least root of Phi_K modulo q is a root of unity of order K
-      abbrev pub field_unit : RootOfUnity (field q listed) k
-      field_unit = root_of_cyclotomic (field q listed) (field_residue q listed z) k entry cyclotomic_vanishes multiple_cancels
+      -- at the root a polynomial has the value of its remainder modulo Phi_K
+      pub value_of_remainder : is_conductor k ≡ true → (p : List ℤ) → polynomial_at (field q listed) (field_residue q listed z) (remainder (cyclotomic k) p) ≡ polynomial_at (field q listed) (field_residue q listed z) p
+      value_of_remainder entry p = value-remainder (field q listed) (field_residue q listed z) (cyclotomic k) (cyclotomic_monic k entry) cyclotomic_vanishes p
+
+      -- the least root of Phi_K modulo q, which doesn't divide K, is a root of unity of order K
+      abbrev pub field_unit : is_conductor k ≡ true → k % q ≢ 0 → RootOfUnity (field q listed) k
+      field_unit entry apart = root_of_cyclotomic (field q listed) (field_residue q listed z) k entry cyclotomic_vanishes (multiple_cancels apart)

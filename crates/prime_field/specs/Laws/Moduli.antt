@@ -56,7 +56,7 @@ unfolding is_fixed power_modulo all_below moduli
 all_fixed = refl
 
 -- ---- what is found
-some_value : {A : Type 0} (o : Option A) → is_some o ≡ true → (x : A) × (o ≡ Some x)
+pub some_value : {A : Type 0} (o : Option A) → is_some o ≡ true → (x : A) × (o ≡ Some x)
 some_value (Some x) e = (x, refl)
 some_value None e = absurd cc
 

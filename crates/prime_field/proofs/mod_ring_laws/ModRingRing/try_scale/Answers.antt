@@ -9,4 +9,4 @@ overflow_mul-result c = residues_fit c.args.self.now.q c.args.self.now.listed c.
 pub returns-clause-multiple : goal.returns-clause-multiple
 returns-clause-multiple c =
     let r = c.args.self.now in
-    multiple_residue r.q r.listed r.conductor (field_unit r.q r.listed r.conductor r.apart r.entry r.root r.least) c.args.e c.root_power.result c.args.a.now c.root_power.ensures.power
+    multiple_residue r.q r.listed r.conductor (field_unit r.q r.listed r.conductor r.root r.least r.entry r.apart) c.args.e c.root_power.result c.args.a.now c.root_power.ensures.power

@@ -1,0 +1,73 @@
+-- Each modulus is a prime, and the residues modulo it are a field.
+use Rattle.std.proofs.Common.{◌≡◌, ◌≢◌, ℕ, ◌%◌, ◌<◌, ◌*◌, true, false, Bool, refl, sym, ap, ◌∙◌, arith, ◌⊎◌, inl, inr}
+use Rattle.std.proofs.lemmas.Bool.{cases_eq, ne_eqb, eq-eqb}
+use Rattle.std.proofs.Math.Nat.{mod-zero, mod-eq_of_lt}
+use Rattle.std.specs.Prelude.{◌==◌, ◌||◌, not}
+use Rattle.std.specs.List.{list_all}
+use Rattle.scan.specs.First.{all_below}
+use Rattle.algebra.specs.Below.{Below, below_equal}
+use Rattle.cyclotomic.proofs.Tests.{all_below_means}
+use Rattle.prime_field.specs.Moduli.{moduli, is_modulus}
+use Rattle.prime_field.specs.Field.{field}
+use Rattle.prime_field.specs.Laws.Moduli.{at_each_modulus, modulus_over_one, modulus_positive, inverse_unique}
+use Rattle.prime_field.specs.Laws.Field.{nought_value, value_nought, residue_product}
+
+-- d is 0 or 1, or doesn't divide q
+is_no_divisor : ℕ → ℕ → Bool
+is_no_divisor q d = (d == 0) || ((d == 1) || not (q % d == 0))
+
+all_primes : list_all (λ q. all_below q (is_no_divisor q)) moduli ≡ true
+unfolding is_no_divisor all_below moduli
+all_primes = refl
+
+divides_less : (q d : ℕ) → is_no_divisor q d ≡ true → d ≢ 0 → d ≢ 1 → q % d ≢ 0
+unfolding is_no_divisor
+divides_less q d test not_zero not_one divides =
+    absurd (apart (sym (rw (ne_eqb d 0 not_zero, ne_eqb d 1 not_one, eq-eqb (q % d) 0 divides) refl) ∙ test))
+  where
+    apart : false ≡ true → ⊥
+    apart e = cc
+
+module _ (q : ℕ) (listed : is_modulus q ≡ true) where
+  not_by_zero : (d : ℕ) → q % d ≡ 0 → d ≢ 0
+  not_by_zero d divides zero_d =
+      let whole : q ≡ 0 = sym (mod-zero q) ∙ ap (λ k. q % k) (sym zero_d) ∙ divides in
+      absurd (omega (arith, whole, modulus_positive q listed))
+
+  not_by_greater : (d : ℕ) → q % d ≡ 0 → q < d → ⊥
+  not_by_greater d divides greater =
+      let whole : q ≡ 0 = sym (mod-eq_of_lt greater) ∙ divides in
+      absurd (omega (arith, whole, modulus_positive q listed))
+
+  -- only 1 and q divide q
+  pub modulus_prime : (d : ℕ) → q % d ≡ 0 → (d ≡ 1) ⊎ (d ≡ q)
+  modulus_prime d divides = elim (cases_eq d 1) [
+    | inl one ↦ inl one
+    | inr not_one ↦ elim (cases_eq d q) [
+      | inl itself ↦ inr itself
+      | inr apart ↦
+          let less : d < q = not_greater apart in
+          absurd
+          (divides_less q d
+          (all_below_means q (is_no_divisor q) (at_each_modulus (λ m. all_below m (is_no_divisor m)) all_primes q listed) d less) (not_by_zero d divides) not_one divides)
+    ]
+  ]
+    where
+      greater_or : (d ≢ q) → (d < q) ⊎ (q < d)
+      greater_or apart = grind arith
+
+      not_greater : (d ≢ q) → d < q
+      not_greater apart = elim (greater_or apart) [ inl less ↦ less | inr greater ↦ absurd (not_by_greater d divides greater) ]
+
+  -- one of two factors of nought is nought
+  pub product_nought : (x y : Below q) → (field q listed).mul x y ≡ (field q listed).nought → (x ≡ (field q listed).nought) ⊎ (y ≡ (field q listed).nought)
+  product_nought x y e = elim (cases_eq x.value 0) [
+    | inl zero_x ↦ inl (value_nought q listed x zero_x)
+    | inr apart ↦ inr (residue_product q listed x y e (λ z. apart (nought_value q listed x z)))
+  ]
+
+  -- a residue has at most one inverse
+  pub one_inverse : (x y z : Below q) → (field q listed).mul x y ≡ (field q listed).one → (field q listed).mul x z ≡ (field q listed).one → y ≡ z
+  one_inverse x y z e f =
+      let one_value : 1 % q ≡ 1 = mod-eq_of_lt (modulus_over_one q listed) in
+      below_equal y z (inverse_unique q listed x.value y.value z.value y.below z.below (ap (λ u. u.value) e ∙ one_value) (ap (λ u. u.value) f ∙ one_value))
