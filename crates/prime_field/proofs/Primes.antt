@@ -1,5 +1,5 @@
 -- Each modulus is a prime, and the residues modulo it are a field.
-use Rattle.std.proofs.Common.{◌≡◌, ◌≢◌, ℕ, ◌%◌, ◌<◌, ◌*◌, true, false, Bool, refl, sym, ap, ◌∙◌, arith, ◌⊎◌, inl, inr}
+use Rattle.std.proofs.Common.{◌≡◌, ◌≢◌, ℕ, ◌%◌, ◌<◌, true, false, Bool, refl, sym, ap, ◌∙◌, arith, ◌⊎◌, inl, inr}
 use Rattle.std.proofs.lemmas.Bool.{cases_eq, ne_eqb, eq-eqb}
 use Rattle.std.proofs.Math.Nat.{mod-zero, mod-eq_of_lt}
 use Rattle.std.specs.Prelude.{◌==◌, ◌||◌, not}
