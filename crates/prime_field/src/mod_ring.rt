@@ -35,6 +35,7 @@ impl ModRing {
         ensures valid { IfOk result (λ ring. modulus_fault q above conductor ≡ None) }
         ensures modulus { IfOk result (λ ring. ring.q ≡ q) }
         ensures conductor { IfOk result (λ ring. ring.conductor ≡ conductor) }
+        ensures root { IfOk result (λ ring. least_root q conductor ≡ Some ring.root) }
         ensures refused { IfErr result (λ fault. modulus_fault q above conductor ≡ Some fault) }
     {
         if q <= above || q >= 65_536 {
