@@ -4,3 +4,4 @@ pub mod Computing
 pub mod Faults
 pub mod Primes
 pub mod ConductorModuli
+pub mod RootOrder

@@ -1,6 +1,6 @@
 //! Laws of the definitions: each function has an empty body, and its clauses are theorems.
 
-ghost use Rattle.std.specs.Prelude.{◌≡◌, ◌≢◌, ℕ, ◌%◌, ℤ, List, true, Some, ◌⊎◌};
+ghost use Rattle.std.specs.Prelude.{◌≡◌, ◌≢◌, ℕ, ◌-◌, ◌%◌, ℤ, List, true, Some, ◌⊎◌};
 ghost use Rattle.algebra.specs.Below.{Below};
 ghost use Rattle.algebra.specs.Sums.{power};
 ghost use Rattle.cyclotomic.specs.Polynomial.{plus, times};
@@ -34,4 +34,12 @@ pub fn evaluation_laws()
     ensures sum { (q : ℕ) (listed : is_modulus q ≡ true) (z : Below q) (p s : List ℤ) → polynomial_at (field q listed) z (plus p s) ≡ (field q listed).add (polynomial_at (field q listed) z p) (polynomial_at (field q listed) z s) }
     ensures product { (q : ℕ) (listed : is_modulus q ≡ true) (z : Below q) (p s : List ℤ) → polynomial_at (field q listed) z (times p s) ≡ (field q listed).mul (polynomial_at (field q listed) z p) (polynomial_at (field q listed) z s) }
     ensures remainder { (q : ℕ) (listed : is_modulus q ≡ true) (k r : ℕ) → is_conductor k ≡ true → least_root q k ≡ Some r → (p : List ℤ) → polynomial_at (field q listed) (field_residue q listed r) (remainder (cyclotomic k) p) ≡ polynomial_at (field q listed) (field_residue q listed r) p }
+{}
+
+/// The least root modulo q of the cyclotomic polynomial of K, where q doesn't divide K, has the order K in the field, and K
+/// divides q - 1.
+pub fn root_laws()
+    ensures cycle { (q : ℕ) (listed : is_modulus q ≡ true) (k r : ℕ) → is_conductor k ≡ true → k % q ≢ 0 → least_root q k ≡ Some r → power (field q listed) (field_residue q listed r) k ≡ (field q listed).one }
+    ensures order { (q : ℕ) (listed : is_modulus q ≡ true) (k r : ℕ) → is_conductor k ≡ true → k % q ≢ 0 → least_root q k ≡ Some r → (e : ℕ) → power (field q listed) (field_residue q listed r) e ≡ (field q listed).one → e % k ≡ 0 }
+    ensures divides { (q : ℕ) → is_modulus q ≡ true → (k r : ℕ) → is_conductor k ≡ true → k % q ≢ 0 → least_root q k ≡ Some r → (q - 1) % k ≡ 0 }
 {}

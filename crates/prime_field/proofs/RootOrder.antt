@@ -1,0 +1,49 @@
+-- The order of the least root modulo q of the cyclotomic polynomial of K is K, which divides q - 1.
+use Rattle.std.proofs.Common.{◌≡◌, ℕ, suc, ◌-◌, ◌%◌, ◌<◌, true, sym, ap, ◌∙◌, arith, inl, inr}
+use Rattle.std.proofs.lemmas.Bool.{cases_eq}
+use Rattle.std.proofs.Math.Nat.{mod-eq_of_lt}
+use Rattle.algebra.specs.Structures.{CommRing}
+use Rattle.algebra.specs.Sums.{power}
+use Rattle.algebra.specs.Roots.{RootOfUnity}
+use Rattle.algebra.proofs.RingLaws.{mul_left_comm}
+use Rattle.algebra.proofs.SumLaws.{power_suc}
+use Rattle.algebra.proofs.RootLaws.{fixed_is_nought}
+use Rattle.prime_field.specs.Moduli.{is_modulus}
+use Rattle.prime_field.specs.Field.{field}
+use Rattle.prime_field.specs.Laws.Moduli.{modulus_over_one, modulus_positive}
+use Rattle.prime_field.specs.Laws.Field.{nought_value, residue_power}
+
+-- what a root of unity doesn't change from one power to the next is 1
+module _ {A : Type 0} (R : CommRing A) (z : A) (n : ℕ) (positive : 0 < n) (cycle : power R z n ≡ R.one) where
+  pub one_of_fixed : (x : A) → R.mul x z ≡ z → x ≡ R.one
+  one_of_fixed x fixed =
+      let before : suc (n - 1) ≡ n = omega arith in
+      let w = power R z (n - 1) in
+      let inverse : R.mul w z ≡ R.one = sym (power_suc R z (n - 1)) ∙ ap (power R z) before ∙ cycle in
+      sym (R.mul_one x) ∙ ap (R.mul x) (sym inverse) ∙ mul_left_comm R x w z ∙ ap (R.mul w) fixed ∙ inverse
+
+module _ (q : ℕ) (listed : is_modulus q ≡ true) where
+  one_is_not_nought : (field q listed).one ≡ (field q listed).nought → ⊥
+  one_is_not_nought e =
+      let zero_one : 1 % q ≡ 0 = nought_value q listed (field q listed).one e in
+      let one_one : 1 % q ≡ 1 = mod-eq_of_lt (modulus_over_one q listed) in
+      absurd (omega (arith, zero_one, one_one))
+
+  module _ (k : ℕ) (u : RootOfUnity (field q listed) k) where
+    -- a power of the root is 1 only where the exponent is a multiple of k
+    pub order_divides : (e : ℕ) → power (field q listed) u.root e ≡ (field q listed).one → e % k ≡ 0
+    order_divides e one_power = elim (cases_eq (e % k) 0) [
+      | inl multiple ↦ multiple
+      | inr apart ↦
+          absurd
+          (one_is_not_nought
+          (fixed_is_nought (field q listed) u e apart (field q listed).one ((field q listed).mul_one (power (field q listed) u.root e) ∙ one_power)))
+    ]
+
+    -- so k divides q - 1
+    pub order_divides_units : (q - 1) % k ≡ 0
+    order_divides_units =
+        let F = field q listed in
+        let before : suc (q - 1) ≡ q = omega (arith, modulus_positive q listed) in
+        let fixed : F.mul (power F u.root (q - 1)) u.root ≡ u.root = sym (power_suc F u.root (q - 1)) ∙ ap (power F u.root) before ∙ residue_power q listed u.root in
+        order_divides (q - 1) (one_of_fixed F u.root k u.positive u.cycle (power F u.root (q - 1)) fixed)
