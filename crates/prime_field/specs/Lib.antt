@@ -1,6 +1,15 @@
 pub mod Evaluation
 pub mod Moduli
 pub mod Inverses
+pub mod AbstractField
+pub mod Linear
+pub mod Modules
 pub mod WholeNumbers
 pub mod Field
 pub mod Laws
+pub mod Polynomials
+pub mod ResidueLists
+pub mod Solved
+pub mod SquareMatrix
+pub mod Kernels
+pub mod PowerLists
