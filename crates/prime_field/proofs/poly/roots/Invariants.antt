@@ -1,0 +1,7 @@
+use Rattle.std.proofs.Common.{◌≡◌}
+use Rattle.group_table.specs.Numbers.{passing_below}
+use Rattle.prime_field.specs.Evaluation.{is_root}
+use Rattle.prime_field.proofs.poly.roots.Given as goal
+
+abbrev pub invariant-loop-x : goal.invariant-loop-x
+invariant-loop-x l = l.found.items ≡ passing_below l.x (is_root l.q l.coefficients)
