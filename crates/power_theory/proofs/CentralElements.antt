@@ -146,7 +146,7 @@ module _ {A G C : Type 0} (R : CommRing A) (F : Finite G) (P : Group G) (T : Rin
       ∙ ap (T.mul z) (unit_inverse c) ∙ T.mul_one z))
       ∙ total_constant R F (K.coordinate z x)
 
-  power_of_scaled : (c : A) (y : C) (n : ℕ) → ring_power T (K.scale c y) n ≡ K.scale (power R c n) (ring_power T y n)
+  pub power_of_scaled : (c : A) (y : C) (n : ℕ) → ring_power T (K.scale c y) n ≡ K.scale (power R c n) (ring_power T y n)
   power_of_scaled c y zero =
       power_zero T (K.scale c y) ∙ sym (ap₂ K.scale (sums.power_zero R c) (power_zero T y) ∙ K.scale_one T.one)
   power_of_scaled c y (suc n) =

@@ -1,0 +1,1 @@
+-- The central elements of the algebra of a twist over a ring in which q is nought.
