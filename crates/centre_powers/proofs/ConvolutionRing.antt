@@ -3,7 +3,7 @@ use Rattle.std.proofs.Common.{◌≡◌, ℕ, zero, suc, ◌+◌, ◌-◌, ◌*�
 use mathlib.Core.Path.{fun_ext, ap₂}
 use Rattle.algebra.specs.Structures.{CommRing}
 use Rattle.algebra.specs.Sums.{sum_below, pick}
-use Rattle.algebra.specs.Totals.{Finite, total, equals}
+use Rattle.algebra.specs.Totals.{Finite, equals}
 use Rattle.algebra.specs.Groups.{Group}
 use Rattle.algebra.specs.Roots.{Roots}
 use Rattle.algebra.specs.Congruences.{Same}

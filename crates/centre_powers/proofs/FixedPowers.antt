@@ -1,12 +1,11 @@
--- The central elements of the algebra of a twist over a ring in which q is nought.
-use Rattle.std.proofs.Common.{◌≡◌, ℕ, zero, suc, ◌+◌, ◌-◌, ◌*◌, ◌/◌, ◌%◌, ◌<◌, refl, sym, ◌∙◌, ap, arith}
-use Rattle.std.proofs.Common.{◌≢◌, true, Some}
+-- The central elements of the algebra of a twist over a ring of characteristic q.
+use Rattle.std.proofs.Common.{◌≡◌, ◌≢◌, ℕ, true, Some, zero, suc, ◌+◌, ◌-◌, ◌*◌, ◌/◌, ◌%◌, ◌<◌, refl, sym, ◌∙◌, ap, arith}
 use Rattle.std.proofs.Math.Nat.{div-add-mod, mod-eq_of_lt, mul-mod_right, mul_assoc, mul_comm}
 use mathlib.Core.Path.{fun_ext, ap₂}
 use Rattle.algebra.specs.Structures.{CommRing}
 use Rattle.algebra.specs.Sums.{multiple, power}
 use Rattle.algebra.specs.Totals.{equals}
-use Rattle.algebra.specs.Below.{Below, below_equal}
+use Rattle.algebra.specs.Below.{Below}
 use Rattle.algebra.specs.Roots.{RootOfUnity}
 use Rattle.algebra.proofs.SumLaws.{power_mul, one_power}
 use Rattle.orders.specs.Order.{exponent_of}
@@ -16,9 +15,8 @@ use Rattle.group_table.proofs.Sentences as group
 use Rattle.twisted.specs.Twist.{TwistedSubgroup, size, IsTwist}
 use Rattle.twisted.specs.Algebra.{root, unit_vector, twisted_product, IsCentral}
 use Rattle.twisted.proofs.AlgebraLaws.{twist_roots, on_places, product_on_places, quotient_whole}
-use Rattle.twisted.proofs.CentreLaws.{unit_at}
 use Rattle.twisted.proofs.Translation.{places, place_group, phase_at, kappa_at, phases_cocycle, kappa_phase, some_root}
-use Rattle.central_ext.specs.Extension.{power_phase, place_power}
+use Rattle.central_ext.specs.Extension.{power_phase}
 use Rattle.central_ext.specs.PowersOfUnits.{algebra_power}
 use Rattle.central_ext.proofs.AlgebraPowers.{power_of_unit}
 use Rattle.cyclotomic.specs.Conductors.{is_conductor}
@@ -29,7 +27,7 @@ use Rattle.prime_field.specs.Laws.Residues.{multiple_value}
 use Rattle.prime_field.specs.Laws.Field.{value_nought, multiple_cancels, residue_power, field_unit}
 use Rattle.prime_field.proofs.RootOrder.{order_divides_units}
 use Rattle.power_theory.specs.Rings.{Ring, ring_power}
-use Rattle.power_theory.specs.Traces.{HasExponent}
+use Rattle.power_theory.specs.Traces.{HasCharacteristic}
 use Rattle.power_theory.specs.CrossedProducts.{CrossedProduct}
 use Rattle.power_theory.proofs.RingSums as ring
 use Rattle.power_theory.proofs.CentralElements.{central_fixed, power_of_scaled}
@@ -105,50 +103,50 @@ module _ {A : Type 0} (R : CommRing A) {m : ℕ} (U : RootOfUnity R m) (s : Twis
       by a b c = mul_assoc a b c ∙ mul_comm a (b * c)
 
   -- u_p^(N E) = 1
-  power_by_period : (p : Below (size s)) → ring_power twist_ring (twist_crossed.unit p) (group_exponent * s.modulus) ≡ twist_ring.one
+  power_by_period : (p : Below (size s)) → ring_power twist_ring (twist_crossed.unit p) (unit_period s) ≡ twist_ring.one
   power_by_period p =
       let c : A = root R U s (power_phase s p.value group_exponent) in
-      ring.power_mul twist_ring (twist_crossed.unit p) group_exponent s.modulus
+      ap (ring_power twist_ring (twist_crossed.unit p)) (mul_comm s.modulus group_exponent)
+      ∙ ring.power_mul twist_ring (twist_crossed.unit p) group_exponent s.modulus
       ∙ ap (λ u. ring_power twist_ring u s.modulus) (power_by_exponent p)
       ∙ power_of_scaled R (places s twist) (place_group s twist) twist_ring twist_crossed c twist_ring.one s.modulus
       ∙ ap₂ twist_crossed.scale (root_cycles (power_phase s p.value group_exponent)) (ring.one_power twist_ring s.modulus)
       ∙ twist_crossed.scale_one twist_ring.one
 
   -- u_p^q = u_p where N E divides q - 1
-  unit_fixed : (q l : ℕ) → q ≡ suc (group_exponent * s.modulus * l) → (p : Below (size s)) → ring_power twist_ring (twist_crossed.unit p) q ≡ twist_crossed.unit p
+  unit_fixed : (q l : ℕ) → q ≡ suc (unit_period s * l) → (p : Below (size s)) → ring_power twist_ring (twist_crossed.unit p) q ≡ twist_crossed.unit p
   unit_fixed q l e p =
       let u : Below (size s) → A = twist_crossed.unit p in
       ap (ring_power twist_ring u) e
-      ∙ ring.power_suc twist_ring u (group_exponent * s.modulus * l)
+      ∙ ring.power_suc twist_ring u (unit_period s * l)
       ∙ ap (λ w. twist_ring.mul w u)
-      (ring.power_mul twist_ring u (group_exponent * s.modulus) l ∙ ap (λ w. ring_power twist_ring w l) (power_by_period p) ∙ ring.one_power twist_ring l)
+      (ring.power_mul twist_ring u (unit_period s) l ∙ ap (λ w. ring_power twist_ring w l) (power_by_period p) ∙ ring.one_power twist_ring l)
       ∙ twist_ring.one_mul u
 
   -- z^q = z
-  central_power : (q l : ℕ) → HasExponent R q → size s < q → q ≡ suc (group_exponent * s.modulus * l) → ((c : A) → power R c q ≡ c)
+  central_power : (q l : ℕ) → HasCharacteristic R q → size s < q → q ≡ suc (unit_period s * l) → ((c : A) → power R c q ≡ c)
       → (z : ℕ → A) → IsCentral R U s z → (x : ℕ) → x < size s → algebra_power R U s z q x ≡ z x
-  central_power q l exponent over e numbers z central x below =
+  central_power q l characteristic over e numbers z central x below =
       let here : Below (size s) = record { value = x; below = below } in
       ap (λ (p : Below (size s) → A). p here)
       (power_restricted z q
-      ∙ central_fixed R (places s twist) (place_group s twist) twist_ring twist_crossed q exponent over numbers (unit_fixed q l e) (restricted z) (central_restricted z central))
+      ∙ central_fixed R (places s twist) (place_group s twist) twist_ring twist_crossed q characteristic over numbers (unit_fixed q l e) (restricted z) (central_restricted z central))
 
 module _ {A : Type 0} (R : CommRing A) {m : ℕ} (U : RootOfUnity R m) where
-  pub central_powers_over : (q : ℕ) → HasExponent R q → (q - 1) % m ≡ 0 → ((c : A) → power R c q ≡ c) → CentralPowers R U q
-  central_powers_over q exponent order numbers s twist over period z central =
+  pub central_powers_over : (q : ℕ) → HasCharacteristic R q → (q - 1) % m ≡ 0 → ((c : A) → power R c q ≡ c) → CentralPowers R U q
+  central_powers_over q characteristic order numbers s twist over period z central =
       let n : ℕ = s.modulus in
       let e : ℕ = exponent_of s.group.order (product s.group) (identity_of s.group) in
-      let k : ℕ = m / (n * e) in
+      let k : ℕ = m / unit_period s in
       let l : ℕ = (q - 1) / m in
-      let whole : m ≡ n * e * k = whole_part m (n * e) period in
+      let whole : m ≡ unit_period s * k = whole_part m (unit_period s) period in
       let divides : m % n ≡ 0 = ap (λ a. a % n) (whole ∙ mul_assoc n e k) ∙ mul-mod_right n (e * k) in
-      let units : q - 1 ≡ e * n * (k * l) =
-      whole_part (q - 1) m order ∙ ap (λ a. a * l) whole ∙ mul_assoc (n * e) k l ∙ ap (λ a. a * (k * l)) (mul_comm n e) in
-      central_power R U s twist divides q (k * l) exponent over (omega (arith, units, over)) numbers z central
+      let units : q - 1 ≡ unit_period s * (k * l) = whole_part (q - 1) m order ∙ ap (λ a. a * l) whole ∙ mul_assoc (unit_period s) k l in
+      central_power R U s twist divides q (k * l) characteristic over (omega (arith, units, over)) numbers z central
 
 -- where q is a listed modulus, q copies of a residue add up to nought, and fewer only of nought
-residues_exponent : (q : ℕ) (listed : is_modulus q ≡ true) → HasExponent (field q listed) q
-residues_exponent q listed = record {
+residues_characteristic : (q : ℕ) (listed : is_modulus q ≡ true) → HasCharacteristic (field q listed) q
+residues_characteristic q listed = record {
   vanishes = λ x. value_nought q listed (multiple (field q listed) q x) (multiple_value q (modulus_positive q listed) q x ∙ mul-mod_right q x.value);
   cancels = λ k x from below e.
       multiple_cancels q listed k (λ zero. absurd (let same : k ≡ 0 = sym (mod-eq_of_lt below) ∙ zero in omega arith)) x e;
@@ -158,4 +156,4 @@ pub residues_central_powers : (q : ℕ) (listed : is_modulus q ≡ true) (k r : 
     → CentralPowers (field q listed) (field_unit q listed k r least entry apart) q
 residues_central_powers q listed k r least entry apart =
     let unit = field_unit q listed k r least entry apart in
-    central_powers_over (field q listed) unit q (residues_exponent q listed) (order_divides_units q listed k unit) (residue_power q listed)
+    central_powers_over (field q listed) unit q (residues_characteristic q listed) (order_divides_units q listed k unit) (residue_power q listed)

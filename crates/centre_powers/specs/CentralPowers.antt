@@ -1,4 +1,4 @@
--- Powers of the central elements of a twisted group algebra over residues (textbook: Fermat 1640 for numbers).
+-- Powers of the central elements of the twisted group algebra of a twist.
 use Rattle.std.specs.Prelude.{◌≡◌, ℕ, ◌*◌, ◌%◌, ◌<◌}
 use Rattle.algebra.specs.Structures.{CommRing}
 use Rattle.algebra.specs.Roots.{RootOfUnity}
@@ -12,8 +12,8 @@ use Rattle.central_ext.specs.PowersOfUnits.{algebra_power}
 abbrev pub unit_period : TwistedSubgroup → ℕ
 unit_period s = s.modulus * exponent_of s.group.order (product s.group) (identity_of s.group)
 
--- over a ring with a root of unity of order m, z^q = z for every z that commutes with every u_y, in the algebra of each twist of
--- fewer than q places with m a multiple of N E
+-- over a ring with a root of unity of order m: z^q = z for every z that commutes with every u_y, in the algebra of each twist
+-- that has fewer than q places and whose N E divides m
 abbrev pub CentralPowers : {A : Type 0} (R : CommRing A) {m : ℕ} → RootOfUnity R m → ℕ → Type 0
 CentralPowers {A} R {m} U q =
     (s : TwistedSubgroup) → IsTwist s → size s < q → m % unit_period s ≡ 0

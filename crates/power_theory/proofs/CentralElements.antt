@@ -1,4 +1,4 @@
--- The central elements of a crossed product with a finite group of fewer than q elements, where q is nought: the sum of all conjugates
+-- The central elements of a crossed product with a finite group of fewer than q elements, in characteristic q: the sum of all conjugates
 -- by the u_x is a trace, and takes a central element to as many copies of it as the group has elements.
 use Rattle.std.proofs.Common.{◌≡◌, ℕ, zero, suc, ◌<◌, sym, ◌∙◌, ap, arith}
 use mathlib.Core.Path.{fun_ext, ap₂}
@@ -11,7 +11,7 @@ use Rattle.algebra.proofs.RingLaws as commutative
 use Rattle.algebra.proofs.TotalLaws.{total_ext, total_add, total_constant, total_reindex}
 use Rattle.algebra.proofs.GroupLaws.{op_op_inv, op_inv_cancel}
 use Rattle.power_theory.specs.Rings.{Ring, ring_sum, ring_power}
-use Rattle.power_theory.specs.Traces.{Trace, HasExponent}
+use Rattle.power_theory.specs.Traces.{Trace, HasCharacteristic}
 use Rattle.power_theory.specs.CrossedProducts.{CrossedProduct}
 use Rattle.power_theory.proofs.RingSums.{mul_nought, nought_mul, sum_holds, power_zero, power_suc, nought_power, power_commutes}
 use Rattle.power_theory.proofs.SumPowers.{trace_power_of_sum}
@@ -31,8 +31,8 @@ module _ {A G C : Type 0} (R : CommRing A) (F : Finite G) (P : Group G) (T : Rin
   inverse x = K.scale (K.factor_inverse (P.inv x) x) (K.unit (P.inv x))
 
   -- a multiple of a product that is u_e is 1
-  unscaled : (x y z : G) → P.op x y ≡ P.one → T.mul (K.unit x) (K.unit y) ≡ K.scale (K.factor x y) T.one
-  unscaled x y z e = K.unit_mul x y ∙ ap (K.scale (K.factor x y)) (ap K.unit e ∙ K.unit_one)
+  unscaled : (x y : G) → P.op x y ≡ P.one → T.mul (K.unit x) (K.unit y) ≡ K.scale (K.factor x y) T.one
+  unscaled x y e = K.unit_mul x y ∙ ap (K.scale (K.factor x y)) (ap K.unit e ∙ K.unit_one)
 
   inverts : (x y : G) → K.scale (K.factor_inverse x y) (K.scale (K.factor x y) T.one) ≡ T.one
   inverts x y = K.scale_scale (K.factor_inverse x y) (K.factor x y) T.one ∙ ap (λ c. K.scale c T.one) (K.factor_inverts x y) ∙ K.scale_one T.one
@@ -40,7 +40,7 @@ module _ {A G C : Type 0} (R : CommRing A) (F : Finite G) (P : Group G) (T : Rin
   inverse_unit : (x : G) → T.mul (inverse x) (K.unit x) ≡ T.one
   inverse_unit x =
       K.scale_mul (K.factor_inverse (P.inv x) x) (K.unit (P.inv x)) (K.unit x)
-      ∙ ap (K.scale (K.factor_inverse (P.inv x) x)) (unscaled (P.inv x) x x (P.inv_op x))
+      ∙ ap (K.scale (K.factor_inverse (P.inv x) x)) (unscaled (P.inv x) x (P.inv_op x))
       ∙ inverts (P.inv x) x
 
   unit_inverse : (x : G) → T.mul (K.unit x) (inverse x) ≡ T.one
@@ -48,7 +48,7 @@ module _ {A G C : Type 0} (R : CommRing A) (F : Finite G) (P : Group G) (T : Rin
       let right : C = K.scale (K.factor_inverse x (P.inv x)) (K.unit (P.inv x)) in
       let one : T.mul (K.unit x) right ≡ T.one =
       K.mul_scale (K.factor_inverse x (P.inv x)) (K.unit x) (K.unit (P.inv x))
-      ∙ ap (K.scale (K.factor_inverse x (P.inv x))) (unscaled x (P.inv x) x (P.op_inv x))
+      ∙ ap (K.scale (K.factor_inverse x (P.inv x))) (unscaled x (P.inv x) (P.op_inv x))
       ∙ inverts x (P.inv x) in
       let same : inverse x ≡ right =
       sym (T.mul_one (inverse x)) ∙ ap (T.mul (inverse x)) (sym one) ∙ sym (T.mul_assoc (inverse x) (K.unit x) right)
@@ -159,14 +159,14 @@ module _ {A G C : Type 0} (R : CommRing A) (F : Finite G) (P : Group G) (T : Rin
       ∙ K.scale_scale p c (T.mul v y)
       ∙ sym (ap₂ K.scale (sums.power_suc R c n) (power_suc T y n))
 
-  module _ (q : ℕ) (exponent : HasExponent R q) (over : F.size < q) (numbers : (c : A) → power R c q ≡ c) (units : (x : G) → ring_power T (K.unit x) q ≡ K.unit x) where
+  module _ (q : ℕ) (characteristic : HasCharacteristic R q) (over : F.size < q) (numbers : (c : A) → power R c q ≡ c) (units : (x : G) → ring_power T (K.unit x) q ≡ K.unit x) where
     -- a power by q has the trace of its base
     spread_power : (x : G) (z : C) → spread x (ring_power T z q) ≡ spread x z
     spread_power x z =
         rw (K.spans z)
         (sum_holds T (λ z. spread x (ring_power T z q) ≡ spread x z)
         (ap (spread x) (nought_power T q (omega arith)))
-        (λ u v hu hv. trace_power_of_sum T R (conjugates x) u v q exponent (omega arith) ∙ ap₂ R.add hu hv ∙ sym (spread_add x u v))
+        (λ u v hu hv. trace_power_of_sum T R (conjugates x) u v q characteristic (omega arith) ∙ ap₂ R.add hu hv ∙ sym (spread_add x u v))
         F.size
         (λ i. K.scale (K.coordinate z (F.at i)) (K.unit (F.at i)))
         (λ i. ap (spread x) (power_of_scaled (K.coordinate z (F.at i)) (K.unit (F.at i)) q ∙ ap₂ K.scale (numbers (K.coordinate z (F.at i))) (units (F.at i)))))
@@ -178,6 +178,6 @@ module _ {A G C : Type 0} (R : CommRing A) (F : Finite G) (P : Group G) (T : Rin
         K.spans (ring_power T z q)
         ∙ ap (λ f. ring_sum T F.size (λ i. K.scale (f (F.at i)) (K.unit (F.at i))))
         (fun_ext
-        (λ x. multiples_equal R F.size (λ y. exponent.cancels F.size y some over) (K.coordinate (ring_power T z q) x) (K.coordinate z x)
+        (λ x. multiples_equal R F.size (λ y. characteristic.cancels F.size y some over) (K.coordinate (ring_power T z q) x) (K.coordinate z x)
         (sym (spread_central x (ring_power T z q) (λ y. power_commutes T z (K.unit y) (central y) q)) ∙ spread_power x z ∙ spread_central x z central)))
         ∙ sym (K.spans z)

@@ -100,9 +100,6 @@ module _ {A : Type 0} (R : Ring A) where
   one_power zero = power_zero R R.one
   one_power (suc n) = power_suc R R.one n ∙ R.mul_one (ring_power R R.one n) ∙ one_power n
 
-  pub power_once : (x : A) → ring_power R x 1 ≡ x
-  power_once x = power_suc R x 0 ∙ ap (λ y. R.mul y x) (power_zero R x) ∙ R.one_mul x
-
   pub power_add : (x : A) (n m : ℕ) → ring_power R x (n + m) ≡ R.mul (ring_power R x n) (ring_power R x m)
   power_add x n zero = simp (add-zero, power_zero, mul_one)
   power_add x n (suc m) = simp (add-suc, power_suc, power_add x n m, mul_assoc)

@@ -1,4 +1,4 @@
--- The coefficients of (a t + b)^n in a ring that need not commute, and the trace of (a + b)^q where q is nought. A function on the
+-- The coefficients of (a t + b)^n in a ring that need not commute, and the trace of (a + b)^q in characteristic q. A function on the
 -- natural numbers is read as the polynomial with the coefficient f k at t^k, and t commutes with all.
 use Rattle.std.proofs.Common.{◌≡◌, ℕ, zero, suc, ◌+◌, ◌-◌, ◌<◌, refl, sym, ◌∙◌, ap, arith}
 use mathlib.Core.Path.{fun_ext, ap₂}
@@ -7,7 +7,7 @@ use Rattle.algebra.specs.Sums.{sum_below, multiple}
 use Rattle.algebra.proofs.SumLaws as sums
 use Rattle.algebra.proofs.RingLaws as commutative
 use Rattle.power_theory.specs.Rings.{Ring, ring_sum, ring_power}
-use Rattle.power_theory.specs.Traces.{Trace, HasExponent}
+use Rattle.power_theory.specs.Traces.{Trace, HasCharacteristic}
 use Rattle.power_theory.proofs.RingSums.{nought_add, add_nought, mul_nought, nought_mul, any_ring_rules, sum_zero, sum_suc, mul_sum, sum_add, sum_nought, power_zero, power_first}
 
 -- ---- polynomials
@@ -319,18 +319,18 @@ module _ {A B : Type 0} (R : Ring A) (S : CommRing B) (t : Trace R S) where
         ∙ S.add_comm each (multiple S n each)
         ∙ sym (sums.multiple_suc S n each)
 
-    module _ (q : ℕ) (exponent : HasExponent S q) where
-      -- where q is nought, the words of both letters vanish
+    module _ (q : ℕ) (characteristic : HasCharacteristic S q) where
+      -- in characteristic q the traces of the words of both letters vanish
       trace_mixed : (k : ℕ) → 0 < k → k < q → t.trace (words R a b q k) ≡ S.nought
       unfolding derivative
       trace_mixed zero from below = absurd (omega arith)
       trace_mixed (suc k) from below =
-          exponent.cancels (suc k) (t.trace (words R a b q (suc k))) from below
+          characteristic.cancels (suc k) (t.trace (words R a b q (suc k))) from below
           (sym (sums.sum_constant S (suc k) (t.trace (words R a b q (suc k))))
           ∙ sym (trace_sum (suc k) (λ i. words R a b q (suc k)))
           ∙ ap (λ f. t.trace (f k)) (sym (turned-zero R a b (derivative R (words R a b q))))
           ∙ trace_derivative q 0 (q - 1) k (omega arith)
-          ∙ exponent.vanishes (t.trace (R.mul a (words R a b (q - 1) k))))
+          ∙ characteristic.vanishes (t.trace (R.mul a (words R a b (q - 1) k))))
 
       -- tr((a + b)^q) = tr(a^q) + tr(b^q)
       pub trace_power_of_sum : 0 < q → t.trace (ring_power R (R.add a b) q) ≡ S.add (t.trace (ring_power R a q)) (t.trace (ring_power R b q))

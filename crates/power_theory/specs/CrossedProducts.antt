@@ -1,14 +1,14 @@
--- Rings that are spanned over a commutative ring by elements u_x, one for each element x of a finite group, with u_x u_y a multiple
--- of u_xy, as the twisted group algebra is (crossed products with the trivial action; textbook).
+-- Crossed products with a finite group whose numbers are central, as the twisted group algebra is (textbook).
 use Rattle.std.specs.Prelude.{◌≡◌}
 use Rattle.algebra.specs.Structures.{CommRing}
 use Rattle.algebra.specs.Totals.{Finite}
 use Rattle.algebra.specs.Groups.{Group}
 use Rattle.power_theory.specs.Rings.{Ring, ring_sum}
 
--- C is spanned over A by the u_x, and u_x u_y = f(x,y) u_xy, where f(x,y) has an inverse
+-- a ring that is spanned over the commutative ring R by elements u_x, one for each x of the group P, with u_1 = 1 and
+-- u_x u_y = f(x,y) u_xy for numbers f(x,y) of R that have inverses
 pub record CrossedProduct {A G C : Type 0} (R : CommRing A) (F : Finite G) (P : Group G) (T : Ring C) : Type 0 where
-  -- c x, for a number c of A
+  -- c x, for a number c of R
   pub scale : A → C → C
   pub scale_one : (x : C) → scale R.one x ≡ x
   pub scale_scale : (c d : A) (x : C) → scale c (scale d x) ≡ scale (R.mul c d) x

@@ -1,4 +1,4 @@
--- Traces of a ring in a commutative ring, and commutative rings in which a prime is nought (textbook).
+-- Traces of a ring in a commutative ring, and the characteristic (textbook).
 use Rattle.std.specs.Prelude.{◌≡◌, ℕ, ◌<◌}
 use Rattle.algebra.specs.Structures.{CommRing}
 use Rattle.algebra.specs.Sums.{multiple}
@@ -10,7 +10,8 @@ pub record Trace {A B : Type 0} (R : Ring A) (S : CommRing B) : Type 0 where
   pub of_add : (x y : A) → trace (R.add x y) ≡ S.add (trace x) (trace y)
   pub of_mul : (x y : A) → trace (R.mul x y) ≡ trace (R.mul y x)
 
--- q copies of any element add up to nought, and fewer, from one on, only of nought, as in a field of residues modulo q (textbook)
-pub record HasExponent {B : Type 0} (S : CommRing B) (q : ℕ) : Type 0 where
+-- the characteristic is q, as in a field of residues modulo q: q copies of any element add up to nought, and fewer copies, from one
+-- on, only of nought (textbook)
+pub record HasCharacteristic {B : Type 0} (S : CommRing B) (q : ℕ) : Type 0 where
   pub vanishes : (x : B) → multiple S q x ≡ S.nought
   pub cancels : (k : ℕ) (x : B) → 0 < k → k < q → multiple S k x ≡ S.nought → x ≡ S.nought
