@@ -4,6 +4,7 @@
 ghost use Rattle.prime_field.specs.Field.{field};
 ghost use Rattle.prime_field.specs.Laws.Field.{field_unit};
 ghost use Rattle.centre_powers.specs.CentralPowers.{CentralPowers};
+ghost use Rattle.centre_powers.specs.Instances.{FourPeriod, PermutationPeriod};
 
 use prime_field::ModRing;
 
@@ -15,4 +16,11 @@ pub fn central_powers(ring: &ModRing)
         let unit =
         field_unit ring.now.q listed ring.now.conductor ring.now.root ring.now.least ring.now.entry ring.now.apart in
         CentralPowers (field ring.now.q listed) unit ring.now.q }
+{}
+
+/// Worked values: the modulus of a twist times the exponent of its group, for the four group and for the permutations of
+/// three points.
+pub fn instances()
+    ensures four { FourPeriod }
+    ensures permutations { PermutationPeriod }
 {}
