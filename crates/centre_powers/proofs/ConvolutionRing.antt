@@ -123,7 +123,8 @@ module _ {A G : Type 0} (R : CommRing A) (F : Finite G) (P : Group G) {n : ℕ} 
       ∙ B.root_zero
 
   -- u_x u_y = e(th(x,y)) u_xy
-  pub units_multiply : (x y : G) → times (unit_at R F x) (unit_at R F y) ≡ (λ v. R.mul (B.root (t x y)) (unit_at R F (P.op x y) v))
+  pub units_multiply : (x y : G) → times (unit_at R F x) (unit_at R F y)
+      ≡ (λ v. R.mul (B.root (t x y)) (unit_at R F (P.op x y) v))
   units_multiply x y = fun_ext (λ v.
       let w : G = P.op v (P.inv y) in
       let b : Bool = equals F w x in
@@ -138,7 +139,9 @@ module _ {A G : Type 0} (R : CommRing A) (F : Finite G) (P : Group G) {n : ℕ} 
   sum_at : (m : ℕ) (f : ℕ → G → A) (x : G) → ring_sum convolution_ring m f x ≡ sum_below R m (λ i. f i x)
   sum_at zero f x = ap (λ (p : G → A). p x) (sum_zero convolution_ring f) ∙ sym (sums.sum_zero R (λ i. f i x))
   sum_at (suc m) f x =
-      ap (λ (p : G → A). p x) (sum_suc convolution_ring m f) ∙ ap (λ s. R.add s (f m x)) (sum_at m f x) ∙ sym (sums.sum_suc R m (λ i. f i x))
+      ap (λ (p : G → A). p x) (sum_suc convolution_ring m f)
+      ∙ ap (λ s. R.add s (f m x)) (sum_at m f x)
+      ∙ sym (sums.sum_suc R m (λ i. f i x))
 
   -- every element is the sum of its numbers times the u_x
   pub units_span : (z : G → A) → z ≡ ring_sum convolution_ring F.size (λ i x. R.mul (z (F.at i)) (unit_at R F (F.at i) x))

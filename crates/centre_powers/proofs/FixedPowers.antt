@@ -66,7 +66,8 @@ module _ {A : Type 0} (R : CommRing A) {m : ℕ} (U : RootOfUnity R m) (s : Twis
   power_restricted z (suc j) =
       product_restricted (algebra_power R U s z j) z ∙ ap (λ p. twist_ring.mul p (restricted z)) (power_restricted z j)
 
-  central_restricted : (z : ℕ → A) → IsCentral R U s z → (y : Below (size s)) → twist_ring.mul (restricted z) (twist_crossed.unit y) ≡ twist_ring.mul (twist_crossed.unit y) (restricted z)
+  central_restricted : (z : ℕ → A) → IsCentral R U s z → (y : Below (size s)) → twist_ring.mul (restricted z) (twist_crossed.unit y)
+      ≡ twist_ring.mul (twist_crossed.unit y) (restricted z)
   central_restricted z central y =
       ap (twist_ring.mul (restricted z)) (sym (unit_restricted y))
       ∙ sym (product_restricted z (unit_vector R U s y.value))
@@ -80,7 +81,8 @@ module _ {A : Type 0} (R : CommRing A) {m : ℕ} (U : RootOfUnity R m) (s : Twis
 
   -- u_p^E is a root of unity, whose power by the modulus N is 1
   power_by_exponent : (p : Below (size s))
-      → ring_power twist_ring (twist_crossed.unit p) group_exponent ≡ twist_crossed.scale (root R U s (power_phase s p.value group_exponent)) twist_ring.one
+      → ring_power twist_ring (twist_crossed.unit p) group_exponent
+      ≡ twist_crossed.scale (root R U s (power_phase s p.value group_exponent)) twist_ring.one
   power_by_exponent p =
       ap (λ u. ring_power twist_ring u group_exponent) (sym (unit_restricted p))
       ∙ sym (power_restricted (unit_vector R U s p.value) group_exponent)
@@ -114,7 +116,8 @@ module _ {A : Type 0} (R : CommRing A) {m : ℕ} (U : RootOfUnity R m) (s : Twis
       ∙ twist_crossed.scale_one twist_ring.one
 
   -- u_p^q = u_p where N E divides q - 1
-  unit_fixed : (q l : ℕ) → q ≡ suc (unit_period s * l) → (p : Below (size s)) → ring_power twist_ring (twist_crossed.unit p) q ≡ twist_crossed.unit p
+  unit_fixed : (q l : ℕ) → q ≡ suc (unit_period s * l) → (p : Below (size s)) → ring_power twist_ring (twist_crossed.unit p) q
+      ≡ twist_crossed.unit p
   unit_fixed q l e p =
       let u : Below (size s) → A = twist_crossed.unit p in
       ap (ring_power twist_ring u) e
@@ -141,13 +144,16 @@ module _ {A : Type 0} (R : CommRing A) {m : ℕ} (U : RootOfUnity R m) where
       let l : ℕ = (q - 1) / m in
       let whole : m ≡ unit_period s * k = whole_part m (unit_period s) period in
       let divides : m % n ≡ 0 = ap (λ a. a % n) (whole ∙ mul_assoc n e k) ∙ mul-mod_right n (e * k) in
-      let units : q - 1 ≡ unit_period s * (k * l) = whole_part (q - 1) m order ∙ ap (λ a. a * l) whole ∙ mul_assoc (unit_period s) k l in
+      let units : q - 1 ≡ unit_period s * (k * l) = whole_part (q - 1) m order
+      ∙ ap (λ a. a * l) whole
+      ∙ mul_assoc (unit_period s) k l in
       central_power R U s twist divides q (k * l) characteristic over (omega (arith, units, over)) numbers z central
 
 -- where q is a listed modulus, q copies of a residue add up to nought, and fewer only of nought
 residues_characteristic : (q : ℕ) (listed : is_modulus q ≡ true) → HasCharacteristic (field q listed) q
 residues_characteristic q listed = record {
-  vanishes = λ x. value_nought q listed (multiple (field q listed) q x) (multiple_value q (modulus_positive q listed) q x ∙ mul-mod_right q x.value);
+  vanishes =
+      λ x. value_nought q listed (multiple (field q listed) q x) (multiple_value q (modulus_positive q listed) q x ∙ mul-mod_right q x.value);
   cancels = λ k x from below e.
       multiple_cancels q listed k (λ zero. absurd (let same : k ≡ 0 = sym (mod-eq_of_lt below) ∙ zero in omega arith)) x e;
 }

@@ -7,6 +7,9 @@ use Rattle.group_table.specs.Group.{product, identity_of}
 use Rattle.twisted.specs.Twist.{TwistedSubgroup, size, IsTwist}
 use Rattle.twisted.specs.Algebra.{IsCentral}
 use Rattle.central_ext.specs.PowersOfUnits.{algebra_power}
+use Rattle.prime_field.specs.declared.mod_ring.ModRing.{ModRing}
+use Rattle.prime_field.specs.Field.{field}
+use Rattle.prime_field.specs.Laws.Field.{field_unit}
 
 -- N E: the modulus of the twist times the exponent of its group
 abbrev pub unit_period : TwistedSubgroup → ℕ
@@ -18,3 +21,7 @@ abbrev pub CentralPowers : {A : Type 0} (R : CommRing A) {m : ℕ} → RootOfUni
 CentralPowers {A} R {m} U q =
     (s : TwistedSubgroup) → IsTwist s → size s < q → m % unit_period s ≡ 0
     → (z : ℕ → A) → IsCentral R U s z → (x : ℕ) → x < size s → algebra_power R U s z q x ≡ z x
+
+-- so it is over the residues modulo q, with the least root modulo q of the cyclotomic polynomial Phi_K, of order K
+abbrev pub CentralPowersModulo : ModRing → Type 0
+CentralPowersModulo r = CentralPowers (field r.q r.listed) (field_unit r.q r.listed r.conductor r.root r.least r.entry r.apart) r.q

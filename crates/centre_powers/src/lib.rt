@@ -1,9 +1,7 @@
 //! Powers of the central elements of a twisted group algebra over the residues modulo a listed prime.
 #![tactic(auto)]
 
-ghost use Rattle.prime_field.specs.Field.{field};
-ghost use Rattle.prime_field.specs.Laws.Field.{field_unit};
-ghost use Rattle.centre_powers.specs.CentralPowers.{CentralPowers};
+ghost use Rattle.centre_powers.specs.CentralPowers.{CentralPowersModulo};
 ghost use Rattle.centre_powers.specs.Instances.{FourPeriod, PermutationPeriod};
 
 use prime_field::ModRing;
@@ -12,10 +10,7 @@ use prime_field::ModRing;
 /// for every twist that has fewer than q places and whose modulus times the exponent of its group divides the conductor of
 /// the field.
 pub fn central_powers(ring: &ModRing)
-    ensures fixed { let listed = ring.now.listed in
-        let unit =
-        field_unit ring.now.q listed ring.now.conductor ring.now.root ring.now.least ring.now.entry ring.now.apart in
-        CentralPowers (field ring.now.q listed) unit ring.now.q }
+    ensures fixed { CentralPowersModulo ring.now }
 {}
 
 /// Worked values: the modulus of a twist times the exponent of its group, for the four group and for the permutations of

@@ -1,5 +1,5 @@
--- The central elements of a crossed product with a finite group of fewer than q elements, in characteristic q: the sum of all conjugates
--- by the u_x is a trace, and takes a central element to as many copies of it as the group has elements.
+-- The central elements of a crossed product with a finite group of fewer than q elements, in characteristic q: the sum of all
+-- conjugates by the u_x is a trace, and takes a central element to as many copies of it as the group has elements.
 use Rattle.std.proofs.Common.{◌≡◌, ℕ, zero, suc, ◌<◌, sym, ◌∙◌, ap, arith}
 use mathlib.Core.Path.{fun_ext, ap₂}
 use Rattle.algebra.specs.Structures.{CommRing}
@@ -35,7 +35,10 @@ module _ {A G C : Type 0} (R : CommRing A) (F : Finite G) (P : Group G) (T : Rin
   unscaled x y e = K.unit_mul x y ∙ ap (K.scale (K.factor x y)) (ap K.unit e ∙ K.unit_one)
 
   inverts : (x y : G) → K.scale (K.factor_inverse x y) (K.scale (K.factor x y) T.one) ≡ T.one
-  inverts x y = K.scale_scale (K.factor_inverse x y) (K.factor x y) T.one ∙ ap (λ c. K.scale c T.one) (K.factor_inverts x y) ∙ K.scale_one T.one
+  inverts x y =
+      K.scale_scale (K.factor_inverse x y) (K.factor x y) T.one
+      ∙ ap (λ c. K.scale c T.one) (K.factor_inverts x y)
+      ∙ K.scale_one T.one
 
   inverse_unit : (x : G) → T.mul (inverse x) (K.unit x) ≡ T.one
   inverse_unit x =
@@ -60,7 +63,8 @@ module _ {A G C : Type 0} (R : CommRing A) (F : Finite G) (P : Group G) (T : Rin
   conjugate x z = T.mul (K.unit x) (T.mul z (inverse x))
 
   conjugate_add : (x : G) (y z : C) → conjugate x (T.add y z) ≡ T.add (conjugate x y) (conjugate x z)
-  conjugate_add x y z = ap (T.mul (K.unit x)) (T.add_mul y z (inverse x)) ∙ T.mul_add (K.unit x) (T.mul y (inverse x)) (T.mul z (inverse x))
+  conjugate_add x y z =
+      ap (T.mul (K.unit x)) (T.add_mul y z (inverse x)) ∙ T.mul_add (K.unit x) (T.mul y (inverse x)) (T.mul z (inverse x))
 
   -- (u_x u_y)^-1 = u_y^-1 u_x^-1, and u_x u_y is a multiple of u_xy
   inverse_of_product : (x y : G) → K.scale (K.factor x y) (T.mul (inverse y) (inverse x)) ≡ inverse (P.op x y)
@@ -97,7 +101,8 @@ module _ {A G C : Type 0} (R : CommRing A) (F : Finite G) (P : Group G) (T : Rin
   conjugate_turns : (x : G) (c : A) (z : C) → conjugate x (T.mul z (K.scale c (K.unit x))) ≡ T.mul (K.scale c (K.unit x)) z
   conjugate_turns x c z =
       let term : C = K.scale c (K.unit x) in
-      let last : T.mul term (inverse x) ≡ K.scale c T.one = K.scale_mul c (K.unit x) (inverse x) ∙ ap (K.scale c) (unit_inverse x) in
+      let last : T.mul term (inverse x) ≡ K.scale c T.one = K.scale_mul c (K.unit x) (inverse x)
+      ∙ ap (K.scale c) (unit_inverse x) in
       ap (T.mul (K.unit x)) (T.mul_assoc z term (inverse x) ∙ ap (T.mul z) last ∙ K.mul_scale c z T.one ∙ ap (K.scale c) (T.mul_one z))
       ∙ K.mul_scale c (K.unit x) z
       ∙ sym (K.scale_mul c (K.unit x) z)
@@ -138,7 +143,8 @@ module _ {A G C : Type 0} (R : CommRing A) (F : Finite G) (P : Group G) (T : Rin
   conjugates x = record { trace = spread x; of_add = spread_add x; of_mul = spread_mul x }
 
   -- a central element is its own conjugate
-  spread_central : (x : G) (z : C) → ((y : G) → T.mul z (K.unit y) ≡ T.mul (K.unit y) z) → spread x z ≡ multiple R F.size (K.coordinate z x)
+  spread_central : (x : G) (z : C) → ((y : G) → T.mul z (K.unit y) ≡ T.mul (K.unit y) z) → spread x z
+      ≡ multiple R F.size (K.coordinate z x)
   spread_central x z central =
       total_ext R F (λ c. K.coordinate (conjugate c z) x) (λ c. K.coordinate z x)
       (λ c. ap (λ w. K.coordinate w x)
@@ -159,7 +165,8 @@ module _ {A G C : Type 0} (R : CommRing A) (F : Finite G) (P : Group G) (T : Rin
       ∙ K.scale_scale p c (T.mul v y)
       ∙ sym (ap₂ K.scale (sums.power_suc R c n) (power_suc T y n))
 
-  module _ (q : ℕ) (characteristic : HasCharacteristic R q) (over : F.size < q) (numbers : (c : A) → power R c q ≡ c) (units : (x : G) → ring_power T (K.unit x) q ≡ K.unit x) where
+  module _ (q : ℕ) (characteristic : HasCharacteristic R q) (over : F.size < q)
+      (numbers : (c : A) → power R c q ≡ c) (units : (x : G) → ring_power T (K.unit x) q ≡ K.unit x) where
     -- a power by q has the trace of its base
     spread_power : (x : G) (z : C) → spread x (ring_power T z q) ≡ spread x z
     spread_power x z =

@@ -43,10 +43,12 @@ module _ {A : Type 0} (R : Ring A) where
   add_fixed x y h = sym (neg_add_add x y) ∙ ap (R.add (R.neg x)) (h ∙ sym (R.add_nought x)) ∙ neg_add_add x R.nought
 
   pub mul_nought : (x : A) → R.mul x R.nought ≡ R.nought
-  mul_nought x = add_fixed (R.mul x R.nought) (R.mul x R.nought) (sym (R.mul_add x R.nought R.nought) ∙ ap (R.mul x) (R.add_nought R.nought))
+  mul_nought x =
+      add_fixed (R.mul x R.nought) (R.mul x R.nought) (sym (R.mul_add x R.nought R.nought) ∙ ap (R.mul x) (R.add_nought R.nought))
 
   pub nought_mul : (x : A) → R.mul R.nought x ≡ R.nought
-  nought_mul x = add_fixed (R.mul R.nought x) (R.mul R.nought x) (sym (R.add_mul R.nought R.nought x) ∙ ap (λ a. R.mul a x) (R.add_nought R.nought))
+  nought_mul x =
+      add_fixed (R.mul R.nought x) (R.mul R.nought x) (sym (R.add_mul R.nought R.nought x) ∙ ap (λ a. R.mul a x) (R.add_nought R.nought))
 
 -- multiplies out, and sorts sums
 pub ruleset any_ring_rules = (nought_add, add_nought, mul_nought, nought_mul, mul_one, one_mul, mul_add, add_mul, add_assoc, add_comm, add_left_comm, mul_assoc)
@@ -85,12 +87,18 @@ module _ {A : Type 0} (R : Ring A) where
   -- what holds of nought, of sums of two and of every term holds of a sum
   pub sum_holds : (P : A → Type 0) → P R.nought → ((x y : A) → P x → P y → P (R.add x y)) → (n : ℕ) (f : ℕ → A) → ((i : ℕ) → P (f i)) → P (ring_sum R n f)
   sum_holds P start step zero f each = rw (sum_zero R f) start
-  sum_holds P start step (suc n) f each = rw (sum_suc R n f) (step (ring_sum R n f) (f n) (sum_holds P start step n f each) (each n))
+  sum_holds P start step (suc n) f each =
+      rw (sum_suc R n f) (step (ring_sum R n f) (f n) (sum_holds P start step n f each) (each n))
 
   -- x^(n + 1) = x x^n
   pub power_first : (x : A) (n : ℕ) → ring_power R x (suc n) ≡ R.mul x (ring_power R x n)
-  power_first x zero = power_suc R x 0 ∙ ap (λ y. R.mul y x) (power_zero R x) ∙ R.one_mul x ∙ sym (ap (R.mul x) (power_zero R x) ∙ R.mul_one x)
-  power_first x (suc n) = power_suc R x (suc n) ∙ ap (λ y. R.mul y x) (power_first x n) ∙ R.mul_assoc x (ring_power R x n) x ∙ ap (R.mul x) (sym (power_suc R x n))
+  power_first x zero =
+      power_suc R x 0 ∙ ap (λ y. R.mul y x) (power_zero R x) ∙ R.one_mul x ∙ sym (ap (R.mul x) (power_zero R x) ∙ R.mul_one x)
+  power_first x (suc n) =
+      power_suc R x (suc n)
+      ∙ ap (λ y. R.mul y x) (power_first x n)
+      ∙ R.mul_assoc x (ring_power R x n) x
+      ∙ ap (R.mul x) (sym (power_suc R x n))
 
   pub nought_power : (n : ℕ) → 0 < n → ring_power R R.nought n ≡ R.nought
   nought_power zero positive = absurd (omega arith)

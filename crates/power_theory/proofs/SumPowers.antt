@@ -78,12 +78,14 @@ module _ {A : Type 0} (R : Ring A) where
   derivative-suc f k = sum_suc R k (λ i. f (suc k))
 
   module _ (a b : A) where
-    before-right : (f : ℕ → A) (k : ℕ) → before R (times_right R a b f) k ≡ R.add (R.mul (before R (before R f) k) a) (R.mul (before R f k) b)
+    before-right : (f : ℕ → A) (k : ℕ) → before R (times_right R a b f) k
+        ≡ R.add (R.mul (before R (before R f) k) a) (R.mul (before R f k) b)
     unfolding before times_right
     before-right f zero = sym (ap₂ R.add (nought_mul R a) (nought_mul R b) ∙ R.add_nought R.nought)
     before-right f (suc k) = refl
 
-    before-left : (f : ℕ → A) (k : ℕ) → before R (times_left R a b f) k ≡ R.add (R.mul a (before R (before R f) k)) (R.mul b (before R f k))
+    before-left : (f : ℕ → A) (k : ℕ) → before R (times_left R a b f) k
+        ≡ R.add (R.mul a (before R (before R f) k)) (R.mul b (before R f k))
     unfolding before times_left
     before-left f zero = sym (ap₂ R.add (mul_nought R a) (mul_nought R b) ∙ R.add_nought R.nought)
     before-left f (suc k) = refl
@@ -131,21 +133,25 @@ module _ {A : Type 0} (R : Ring A) where
 
     right-plus : (f g : ℕ → A) → times_right R a b (plus R f g) ≡ plus R (times_right R a b f) (times_right R a b g)
     unfolding times_right plus
-    right-plus f g = fun_ext (λ k. ap (λ u. R.add (R.mul u a) (R.mul (R.add (f k) (g k)) b)) (before-plus f g k) ∙ by (before R f k) (before R g k) (f k) (g k))
+    right-plus f g =
+        fun_ext (λ k. ap (λ u. R.add (R.mul u a) (R.mul (R.add (f k) (g k)) b)) (before-plus f g k) ∙ by (before R f k) (before R g k) (f k) (g k))
       where
         by : (u v w x : A)
-            → R.add (R.mul (R.add u v) a) (R.mul (R.add w x) b) ≡ R.add (R.add (R.mul u a) (R.mul w b)) (R.add (R.mul v a) (R.mul x b))
+            → R.add (R.mul (R.add u v) a) (R.mul (R.add w x) b)
+            ≡ R.add (R.add (R.mul u a) (R.mul w b)) (R.add (R.mul v a) (R.mul x b))
         by u v w x = simp (any_ring_rules, R)
 
     right-front : (c : A) (f : ℕ → A) → times_right R a b (front R c f) ≡ front R c (times_right R a b f)
     unfolding times_right front
-    right-front c f = fun_ext (λ k. ap (λ u. R.add (R.mul u a) (R.mul (R.mul c (f k)) b)) (before-front c f k) ∙ by (before R f k) (f k))
+    right-front c f =
+        fun_ext (λ k. ap (λ u. R.add (R.mul u a) (R.mul (R.mul c (f k)) b)) (before-front c f k) ∙ by (before R f k) (f k))
       where
         by : (u v : A) → R.add (R.mul (R.mul c u) a) (R.mul (R.mul c v) b) ≡ R.mul c (R.add (R.mul u a) (R.mul v b))
         by u v = simp (any_ring_rules, R)
 
     right-nought : times_right R a b (λ k. R.nought) ≡ (λ k. R.nought)
-    right-nought = fun_ext (λ k. right-at (λ k. R.nought) k ∙ ap (λ u. R.add (R.mul u a) (R.mul R.nought b)) (nothing k) ∙ simp (nought_mul, add_nought))
+    right-nought =
+        fun_ext (λ k. right-at (λ k. R.nought) k ∙ ap (λ u. R.add (R.mul u a) (R.mul R.nought b)) (nothing k) ∙ simp (nought_mul, add_nought))
       where
         nothing : (k : ℕ) → before R (λ k. R.nought) k ≡ R.nought
         nothing zero = before-zero (λ k. R.nought)
@@ -160,7 +166,10 @@ module _ {A : Type 0} (R : Ring A) where
     turned-front : (i : ℕ) (c : A) (f : ℕ → A) → turned R a b i (front R c f) ≡ front R c (turned R a b i f)
     turned-front zero c f = turned-zero (front R c f) ∙ sym (ap (front R c) (turned-zero f))
     turned-front (suc i) c f =
-        turned-suc i (front R c f) ∙ ap (times_right R a b) (turned-front i c f) ∙ right-front c (turned R a b i f) ∙ sym (ap (front R c) (turned-suc i f))
+        turned-suc i (front R c f)
+        ∙ ap (times_right R a b) (turned-front i c f)
+        ∙ right-front c (turned R a b i f)
+        ∙ sym (ap (front R c) (turned-suc i f))
 
     turned-nought : (i : ℕ) → turned R a b i (λ k. R.nought) ≡ (λ k. R.nought)
     turned-nought zero = turned-zero (λ k. R.nought)
@@ -177,17 +186,24 @@ module _ {A : Type 0} (R : Ring A) where
     words-right zero = words-suc 0 ∙ fun_ext (λ k. left-at (words R a b 0) k ∙ by k ∙ sym (right-at (words R a b 0) k))
       where
         by : (k : ℕ)
-            → R.add (R.mul a (before R (words R a b 0) k)) (R.mul b (words R a b 0 k)) ≡ R.add (R.mul (before R (words R a b 0) k) a) (R.mul (words R a b 0 k) b)
+            → R.add (R.mul a (before R (words R a b 0) k)) (R.mul b (words R a b 0 k))
+            ≡ R.add (R.mul (before R (words R a b 0) k) a) (R.mul (words R a b 0 k) b)
         by zero = simp (before-zero, words-zero-zero, any_ring_rules, R)
         by (suc zero) = simp (before-suc (words R a b 0) 0, words-zero-zero, words-zero-suc 0, any_ring_rules, R)
         by (suc (suc k)) = simp (before-suc (words R a b 0) (suc k), words-zero-suc k, words-zero-suc (suc k), any_ring_rules, R)
     words-right (suc n) =
-        words-suc (suc n) ∙ ap (times_left R a b) (words-right n) ∙ left-right (words R a b n) ∙ sym (ap (times_right R a b) (words-suc n))
+        words-suc (suc n)
+        ∙ ap (times_left R a b) (words-right n)
+        ∙ left-right (words R a b n)
+        ∙ sym (ap (times_right R a b) (words-suc n))
 
     turned-words : (i n t : ℕ) → n + i ≡ t → turned R a b i (words R a b n) ≡ words R a b t
     turned-words zero n t e = turned-zero (words R a b n) ∙ ap (words R a b) (omega arith)
     turned-words (suc i) n t e =
-        turned-suc i (words R a b n) ∙ ap (times_right R a b) (turned-words i n (n + i) refl) ∙ sym (words-right (n + i)) ∙ ap (words R a b) (omega arith)
+        turned-suc i (words R a b n)
+        ∙ ap (times_right R a b) (turned-words i n (n + i) refl)
+        ∙ sym (words-right (n + i))
+        ∙ ap (words R a b) (omega arith)
 
     -- ((a t + b) f)' = a f + (a t + b) f'
     derivative-left : (f : ℕ → A) → derivative R (times_left R a b f) ≡ plus R (front R a f) (times_left R a b (derivative R f))
@@ -201,14 +217,16 @@ module _ {A : Type 0} (R : Ring A) where
         next : (k : ℕ) → times_left R a b f (suc k) ≡ R.add (R.mul a (f k)) (R.mul b (f (suc k)))
         next k = left-at f (suc k) ∙ ap (λ u. R.add (R.mul a u) (R.mul b (f (suc k)))) (before-suc f k)
 
-        copies : (n k : ℕ) → ring_sum R n (λ i. times_left R a b f k) ≡ R.add (R.mul a (ring_sum R n (λ i. before R f k))) (R.mul b (ring_sum R n (λ i. f k)))
+        copies : (n k : ℕ) → ring_sum R n (λ i. times_left R a b f k)
+            ≡ R.add (R.mul a (ring_sum R n (λ i. before R f k))) (R.mul b (ring_sum R n (λ i. f k)))
         copies n k =
             ap (λ x. ring_sum R n (λ i. x)) (left-at f k)
             ∙ sum_add R n (λ i. R.mul a (before R f k)) (λ i. R.mul b (f k))
             ∙ sym (ap₂ R.add (mul_sum R n a (λ i. before R f k)) (mul_sum R n b (λ i. f k)))
 
         by : (u v x y : A)
-            → R.add (R.add (R.mul a u) (R.mul b v)) (R.add (R.mul a x) (R.mul b y)) ≡ R.add (R.mul a x) (R.add (R.mul a u) (R.mul b (R.add v y)))
+            → R.add (R.add (R.mul a u) (R.mul b v)) (R.add (R.mul a x) (R.mul b y))
+            ≡ R.add (R.mul a x) (R.add (R.mul a u) (R.mul b (R.add v y)))
         by u v x y = simp (any_ring_rules, R)
 
 -- ---- the sum of the coefficients
@@ -245,7 +263,11 @@ module _ {A : Type 0} (R : Ring A) (a b : A) where
       ∙ sym (power_first R a n)
 
   sum-before : (n : ℕ) (f : ℕ → A) → ring_sum R (suc n) (before R f) ≡ ring_sum R n f
-  sum-before zero f = sum_suc R 0 (before R f) ∙ ap₂ R.add (sum_zero R (before R f)) (before-zero R f) ∙ R.add_nought R.nought ∙ sym (sum_zero R f)
+  sum-before zero f =
+      sum_suc R 0 (before R f)
+      ∙ ap₂ R.add (sum_zero R (before R f)) (before-zero R f)
+      ∙ R.add_nought R.nought
+      ∙ sym (sum_zero R f)
   sum-before (suc n) f =
       sum_suc R (suc n) (before R f) ∙ ap₂ R.add (sum-before n f) (before-suc R f n) ∙ sym (sum_suc R n f)
 
@@ -270,7 +292,8 @@ module _ {A : Type 0} (R : Ring A) (a b : A) where
 -- ---- under a trace
 module _ {A B : Type 0} (R : Ring A) (S : CommRing B) (t : Trace R S) where
   trace_nought : t.trace R.nought ≡ S.nought
-  trace_nought = commutative.add_fixed S (t.trace R.nought) (t.trace R.nought) (sym (t.of_add R.nought R.nought) ∙ ap t.trace (R.add_nought R.nought))
+  trace_nought =
+      commutative.add_fixed S (t.trace R.nought) (t.trace R.nought) (sym (t.of_add R.nought R.nought) ∙ ap t.trace (R.add_nought R.nought))
 
   trace_sum : (n : ℕ) (f : ℕ → A) → t.trace (ring_sum R n f) ≡ sum_below S n (λ i. t.trace (f i))
   trace_sum zero f = ap t.trace (sum_zero R f) ∙ trace_nought ∙ sym (sums.sum_zero S (λ i. t.trace (f i)))
@@ -333,7 +356,8 @@ module _ {A B : Type 0} (R : Ring A) (S : CommRing B) (t : Trace R S) where
           ∙ characteristic.vanishes (t.trace (R.mul a (words R a b (q - 1) k))))
 
       -- tr((a + b)^q) = tr(a^q) + tr(b^q)
-      pub trace_power_of_sum : 0 < q → t.trace (ring_power R (R.add a b) q) ≡ S.add (t.trace (ring_power R a q)) (t.trace (ring_power R b q))
+      pub trace_power_of_sum : 0 < q → t.trace (ring_power R (R.add a b) q)
+          ≡ S.add (t.trace (ring_power R a q)) (t.trace (ring_power R b q))
       trace_power_of_sum positive =
           ap t.trace (power_of_sum R a b q)
           ∙ trace_sum (suc q) (words R a b q)
