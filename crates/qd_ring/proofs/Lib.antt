@@ -18,3 +18,6 @@ pub mod CycLaws
 pub mod CycSums
 pub mod RootSumLaws
 pub mod SizeLaws
+pub mod TotalLaws
+pub mod SparseLaws
+pub mod FoldingLaws

@@ -31,7 +31,7 @@ fn less_signed(a: i128, c: i128, sign: i8) -> i128
 }
 
 // Adds c at the place v: the multiple c x^v.
-fn add_at(buffer: &mut [i128], v: usize, c: i128)
+pub(crate) fn add_at(buffer: &mut [i128], v: usize, c: i128)
     requires place { v < length buffer.old }
     requires room { total_of buffer.old + nat_abs c < 2 ^ 126 }
     ensures value { (m : List ℤ) → value_of m buffer.new ≡ value_sum (value_of m buffer.old) (value_multiple c (value_root m v)) }
@@ -143,6 +143,17 @@ pub(crate) fn size(coefficients: &[i128]) -> u128
         largest = a.unsigned_abs().max(largest);
     }
     largest
+}
+
+/// The value of the buffer, as an array; the buffer is used up.
+pub(crate) fn reduced(k: u32, buffer: &mut [i128]) -> [i128; 42]
+    requires conductor { is_conductor k ≡ true }
+    requires size { length buffer.old ≡ k }
+    requires room { total_of buffer.old < 2 ^ 126 }
+    ensures { result ≡ array_of (cyclotomic_value k buffer.old) }
+{
+    reduce(k, buffer);
+    first_places(buffer, reduction(k).len())
 }
 
 // The polynomial at x^stride, times x^start, reduced; the buffer is used up.

@@ -2,10 +2,10 @@ use Rattle.std.proofs.Common.{ap, sym, ◌∙◌, subst, arith, ◌+◌, ◌<◌
 use Rattle.cyclotomic.specs.Fit.{value_size, greatest_magnitude}
 use Rattle.cyclotomic.specs.Ring.{value_sum}
 use Rattle.cyclotomic.specs.CyclotomicRing.{cyclotomic_value}
-use Rattle.table_check.specs.Formed.{Forms}
-use Rattle.table_check.specs.Totals.{IsTotal}
-use Rattle.table_check.proofs.Totals.{total_more, total_misses, total_unfit, total_great}
-use Rattle.table_check.proofs.total.Total.with.Goals as goal
+use Rattle.qd_ring.specs.Formed.{Forms}
+use Rattle.qd_ring.specs.Totals.{IsTotal}
+use Rattle.qd_ring.proofs.TotalLaws.{total_more, total_misses, total_unfit, total_great}
+use Rattle.qd_ring.proofs.total.Total.with.Goals as goal
 
 pub returns-in_default-clause-overflow : goal.returns-in_default-clause-overflow
 returns-in_default-clause-overflow g c = λ term i n inside total formed.

@@ -17,8 +17,8 @@ use Rattle.qd_ring.specs.Fit.{sum_overflows}
 use Rattle.qd_ring.specs.CyclotomicFit.{cyclotomic_fit}
 use Rattle.qd_ring.specs.declared.cyc.Cyc.{Cyc}
 use Rattle.qd_ring.proofs.ListedSums.{overflow_by_step, overflow_by_size, sum_below_more}
-use Rattle.table_check.specs.Formed.{Formed, Forms, listed}
-use Rattle.table_check.specs.Totals.{IsTotal}
+use Rattle.qd_ring.specs.Formed.{Formed, Forms, listed}
+use Rattle.qd_ring.specs.Totals.{IsTotal}
 
 module _ {k : ℕ} (term : ℕ → Formed k) where
   -- no terms

@@ -1,7 +1,7 @@
 use Rattle.std.proofs.Common.{refl}
 use Rattle.cyclotomic.specs.CyclotomicRing.{cyclotomic_value}
-use Rattle.table_check.proofs.Totals.{total_all}
-use Rattle.table_check.proofs.total.Total.sum.Goals as goal
+use Rattle.qd_ring.proofs.TotalLaws.{total_all}
+use Rattle.qd_ring.proofs.total.Total.sum.Goals as goal
 
 pub returns : goal.returns
 returns g c = record {

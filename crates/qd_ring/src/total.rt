@@ -1,10 +1,10 @@
 ghost use Rattle.std.specs.Prelude.{◌≡◌, ◌<◌, ◌+◌, ℕ, Option, Some, None, IfSome, IfNone, true};
 ghost use Rattle.cyclotomic.specs.Conductors.{is_conductor};
 ghost use Rattle.cyclotomic.specs.CyclotomicRing.{cyclotomic_value};
-ghost use Rattle.table_check.specs.Formed.{Formed, Forms, listed};
-ghost use Rattle.table_check.specs.Totals.{IsTotal};
+ghost use Rattle.qd_ring.specs.Formed.{Formed, Forms, listed};
+ghost use Rattle.qd_ring.specs.Totals.{IsTotal};
 
-use qd_ring::Cyc;
+use crate::cyc::Cyc;
 
 /// The greatest number that the sizes of the terms of a listed sum may add up to.
 const GREATEST: u128 = (1 << 120) - 1;

@@ -5,7 +5,7 @@ use Rattle.scan.specs.First.{all_below}
 use Rattle.algebra.specs.Sums.{sum_below}
 use Rattle.cyclotomic.specs.CyclotomicRing.{CyclotomicValue, cyclotomic_ring}
 use Rattle.cyclotomic.specs.Fit.{value_size, greatest_magnitude}
-use Rattle.table_check.specs.Formed.{Formed}
+use Rattle.qd_ring.specs.Formed.{Formed}
 
 -- the sum and the sizes of the first n terms, all of which fit, and fit together
 pub record IsTotal {k : ℕ} (term : ℕ → Formed k) (n : ℕ) (sum : CyclotomicValue k) (sizes : ℕ) : Type 0 where
