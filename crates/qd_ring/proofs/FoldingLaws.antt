@@ -1,6 +1,6 @@
 -- Steps of adding up products in one buffer.
-use Rattle.std.proofs.Common.{◌≡◌, ◌+◌, ◌*◌, ◌^◌, ◌<◌, ◌≤◌, ℕ, true, not, ◌||◌, Some, List, ◌++◌, length, take, drop, map, refl, sym, ◌∙◌, ap, subst, arith, zero-add, nat_lt, sum_by}
-use Rattle.std.specs.Prelude.{ℤ, pos}
+use Rattle.std.proofs.Common.{◌≡◌, ◌+◌, ◌*◌, ◌^◌, ◌<◌, ◌≤◌, ℕ, true, not, ◌||◌, Some, List, ◌++◌, length, take, map, refl, sym, ◌∙◌, ap, subst, arith, zero-add, sum_by}
+use Rattle.std.specs.Prelude.{ℤ}
 use Rattle.std.specs.List.{range_with_len}
 use Rattle.std.proofs.Math.Nat.{mul-le-mul}
 use Rattle.std.proofs.lemmas.Bool.{le-ltb}
@@ -12,9 +12,8 @@ use Rattle.algebra.proofs.RingLaws.{one_mul}
 use Rattle.algebra.proofs.SumLaws.{sum_zero}
 use Rattle.cyclotomic.specs.Conductors.{is_conductor}
 use Rattle.cyclotomic.specs.Cyclotomic.{cyclotomic}
-use Rattle.cyclotomic.specs.Polynomial.{zeros}
 use Rattle.cyclotomic.specs.Ring.{value_sum, value_nought, value_product}
-use Rattle.cyclotomic.specs.CyclotomicRing.{CyclotomicValue, cyclotomic_ring, cyclotomic_value, root}
+use Rattle.cyclotomic.specs.CyclotomicRing.{CyclotomicValue, cyclotomic_ring, cyclotomic_value}
 use Rattle.cyclotomic.specs.Fit.{value_size, value_fits, product_fits, greatest_magnitude, sizes_overflow}
 use Rattle.cyclotomic.proofs.Images.{root-zero}
 use Rattle.cyclotomic.proofs.Sizes.{total_of}

@@ -1,6 +1,6 @@
 -- Sparse values: one more term, sizes, and the terms of a product.
-use Rattle.std.proofs.Common.{◌≡◌, ℕ, zero, suc, ◌+◌, ◌*◌, ◌^◌, ◌%◌, ◌<◌, ◌≤◌, true, List, [], ◌∷◌, ◌++◌, length, take, drop, get_or, refl, sym, ap, ◌∙◌, subst, arith, take-append-drop}
-use Rattle.std.proofs.Math.Nat.{mul-le-mul_left, mul-le-mul_right}
+use Rattle.std.proofs.Common.{◌≡◌, ℕ, zero, suc, ◌+◌, ◌*◌, ◌^◌, ◌%◌, ◌<◌, ◌≤◌, true, List, [], ◌∷◌, ◌++◌, length, take, get_or, refl, sym, ap, ◌∙◌, arith}
+use Rattle.std.proofs.Math.Nat.{mul-le-mul, mul-le-mul_left, mul-le-mul_right}
 use Rattle.std.proofs.lemmas.List.{take_more}
 use Rattle.std.specs.Prelude.{ℤ, pos, ◌*ℤ◌, nat_abs}
 use Rattle.std.proofs.lemmas.Int.{to_z-of_z}
@@ -11,7 +11,7 @@ use Rattle.algebra.proofs.RingLaws.{add_mul, mul_add, mul_assoc, mul_nought, nou
 use Rattle.cyclotomic.specs.Conductors.{is_conductor}
 use Rattle.cyclotomic.specs.Cyclotomic.{cyclotomic}
 use Rattle.cyclotomic.specs.Division.{degree}
-use Rattle.cyclotomic.specs.Ring.{Value, value_sum, value_multiple, value_nought, value_product}
+use Rattle.cyclotomic.specs.Ring.{value_sum, value_multiple, value_nought, value_product}
 use Rattle.cyclotomic.specs.CyclotomicRing.{CyclotomicValue, cyclotomic_ring, root}
 use Rattle.cyclotomic.specs.Fit.{value_size}
 use Rattle.cyclotomic.specs.Laws.Action.{scale_nought}
@@ -21,7 +21,7 @@ use Rattle.cyclotomic.proofs.Inverses.{root_modulo}
 use Rattle.cyclotomic.proofs.Sizes.{size-zeros, magnitude-product}
 use Rattle.cyclotomic.proofs.Bounds.{root_size}
 use Rattle.qd_ring.specs.declared.monomial.Monomial.{Monomial}
-use Rattle.qd_ring.specs.SparseValues.{value_of_terms, total_of_terms}
+use Rattle.qd_ring.specs.SparseValues.{value_of_terms, total_of_terms, IsSparse}
 use Rattle.qd_ring.proofs.BufferLaws.{read_128}
 use Rattle.qd_ring.proofs.SpreadLaws.{product-multiple}
 use Rattle.qd_ring.proofs.ProductLaws.{multiple-product}
@@ -219,3 +219,10 @@ module _ (k : ℕ) (entry : is_conductor k ≡ true) where
       ∙ ap (λ u. value_sum u rest) first in
       omega
       (arith, ap (λ u. value_size u) is, size_sum k (value_multiple c turned) rest, size_multiple k c turned, mul-le-mul_left (nat_abs c) (size-turned (e + term.power) others), size-turned_product e terms others)
+
+-- ---- the room for a product of two values whose sizes fit together
+pub sparse_room : (k : ℕ) (terms others : List Monomial) (s t p q : ℕ) → IsSparse k terms s p → IsSparse k others t q → s * t < 2 ^ 108 → total_of_terms terms * total_of_terms others < 2 ^ 126
+sparse_room k terms others s t p q of_terms of_others small =
+    let both : total_of_terms terms * total_of_terms others ≤ (42 * s) * (42 * t) =
+    mul-le-mul (omega (arith, of_terms.total_is, of_terms.spread)) (omega (arith, of_others.total_is, of_others.spread)) in
+    omega (arith, both, small)

@@ -1,5 +1,5 @@
 -- Sparse values: lists of coefficients, each at a power of x.
-use Rattle.std.specs.Prelude.{◌≡◌, ◌<◌, ◌≤◌, ◌+◌, ◌*◌, ◌^◌, ℕ, nat_abs, true, List, [], ◌∷◌, length, All}
+use Rattle.std.specs.Prelude.{◌≡◌, ◌<◌, ◌≤◌, ◌+◌, ◌*◌, ℕ, nat_abs, true, List, [], ◌∷◌, All}
 use Rattle.cyclotomic.specs.Conductors.{is_conductor}
 use Rattle.cyclotomic.specs.Ring.{value_sum, value_multiple, value_nought}
 use Rattle.cyclotomic.specs.CyclotomicRing.{CyclotomicValue, root}

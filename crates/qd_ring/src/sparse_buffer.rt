@@ -5,10 +5,12 @@ ghost use Rattle.cyclotomic.specs.Cyclotomic.{cyclotomic};
 ghost use Rattle.cyclotomic.specs.Conductors.{is_conductor};
 ghost use Rattle.cyclotomic.specs.Ring.{value_sum, value_multiple, value_product};
 ghost use Rattle.cyclotomic.specs.CyclotomicRing.{cyclotomic_value, root};
+ghost use Rattle.cyclotomic.specs.Polynomial.{zeros};
 ghost use Rattle.cyclotomic.proofs.Sizes.{total_of};
+ghost use Rattle.qd_ring.specs.CycArrays.{array_of};
 ghost use Rattle.qd_ring.specs.SparseValues.{value_of_terms, total_of_terms};
 
-use crate::cyc_buffer::add_at;
+use crate::cyc_buffer::{add_at, reduced};
 use crate::monomial::Monomial;
 
 // The place of x^power, times x^start, modulo x^k - 1.
@@ -66,4 +68,29 @@ pub(crate) fn add_product(k: u32, buffer: &mut [i128], a: &[Monomial], b: &[Mono
     for term in a {
         add_terms(k, buffer, term.coefficient, b, turned(k, start, term.power));
     }
+}
+
+// The product of two sparse values, reduced; the buffer is used up.
+fn reduced_product(k: u32, buffer: &mut [i128], a: &[Monomial], b: &[Monomial]) -> [i128; 42]
+    requires conductor { is_conductor k ≡ true }
+    requires empty { buffer.old ≡ zeros k }
+    requires a_powers { All (λ term. term.power < k) a.now }
+    requires b_powers { All (λ term. term.power < k) b.now }
+    requires room { total_of_terms a.now * total_of_terms b.now < 2 ^ 126 }
+    ensures { result ≡ array_of (value_product (cyclotomic k) (value_of_terms k a.now) (value_of_terms k b.now)) }
+{
+    add_product(k, buffer, a, b, 0);
+    reduced(k, buffer)
+}
+
+/// The product of two sparse values.
+pub(crate) fn product(k: u32, a: &[Monomial], b: &[Monomial]) -> [i128; 42]
+    requires conductor { is_conductor k ≡ true }
+    requires a_powers { All (λ term. term.power < k) a.now }
+    requires b_powers { All (λ term. term.power < k) b.now }
+    requires room { total_of_terms a.now * total_of_terms b.now < 2 ^ 126 }
+    ensures { result ≡ array_of (value_product (cyclotomic k) (value_of_terms k a.now) (value_of_terms k b.now)) }
+{
+    let mut buffer = [0i128; 120];
+    reduced_product(k, &mut buffer[..k as usize], a, b)
 }

@@ -1,6 +1,8 @@
-ghost use Rattle.std.specs.Prelude.{◌≡◌, ℕ, ◌+◌, ◌<◌, ◌≤◌, nat_abs, true, All};
+ghost use Rattle.std.specs.Prelude.{◌≡◌, ℕ, ◌+◌, ◌<◌, ◌≤◌, nat_abs, true, All, IfSome, is_some};
 ghost use Rattle.cyclotomic.specs.Conductors.{is_conductor};
-ghost use Rattle.cyclotomic.specs.Ring.{value_sum, value_multiple};
+ghost use Rattle.cyclotomic.specs.Cyclotomic.{cyclotomic};
+ghost use Rattle.cyclotomic.specs.Fit.{product_fits};
+ghost use Rattle.cyclotomic.specs.Ring.{value_sum, value_multiple, value_product};
 ghost use Rattle.cyclotomic.specs.CyclotomicRing.{cyclotomic_value, root};
 ghost use Rattle.arrayvec.specs.ArrayVec.{array_vec_len};
 ghost use Rattle.qd_ring.specs.SparseValues.{value_of_terms, total_of_terms};
@@ -8,8 +10,12 @@ ghost use Rattle.qd_ring.specs.SparseValues.{value_of_terms, total_of_terms};
 use crate::cyc::Cyc;
 use crate::monomial::Monomial;
 use crate::reduction::reduction;
+use crate::sparse_buffer::product;
 use arrayvec::ArrayVec;
 use std::marker::Model;
+
+/// A product of two values fits where the product of their sizes is below this number.
+const PRODUCT_LIMIT: u128 = 1 << 108;
 
 /// The sparse form of a value: its coefficients that aren't 0, each at a power of x; seen as the list of these.
 ///
@@ -80,5 +86,18 @@ impl<const K: u32> Terms<K> {
         ensures conductor { is_conductor K ≡ true }
     {
         self.terms.as_slice()
+    }
+
+    /// The product; `None` exactly where the two values don't fit together.
+    pub fn try_mul(&self, b: &Terms<K>) -> Option<Cyc<K>>
+        ensures fits { is_some result ≡ product_fits (value_of_terms K self.now) (value_of_terms K b.now) }
+        ensures value { IfSome result (λ value. cyclotomic_value K value.coefficients ≡ value_product (cyclotomic K) (value_of_terms K self.now) (value_of_terms K b.now)) }
+    {
+        match self.size.checked_mul(b.size) {
+            Some(sizes) if sizes < PRODUCT_LIMIT => Some(Cyc {
+                coefficients: product(K, self.terms.as_slice(), b.terms.as_slice()),
+            }),
+            _ => None,
+        }
     }
 }

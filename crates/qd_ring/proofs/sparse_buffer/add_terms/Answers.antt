@@ -1,16 +1,12 @@
 -- Each term adds its multiple.
-use Rattle.std.proofs.Common.{◌≡◌, ◌+◌, ◌*◌, ◌^◌, ◌<◌, length, take, ap, sym, subst, ◌∙◌, arith, nat_abs, pos}
-use Rattle.std.proofs.Math.Nat.{mul-le-mul_left}
-use Rattle.std.proofs.Math.Seq.{take-length}
+use Rattle.std.proofs.Common.{◌+◌, ◌*◌, ◌^◌, ◌<◌, sym, subst, arith, nat_abs, pos}
 use Rattle.std.proofs.lemmas.Int.{to_z-of_z}
 use mir.Syntax.{w128}
 use mir.Val.{to_z, of_z}
-use Rattle.cyclotomic.specs.Cyclotomic.{cyclotomic}
-use Rattle.cyclotomic.specs.Ring.{value_sum, value_multiple, value_product}
 use Rattle.cyclotomic.specs.CyclotomicRing.{cyclotomic_value, root}
 use Rattle.cyclotomic.proofs.Sizes.{total_of}
-use Rattle.qd_ring.specs.SparseValues.{value_of_terms, total_of_terms}
-use Rattle.qd_ring.proofs.SparseLaws.{scaled_none, scaled_step, total_scaled, total_scaled_within, total-none}
+use Rattle.qd_ring.specs.SparseValues.{total_of_terms}
+use Rattle.qd_ring.proofs.SparseLaws.{scaled_none, scaled_step, total_scaled, total_scaled_within}
 use Rattle.qd_ring.proofs.sparse_buffer.add_terms.Goals as goal
 
 pub loop-term-init : goal.loop-term-init

@@ -1,10 +1,7 @@
 -- The remainder of the buffer, which is within the bound.
-use Rattle.std.proofs.Common.{ap, ◌∙◌, ◌<◌, ◌^◌, subst, sym, refl, arith, length, take}
-use Rattle.std.proofs.lemmas.List.{length-take-le}
+use Rattle.std.proofs.Common.{ap, ◌∙◌, ◌<◌, ◌^◌, subst, sym, arith, take}
 use Rattle.cyclotomic.specs.CyclotomicRing.{cyclotomic_value}
-use Rattle.cyclotomic.specs.Fit.{greatest_magnitude}
 use Rattle.qd_ring.specs.ReductionSigns.{conductor_bounds}
-use Rattle.qd_ring.specs.Folding.{IsFolded}
 use Rattle.qd_ring.proofs.ProductLaws.{value-array_of}
 use Rattle.qd_ring.proofs.CycLaws.{array-is}
 use Rattle.qd_ring.proofs.FoldingLaws.{folded_all, buffer_front, reduced_small}

@@ -1,5 +1,5 @@
 -- A buffer of zeros.
-use Rattle.std.proofs.Common.{ap, ◌∙◌, subst, sym, refl, arith}
+use Rattle.std.proofs.Common.{ap, ◌∙◌, subst, sym, arith}
 use Rattle.cyclotomic.specs.Cyclotomic.{cyclotomic}
 use Rattle.cyclotomic.specs.CyclotomicRing.{cyclotomic_value}
 use Rattle.cyclotomic.proofs.Sizes.{total_of}

@@ -1,5 +1,5 @@
 -- The coefficients that aren't 0 stand for the value.
-use Rattle.std.proofs.Common.{◌≡◌, ◌+◌, ◌*◌, ◌^◌, ◌<◌, ◌≤◌, suc, length, take, get_or, ap, sym, ◌∙◌, subst, arith, nat_abs, pos, refl}
+use Rattle.std.proofs.Common.{◌≡◌, ◌+◌, ◌<◌, suc, length, take, get_or, ap, sym, ◌∙◌, arith, nat_abs, pos}
 use mathlib.Core.Path.{ap₂}
 use Rattle.std.proofs.Math.Numerals.{add-one}
 use Rattle.cyclotomic.specs.Cyclotomic.{cyclotomic}
