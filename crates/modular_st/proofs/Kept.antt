@@ -12,7 +12,7 @@ use Rattle.transport.specs.FullCharacters.{full_character}
 use Rattle.transport.specs.SSums.{commute}
 use Rattle.modular_st.specs.Numerators.{s_term}
 use Rattle.modular_st.specs.Conjugates.{IsKeptRow, AreKept, conjugate_term}
-use Rattle.modular_st.proofs.Noughts.{IsNought, as_so}
+use Rattle.qd_ring.proofs.NoughtLaws.{IsNought, as_so}
 use Rattle.modular_st.proofs.Terms.{pair_below, other_class, commute_back, apart_term, first_other, second_other}
 use Rattle.modular_st.proofs.AllAts.{some_of}
 

@@ -14,7 +14,7 @@ use Rattle.transport.specs.FullCharacters.{full_character}
 use Rattle.transport.specs.SSums.{commute, pair_term, s_sum}
 use Rattle.modular_st.specs.Numerators.{s_term, s_site, IsOverflow}
 use Rattle.modular_st.specs.Conjugates.{conjugate_term}
-use Rattle.modular_st.proofs.Noughts.{IsNought, unless_so, as_so, conjugate_of_nought, nought_times, times_nought}
+use Rattle.qd_ring.proofs.NoughtLaws.{IsNought, unless_so, as_so, conjugate_of_nought, nought_times, times_nought}
 
 -- a place among the pairs
 pub pair_below : (i m g n : ℕ) → i < m → g < n → i * n + g < m * n

@@ -1,5 +1,5 @@
 -- Steps of adding up products in one buffer.
-use Rattle.std.proofs.Common.{◌≡◌, ◌+◌, ◌*◌, ◌^◌, ◌<◌, ◌≤◌, ℕ, true, not, ◌||◌, Some, List, ◌++◌, length, take, map, refl, sym, ◌∙◌, ap, subst, arith, zero-add, sum_by}
+use Rattle.std.proofs.Common.{◌≡◌, ◌+◌, ◌*◌, ◌^◌, ◌<◌, ◌≤◌, ℕ, true, not, ◌||◌, ◌&&◌, Some, List, ◌++◌, length, take, map, refl, sym, ◌∙◌, ap, subst, arith, zero-add, sum_by}
 use Rattle.std.specs.Prelude.{ℤ}
 use Rattle.std.specs.List.{range_with_len}
 use Rattle.std.proofs.Math.Nat.{mul-le-mul}
@@ -20,9 +20,9 @@ use Rattle.cyclotomic.proofs.Sizes.{total_of}
 use Rattle.qd_ring.specs.declared.cyc.Cyc.{Cyc}
 use Rattle.qd_ring.specs.declared.monomial.Monomial.{Monomial}
 use Rattle.qd_ring.specs.Fit.{sum_overflows}
-use Rattle.qd_ring.specs.Formed.{Formed, Forms, listed}
+use Rattle.qd_ring.specs.Formed.{Formed, Forms, listed, multiplied, turned}
 use Rattle.qd_ring.specs.SparseValues.{value_of_terms, total_of_terms}
-use Rattle.qd_ring.specs.Folding.{turned_product, IsTurnedProduct, IsFolded}
+use Rattle.qd_ring.specs.Folding.{turned_product, IsSparseOf, IsTurnedProduct, IsFolded}
 use Rattle.std.proofs.Math.Seq.{take-append_seam}
 use Rattle.std.proofs.lemmas.List.{length-take-le}
 use Rattle.cyclotomic.specs.Ring.{value_of}
@@ -105,3 +105,24 @@ module _ (k : ℕ) (entry : is_conductor k ≡ true) where
   reduced_small xs ys is small =
       is_small_yes ys (size_of ys) refl
       (omega (arith, ap size_of is, size-array_of (cyclotomic_value k xs), remainder_size k entry xs, small))
+
+-- ---- products of values that are kept sparse
+module _ (k : ℕ) (f h : Formed k) (a b : List Monomial) (of_a : IsSparseOf k f a) (of_b : IsSparseOf k h b) where
+  both_formed : product_fits (value_of_terms k a) (value_of_terms k b) ≡ true → (multiplied k f h).fits ≡ true
+  both_formed together =
+      ap₂ (λ x y. x && y) (ap₂ (λ x y. x && y) of_a.fits of_b.fits) (ap₂ product_fits (sym of_a.stands) (sym of_b.stands) ∙ together)
+
+  -- with a root
+  pub turned_is_product : (e : ℕ) → IsTurnedProduct k (turned k e (multiplied k f h)) e (value_of_terms k a) (value_of_terms k b)
+  turned_is_product e =
+      let is = ap₂ (turned_product k e) (sym of_a.stands) (sym of_b.stands) in
+      record { fits = λ together fit. ap₂ (λ x y. x && y) (both_formed together) (ap value_fits is ∙ fit); is = is }
+
+  -- and without
+  pub plain_is_product : IsTurnedProduct k (multiplied k f h) 0 (value_of_terms k a) (value_of_terms k b)
+  plain_is_product = record {
+    fits = λ together fit. both_formed together;
+    is = sym (ap (λ r. value_product (cyclotomic k) r (value_product (cyclotomic k) (value_of_terms k a) (value_of_terms k b))) (root-zero (cyclotomic k))
+        ∙ one_mul (cyclotomic_ring k) (value_product (cyclotomic k) (value_of_terms k a) (value_of_terms k b))
+        ∙ ap₂ (value_product (cyclotomic k)) of_a.stands of_b.stands);
+  }

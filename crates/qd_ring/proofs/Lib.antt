@@ -21,3 +21,4 @@ pub mod SizeLaws
 pub mod TotalLaws
 pub mod SparseLaws
 pub mod FoldingLaws
+pub mod NoughtLaws

@@ -9,6 +9,8 @@ use Rattle.cyclotomic.specs.Ring.{value_product}
 use Rattle.cyclotomic.specs.CyclotomicRing.{CyclotomicValue, cyclotomic_ring, cyclotomic_value, root}
 use Rattle.cyclotomic.specs.Fit.{value_size, value_fits, product_fits}
 use Rattle.cyclotomic.proofs.Sizes.{total_of}
+use Rattle.qd_ring.specs.declared.monomial.Monomial.{Monomial}
+use Rattle.qd_ring.specs.SparseValues.{value_of_terms}
 use Rattle.qd_ring.specs.Formed.{Formed}
 
 -- the coefficients of a buffer, and a bound of the sum of their magnitudes
@@ -34,6 +36,11 @@ has_room bound a b = (nat_lt a (2 ^ 54) && nat_lt b (2 ^ 54)) && nat_lt (bound +
 -- x^e (u v)
 abbrev pub turned_product : (k e : ℕ) → CyclotomicValue k → CyclotomicValue k → CyclotomicValue k
 turned_product k e u v = value_product (cyclotomic k) (root k e) (value_product (cyclotomic k) u v)
+
+-- the sparse form of a value that is formed by steps that fit
+pub record IsSparseOf (k : ℕ) (formed : Formed k) (terms : List Monomial) : Type 0 where
+  pub fits : formed.fits ≡ true
+  pub stands : value_of_terms k terms ≡ formed.value
 
 -- a term that is formed as a product times a root: it is formed where both steps fit
 pub record IsTurnedProduct (k : ℕ) (term : Formed k) (e : ℕ) (u v : CyclotomicValue k) : Type 0 where

@@ -2,7 +2,7 @@ use Rattle.std.proofs.Common.{◌*◌, arith, sym, subst}
 use Rattle.cyclotomic.specs.CyclotomicRing.{cyclotomic_value}
 use Rattle.qd_ring.specs.Totals.{IsTotal}
 use Rattle.modular_st.specs.Numerators.{s_term}
-use Rattle.modular_st.proofs.Noughts.{total_noughts}
+use Rattle.qd_ring.proofs.NoughtLaws.{total_noughts}
 use Rattle.modular_st.proofs.Kept.{outside_term}
 use Rattle.modular_st.proofs.kept_sum.with_element.Goals as goal
 

@@ -4,7 +4,7 @@ use Rattle.scan.proofs.Places.{and_true}
 use Rattle.qd_ring.specs.Totals.{IsTotal}
 use Rattle.table_check.specs.declared.total.Total.{Total}
 use Rattle.modular_st.specs.Numerators.{s_term}
-use Rattle.modular_st.proofs.Noughts.{total_nought}
+use Rattle.qd_ring.proofs.NoughtLaws.{total_nought}
 use Rattle.modular_st.proofs.Terms.{pair_below, pair_forms}
 use Rattle.modular_st.proofs.Kept.{missed_term}
 use Rattle.modular_st.proofs.kept_sum.with_pair.Goals as goal

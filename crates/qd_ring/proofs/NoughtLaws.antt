@@ -1,7 +1,9 @@
--- Terms that are 0.
-use Rattle.std.proofs.Common.{◌≡◌, ◌+◌, ◌-◌, ◌*◌, ◌^◌, ◌<◌, ◌&&◌, ℕ, zero, suc, Bool, true, false, refl, sym, ◌∙◌, ap, subst, arith}
+-- Terms that are 0 may be left out of a sum.
+use Rattle.std.proofs.Common.{◌≡◌, ◌+◌, ◌-◌, ◌*◌, ◌^◌, ◌<◌, ◌&&◌, ℕ, zero, suc, Bool, true, false, refl, sym, ◌∙◌, ap, subst, arith, zero-add}
 use Rattle.std.proofs.lemmas.Bool.{le-leb, lt-ltb}
 use mathlib.Core.Path.{ap₂}
+use Rattle.std.proofs.lemmas.List.FromFn.{sum_by-map-range_with_len_more}
+use Rattle.scan.proofs.Places.{all_below-step}
 use Rattle.algebra.proofs.SumLaws.{nought_map}
 use Rattle.cyclotomic.specs.Cyclotomic.{cyclotomic}
 use Rattle.cyclotomic.specs.CyclotomicRing.{CyclotomicValue, cyclotomic_ring, conjugate}
@@ -11,8 +13,10 @@ use Rattle.cyclotomic.specs.Ring.{Value, value_nought, value_product, value_sum}
 use Rattle.cyclotomic.proofs.Images.{image-sum}
 use Rattle.cyclotomic.proofs.Sizes.{size-zeros}
 use Rattle.qd_ring.proofs.SpreadLaws.{product-nought}
-use Rattle.table_check.specs.Formed.{Formed, conjugated, multiplied, where_so}
+use Rattle.qd_ring.specs.Formed.{Formed, conjugated, multiplied, where_so}
 use Rattle.qd_ring.specs.Totals.{IsTotal}
+use Rattle.qd_ring.specs.Folding.{IsFolded}
+use Rattle.qd_ring.proofs.ListedSums.{sum_below_more}
 use Rattle.qd_ring.proofs.TotalLaws.{total_more}
 
 -- it fits, and is 0
@@ -80,3 +84,21 @@ module _ {k : ℕ} (term : ℕ → Formed k) where
   total_noughts i (suc m) sum sizes t none =
       let before = total_noughts i m sum sizes t (λ j inside. none j (omega (arith, inside))) in
       subst (λ p. IsTotal term p sum sizes) (omega arith) (total_nought (i + m) sum sizes before (none m (omega arith)))
+
+  -- the same of a sum that is folded
+  pub folded_nought : (i : ℕ) (sum : CyclotomicValue k) (bound : ℕ) → IsFolded k term i sum bound → IsNought (term i) → IsFolded k term (i + 1) sum bound
+  folded_nought i sum bound folded none =
+      let size = nought_size (term i).value none.nought in
+      record {
+        fit = all_below-step i (λ j. (term j).fits) folded.fit none.fits;
+        adds = sym (ap (value_sum sum) none.nought ∙ sum_nought (cyclotomic k) sum)
+            ∙ sum_below_more (cyclotomic_ring k) (λ j. (term j).value) i sum (term i).value folded.adds refl;
+        within = omega
+            (arith, folded.within, size, sum_by-map-range_with_len_more (λ v. value_size v) (λ j. (term j).value) 0 i i (zero-add i));
+      }
+
+  pub folded_noughts : (i m : ℕ) (sum : CyclotomicValue k) (bound : ℕ) → IsFolded k term i sum bound → ((j : ℕ) → j < m → IsNought (term (i + j))) → IsFolded k term (i + m) sum bound
+  folded_noughts i zero sum bound folded none = subst (λ p. IsFolded k term p sum bound) (omega arith) folded
+  folded_noughts i (suc m) sum bound folded none =
+      let before = folded_noughts i m sum bound folded (λ j inside. none j (omega (arith, inside))) in
+      subst (λ p. IsFolded k term p sum bound) (omega arith) (folded_nought (i + m) sum bound before (none m (omega arith)))
