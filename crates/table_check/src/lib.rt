@@ -9,6 +9,7 @@ mod candidate;
 mod compared;
 mod conjugated;
 mod identity_name;
+mod kept;
 mod miss;
 mod refusal;
 mod refusals;
@@ -20,9 +21,9 @@ mod tests;
 
 pub use identity_name::IdentityName;
 pub use miss::{Clause, Miss};
+pub use qd_ring::Total;
 pub use refusal::TableRefusal;
 pub use table::Table;
-pub use qd_ring::Total;
 
 /// The elements of the conjugates of a good table's rows are, up to whole factors, orthogonal central idempotents of the twisted group
 /// algebra that add up to one; there are as many as the rank of its centre.

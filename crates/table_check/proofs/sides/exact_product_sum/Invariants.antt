@@ -2,7 +2,7 @@ use Rattle.cyclotomic.specs.CyclotomicRing.{cyclotomic_value}
 use Rattle.table_check.specs.Characters.{characters_of}
 use Rattle.table_check.specs.Sides.{product_term}
 use Rattle.qd_ring.specs.Totals.{IsTotal}
-use Rattle.table_check.proofs.sides.product_sum.Given as goal
+use Rattle.table_check.proofs.sides.exact_product_sum.Given as goal
 
 -- the terms before y
 abbrev pub invariant-loop-y : goal.invariant-loop-y

@@ -2,7 +2,7 @@ use Rattle.cyclotomic.specs.CyclotomicRing.{cyclotomic_value}
 use Rattle.table_check.specs.Characters.{characters_of}
 use Rattle.table_check.specs.Sides.{row_term}
 use Rattle.qd_ring.specs.Totals.{IsTotal}
-use Rattle.table_check.proofs.sides.column_left.Given as goal
+use Rattle.table_check.proofs.sides.exact_column_left.Given as goal
 
 -- the terms before i
 abbrev pub invariant-loop-i : goal.invariant-loop-i

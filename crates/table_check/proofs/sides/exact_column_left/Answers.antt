@@ -3,7 +3,7 @@ use Rattle.cyclotomic.specs.CyclotomicRing.{cyclotomic_value}
 use Rattle.table_check.specs.Characters.{characters_of}
 use Rattle.table_check.specs.Sides.{row_term}
 use Rattle.qd_ring.specs.Totals.{IsTotal}
-use Rattle.table_check.proofs.sides.column_left.Goals as goal
+use Rattle.table_check.proofs.sides.exact_column_left.Goals as goal
 
 pub loop-i-init : goal.loop-i-init
 loop-i-init g c = c.zero-total.ensures.none_added (row_term c.args.table.now.over (characters_of g.row.K c.args.table.now.rows) c.args.x c.args.y)

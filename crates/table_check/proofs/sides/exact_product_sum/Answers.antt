@@ -4,7 +4,7 @@ use Rattle.twisted.specs.Twist.{size}
 use Rattle.table_check.specs.Characters.{characters_of}
 use Rattle.table_check.specs.Sides.{product_term}
 use Rattle.qd_ring.specs.Totals.{IsTotal}
-use Rattle.table_check.proofs.sides.product_sum.Goals as goal
+use Rattle.table_check.proofs.sides.exact_product_sum.Goals as goal
 
 pub loop-y-init : goal.loop-y-init
 loop-y-init g c = c.zero-total.ensures.none_added (product_term c.args.table.now.over (characters_of g.row.K c.args.table.now.rows) c.args.i c.args.j c.args.x)
