@@ -58,10 +58,15 @@ impl<const K: u32> Folded<K> {
     /// answer is false.
     pub fn add_product(&mut self, a: &Terms<K>, b: &Terms<K>, root: Root<K>) -> bool
         ensures there { result ≡ has_room self.old.bound (total_of_terms a.now) (total_of_terms b.now) }
-        ensures value { IsTrue result → folded_value K self.new ≡ value_sum (folded_value K self.old) (turned_product K root.entry.exponent (value_of_terms K a.now) (value_of_terms K b.now)) }
-        ensures bound { IsTrue result → self.new.bound ≡ self.old.bound + total_of_terms a.now * total_of_terms b.now }
+        ensures value { IsTrue result → folded_value K self.new ≡ value_sum (folded_value K self.old)
+            (turned_product K root.entry.exponent (value_of_terms K a.now) (value_of_terms K b.now)) }
+        ensures bound { IsTrue result
+            → self.new.bound ≡ self.old.bound + total_of_terms a.now * total_of_terms b.now }
         ensures unchanged { result ≡ false → self.new ≡ self.old }
-        ensures listed { IsTrue result → (term : ℕ → Formed K) (i : ℕ) → IsFolded K term i (folded_value K self.old) self.old.bound → IsTurnedProduct K (term i) root.entry.exponent (value_of_terms K a.now) (value_of_terms K b.now) → IsFolded K term (i + 1) (folded_value K self.new) self.new.bound }
+        ensures listed { IsTrue result → (term : ℕ → Formed K) (i : ℕ)
+            → IsFolded K term i (folded_value K self.old) self.old.bound
+            → IsTurnedProduct K (term i) root.entry.exponent (value_of_terms K a.now) (value_of_terms K b.now)
+            → IsFolded K term (i + 1) (folded_value K self.new) self.new.bound }
     {
         let a_total = a.total();
         let b_total = b.total();
@@ -86,7 +91,8 @@ impl<const K: u32> Folded<K> {
     /// The sum of the terms that were added.
     pub fn finish(&self) -> Cyc<K>
         ensures value { cyclotomic_value K result.coefficients ≡ folded_value K self.now }
-        ensures listed { (term : ℕ → Formed K) (n : ℕ) → IsFolded K term n (folded_value K self.now) self.now.bound → Forms (listed K n term) (Some result) }
+        ensures listed { (term : ℕ → Formed K) (n : ℕ)
+            → IsFolded K term n (folded_value K self.now) self.now.bound → Forms (listed K n term) (Some result) }
     {
         let mut coefficients = self.coefficients;
         Cyc {

@@ -32,7 +32,8 @@ fn add_term(k: u32, buffer: &mut [i128], factor: i128, term: Monomial, start: u3
     requires start { start < k }
     requires power { term.power < k }
     requires room { total_of buffer.old + nat_abs factor * nat_abs term.coefficient < 2 ^ 126 }
-    ensures value { cyclotomic_value k buffer.new ≡ value_sum (cyclotomic_value k buffer.old) (value_multiple factor (value_product (cyclotomic k) (root k start) (value_multiple term.coefficient (root k term.power)))) }
+    ensures value { cyclotomic_value k buffer.new ≡ value_sum (cyclotomic_value k buffer.old)
+        (value_multiple factor (value_product (cyclotomic k) (root k start) (value_multiple term.coefficient (root k term.power)))) }
     ensures total { total_of buffer.new ≤ total_of buffer.old + nat_abs factor * nat_abs term.coefficient }
 {
     let place = turned(k, start, term.power);
@@ -46,7 +47,8 @@ fn add_terms(k: u32, buffer: &mut [i128], factor: i128, terms: &[Monomial], star
     requires start { start < k }
     requires powers { All (λ term. term.power < k) terms.now }
     requires room { total_of buffer.old + nat_abs factor * total_of_terms terms.now < 2 ^ 126 }
-    ensures value { cyclotomic_value k buffer.new ≡ value_sum (cyclotomic_value k buffer.old) (value_multiple factor (value_product (cyclotomic k) (root k start) (value_of_terms k terms.now))) }
+    ensures value { cyclotomic_value k buffer.new ≡ value_sum (cyclotomic_value k buffer.old)
+        (value_multiple factor (value_product (cyclotomic k) (root k start) (value_of_terms k terms.now))) }
     ensures total { total_of buffer.new ≤ total_of buffer.old + nat_abs factor * total_of_terms terms.now }
 {
     for term in terms {
@@ -62,7 +64,8 @@ pub(crate) fn add_product(k: u32, buffer: &mut [i128], a: &[Monomial], b: &[Mono
     requires a_powers { All (λ term. term.power < k) a.now }
     requires b_powers { All (λ term. term.power < k) b.now }
     requires room { total_of buffer.old + total_of_terms a.now * total_of_terms b.now < 2 ^ 126 }
-    ensures value { cyclotomic_value k buffer.new ≡ value_sum (cyclotomic_value k buffer.old) (value_product (cyclotomic k) (root k start) (value_product (cyclotomic k) (value_of_terms k a.now) (value_of_terms k b.now))) }
+    ensures value { cyclotomic_value k buffer.new ≡ value_sum (cyclotomic_value k buffer.old)
+        (value_product (cyclotomic k) (root k start) (value_product (cyclotomic k) (value_of_terms k a.now) (value_of_terms k b.now))) }
     ensures total { total_of buffer.new ≤ total_of buffer.old + total_of_terms a.now * total_of_terms b.now }
 {
     for term in a {

@@ -43,9 +43,11 @@ impl<const K: u32> Model for Terms<K> {
 fn push_term(terms: &mut ArrayVec<Monomial, 42>, power: u32, coefficient: i128)
     requires { array_vec_len terms.old < 42 }
     ensures few { array_vec_len terms.new ≤ array_vec_len terms.old + 1 }
-    ensures powers { (k : ℕ) → power < k → All (λ term. term.power < k) terms.old.items → All (λ term. term.power < k) terms.new.items }
+    ensures powers { (k : ℕ) → power < k → All (λ term. term.power < k) terms.old.items
+        → All (λ term. term.power < k) terms.new.items }
     ensures total { total_of_terms terms.new.items ≡ total_of_terms terms.old.items + nat_abs coefficient }
-    ensures value { (k : ℕ) → value_of_terms k terms.new.items ≡ value_sum (value_of_terms k terms.old.items) (value_multiple coefficient (root k power)) }
+    ensures value { (k : ℕ) → value_of_terms k terms.new.items
+        ≡ value_sum (value_of_terms k terms.old.items) (value_multiple coefficient (root k power)) }
 {
     if coefficient != 0 {
         terms.push(Monomial { power, coefficient });
@@ -91,7 +93,8 @@ impl<const K: u32> Terms<K> {
     /// The product; `None` exactly where the two values don't fit together.
     pub fn try_mul(&self, b: &Terms<K>) -> Option<Cyc<K>>
         ensures fits { is_some result ≡ product_fits (value_of_terms K self.now) (value_of_terms K b.now) }
-        ensures value { IfSome result (λ value. cyclotomic_value K value.coefficients ≡ value_product (cyclotomic K) (value_of_terms K self.now) (value_of_terms K b.now)) }
+        ensures value { IfSome result
+            (λ value. cyclotomic_value K value.coefficients ≡ value_product (cyclotomic K) (value_of_terms K self.now) (value_of_terms K b.now)) }
     {
         match self.size.checked_mul(b.size) {
             Some(sizes) if sizes < PRODUCT_LIMIT => Some(Cyc {

@@ -22,7 +22,8 @@ impl<const K: u32> Total<K> {
     /// The sum of no terms.
     pub fn zero() -> Total<K>
         requires { is_conductor K ≡ true }
-        ensures none_added { (term : ℕ → Formed K) → IsTotal term 0 (cyclotomic_value K result.sum.coefficients) result.sizes }
+        ensures none_added { (term : ℕ → Formed K)
+            → IsTotal term 0 (cyclotomic_value K result.sum.coefficients) result.sizes }
     {
         Total {
             sum: Cyc::zero(),
@@ -32,8 +33,13 @@ impl<const K: u32> Total<K> {
 
     /// One more term; `None` where it wasn't formed, or where the sizes add up to more than 2^120 - 1.
     pub fn with(self, next: Option<Cyc<K>>) -> Option<Total<K>>
-        ensures more { (term : ℕ → Formed K) (i : ℕ) → IsTotal term i (cyclotomic_value K self.entry.sum.coefficients) self.entry.sizes → Forms (term i) next.entry → IfSome result (λ total. IsTotal term (i + 1) (cyclotomic_value K total.sum.coefficients) total.sizes) }
-        ensures overflow { (term : ℕ → Formed K) (i n : ℕ) → i < n → IsTotal term i (cyclotomic_value K self.entry.sum.coefficients) self.entry.sizes → Forms (term i) next.entry → IfNone result (Forms (listed K n term) None) }
+        ensures more { (term : ℕ → Formed K) (i : ℕ)
+            → IsTotal term i (cyclotomic_value K self.entry.sum.coefficients) self.entry.sizes
+            → Forms (term i) next.entry → IfSome result
+            (λ total. IsTotal term (i + 1) (cyclotomic_value K total.sum.coefficients) total.sizes) }
+        ensures overflow { (term : ℕ → Formed K) (i n : ℕ) → i < n
+            → IsTotal term i (cyclotomic_value K self.entry.sum.coefficients) self.entry.sizes
+            → Forms (term i) next.entry → IfNone result (Forms (listed K n term) None) }
     {
         let Some(next) = next else {
             return None;
@@ -52,7 +58,9 @@ impl<const K: u32> Total<K> {
 
     /// The sum, where all terms were added.
     pub fn sum(self) -> Cyc<K>
-        ensures all_added { (term : ℕ → Formed K) (n : ℕ) → IsTotal term n (cyclotomic_value K self.entry.sum.coefficients) self.entry.sizes → Forms (listed K n term) (Some result) }
+        ensures all_added { (term : ℕ → Formed K) (n : ℕ)
+            → IsTotal term n (cyclotomic_value K self.entry.sum.coefficients) self.entry.sizes
+            → Forms (listed K n term) (Some result) }
     {
         self.sum
     }
