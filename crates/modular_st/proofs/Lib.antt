@@ -1,4 +1,3 @@
-mod Noughts
 mod AllAts
 mod Terms
 mod Kept

@@ -1,20 +1,24 @@
 -- Terms of the numerators, and those that are 0.
-use Rattle.std.proofs.Common.{◌≡◌, ◌+◌, ◌*◌, ◌<◌, ◌&&◌, ◌==◌, ℕ, Bool, true, false, Option, refl, sym, ◌∙◌, ap, subst, arith}
+use Rattle.std.proofs.Common.{◌≡◌, ◌+◌, ◌*◌, ◌<◌, ◌&&◌, ◌==◌, ℕ, Bool, true, false, List, refl, sym, ◌∙◌, ap, subst, arith}
 use Rattle.std.proofs.lemmas.Bool.{eqb-true, eq-eqb}
 use Rattle.std.proofs.lemmas.Nat.{div-mul-add, mod-mul-add, row_fits}
 use mathlib.Core.Path.{ap₂}
 use Rattle.cyclotomic.specs.Fit.{product_fits}
 use Rattle.classes.specs.Conjugacy.{class_of}
-use Rattle.qd_ring.specs.declared.cyc.Cyc.{Cyc}
+use Rattle.group_table.specs.Group.{product}
+use Rattle.qd_ring.specs.declared.monomial.Monomial.{Monomial}
+use Rattle.qd_ring.specs.SparseValues.{value_of_terms}
+use Rattle.qd_ring.specs.Folding.{IsSparseOf, IsTurnedProduct}
+use Rattle.qd_ring.proofs.FoldingLaws.{plain_is_product}
 use Rattle.qd_ring.specs.declared.site.Site.{Site}
-use Rattle.table_check.specs.Formed.{Forms, conjugated, where_so}
-use Rattle.table_check.proofs.Totals.{total_misses}
+use Rattle.qd_ring.specs.Formed.{conjugated, where_so}
+use Rattle.qd_ring.proofs.TotalLaws.{total_misses}
 use Rattle.transport.specs.Simples.{SimplesOver, count, class_at}
 use Rattle.transport.specs.FullCharacters.{full_character}
 use Rattle.transport.specs.SSums.{commute, pair_term, s_sum}
 use Rattle.modular_st.specs.Numerators.{s_term, s_site, IsOverflow}
 use Rattle.modular_st.specs.Conjugates.{conjugate_term}
-use Rattle.modular_st.proofs.Noughts.{IsNought, unless_so, as_so, conjugate_of_nought, nought_times, times_nought}
+use Rattle.qd_ring.proofs.NoughtLaws.{IsNought, unless_so, as_so, conjugate_of_nought, nought_times, times_nought}
 
 -- a place among the pairs
 pub pair_below : (i m g n : ℕ) → i < m → g < n → i * n + g < m * n
@@ -66,8 +70,12 @@ module _ (k : ℕ) (s : SimplesOver) where
   overflow_at i j site same i_below j_below unfit =
       subst (IsOverflow k s) (sym same) (record { i_below = i_below; j_below = j_below; site_is = refl; overflows = unfit })
 
-  -- where a term for two elements is formed, so is the term of the sum
-  pub pair_forms : (i j g h : ℕ) (answer : Option (Cyc k)) → h < s.cocycle.group.order → commute s.cocycle.group g h ≡ true → Forms (pair_term k s i j g h) answer
-      → Forms (s_term k s i j (g * s.cocycle.group.order + h)) answer
-  pair_forms i j g h answer inside so forms =
-      subst (λ t. Forms t answer) (sym (term_of i j g h inside ∙ as_so k (commute s.cocycle.group g h) (pair_term k s i j g h) so)) forms
+  -- the term for two elements is a product of their sparse forms
+  pub pair_folds : (i j g h r : ℕ) (a b : List Monomial) → h < s.cocycle.group.order → product s.cocycle.group g h ≡ product s.cocycle.group h g → r ≡ 0
+      → IsSparseOf k (conjugated k (full_character k s i g h)) a → IsSparseOf k (conjugated k (full_character k s j h g)) b
+      → IsTurnedProduct k (s_term k s i j (g * s.cocycle.group.order + h)) r (value_of_terms k a) (value_of_terms k b)
+  pair_folds i j g h r a b inside so none of_a of_b =
+      subst (λ t. IsTurnedProduct k t r (value_of_terms k a) (value_of_terms k b))
+      (sym (term_of i j g h inside ∙ as_so k (commute s.cocycle.group g h) (pair_term k s i j g h) (eq-eqb _ _ so)))
+      (subst (λ e. IsTurnedProduct k (pair_term k s i j g h) e (value_of_terms k a) (value_of_terms k b)) (sym none)
+      (plain_is_product k (conjugated k (full_character k s i g h)) (conjugated k (full_character k s j h g)) a b of_a of_b))

@@ -1,9 +1,10 @@
-//! The conjugates of all full characters, made once.
+//! The conjugates of all full characters, made once, in sparse form.
 
-ghost use Rattle.std.specs.Prelude.{◌≡◌, ◌<◌, ◌*◌, ◌==◌, Some, length, IfOk, IfErr};
+ghost use Rattle.std.specs.Prelude.{◌≡◌, ◌<◌, ◌*◌, ◌==◌, length, IfOk, IfErr};
 ghost use Rattle.group_table.specs.Group.{product};
 ghost use Rattle.classes.specs.Conjugacy.{class_of};
-ghost use Rattle.table_check.specs.Formed.{Forms, conjugated};
+ghost use Rattle.qd_ring.specs.Formed.{Forms, conjugated};
+ghost use Rattle.qd_ring.specs.Folding.{IsSparseOf};
 ghost use Rattle.transport.specs.Simples.{count, class_at};
 ghost use Rattle.transport.specs.FullCharacters.{full_character};
 ghost use Rattle.modular_st.specs.Conjugates.{conjugate_term, IsKeptRow, AreKept};
@@ -11,7 +12,7 @@ ghost use Rattle.modular_st.specs.Refusal.{Refuses};
 
 use crate::numerator::{commute, conjugate, order, s_site};
 use crate::refusal::StRefusal;
-use qd_ring::Cyc;
+use qd_ring::{Cyc, Terms};
 use std::alloc::Global;
 use transport::Simples;
 
@@ -44,7 +45,7 @@ fn conjugate_row<const K: u32>(
     simples: &Simples<K>,
     i: u32,
     g: u32,
-) -> Result<Vec<Cyc<K>>, StRefusal>
+) -> Result<Vec<Terms<K>>, StRefusal>
     requires i_below { i < count K simples.now }
     requires g_below { g < simples.now.cocycle.group.order }
     ensures row { IfOk result (λ row. IsKeptRow K simples.now i g row.items) }
@@ -56,7 +57,7 @@ fn conjugate_row<const K: u32>(
         let Some(value) = conjugate_term(simples, i, g, h) else {
             return Err(StRefusal::Overflow { site: s_site(i, 0) });
         };
-        row.push(value)?;
+        row.push(Terms::of(&value))?;
     }
     Ok(row)
 }
@@ -67,7 +68,7 @@ fn kept_row<const K: u32>(
     simples: &Simples<K>,
     i: u32,
     g: u32,
-) -> Result<Vec<Cyc<K>>, StRefusal>
+) -> Result<Vec<Terms<K>>, StRefusal>
     requires i_below { i < count K simples.now }
     requires g_below { g < simples.now.cocycle.group.order }
     ensures row { IfOk result (λ row. class_of simples.now.cocycle.group g ≡ class_at K simples.now i → IsKeptRow K simples.now i g row.items) }
@@ -84,7 +85,7 @@ fn kept_row<const K: u32>(
 pub fn conjugates<const K: u32>(
     alloc: Global,
     simples: &Simples<K>,
-) -> Result<Vec<Vec<Cyc<K>>>, StRefusal>
+) -> Result<Vec<Vec<Terms<K>>>, StRefusal>
     ensures kept { IfOk result (λ rows. AreKept K simples.now rows.items) }
     ensures refused { IfErr result (λ refusal. Refuses K simples.now refusal) }
 {
@@ -97,23 +98,23 @@ pub fn conjugates<const K: u32>(
 }
 
 /// The conjugate of simple `i` at `g`, which is in its class, and `h`, which commutes with it.
-pub fn kept<const K: u32>(
+pub fn kept<'a, const K: u32>(
     simples: &Simples<K>,
-    conjugates: &Vec<Vec<Cyc<K>>>,
+    conjugates: &'a Vec<Vec<Terms<K>>>,
     i: u32,
     g: u32,
     h: u32,
-) -> Cyc<K>
+) -> &'a Terms<K>
     requires kept { AreKept K simples.now conjugates.now.items }
     requires i_below { i < count K simples.now }
     requires g_below { g < simples.now.cocycle.group.order }
     requires h_below { h < simples.now.cocycle.group.order }
     requires class { class_of simples.now.cocycle.group g ≡ class_at K simples.now i }
     requires commute { product simples.now.cocycle.group g h ≡ product simples.now.cocycle.group h g }
-    ensures forms { Forms (conjugated K (full_character K simples.now i g h)) (Some result) }
+    ensures sparse { IsSparseOf K (conjugated K (full_character K simples.now i g h)) result.now }
 {
     let _count = simples.count();
     let order = order(simples);
     let row = &conjugates[(i * order + g) as usize];
-    row[h as usize]
+    &row[h as usize]
 }

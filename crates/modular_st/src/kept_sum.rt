@@ -1,45 +1,19 @@
 //! The numerators of S from the conjugates that are kept.
 
-ghost use Rattle.std.specs.Prelude.{◌≡◌, ◌<◌, ◌+◌, ◌*◌, ◌==◌, ◌&&◌, Some, None, IfSome, IfNone};
+ghost use Rattle.std.specs.Prelude.{◌≡◌, ◌<◌, ◌+◌, ◌*◌, ◌==◌, ◌&&◌, Some, IfSome, IsTrue};
 ghost use Rattle.group_table.specs.Group.{product};
 ghost use Rattle.classes.specs.Conjugacy.{class_of};
-ghost use Rattle.cyclotomic.specs.CyclotomicRing.{cyclotomic_value};
-ghost use Rattle.table_check.specs.Formed.{Forms};
-ghost use Rattle.table_check.specs.Totals.{IsTotal};
+ghost use Rattle.qd_ring.specs.Formed.{Forms};
+ghost use Rattle.qd_ring.specs.Folding.{folded_value, IsFolded};
 ghost use Rattle.transport.specs.Simples.{count, class_at};
-ghost use Rattle.transport.specs.SSums.{commute, pair_term, s_sum};
+ghost use Rattle.transport.specs.SSums.{commute, s_sum};
 ghost use Rattle.modular_st.specs.Numerators.{s_term};
 ghost use Rattle.modular_st.specs.Conjugates.{AreKept};
 
 use crate::conjugates::{is_in_class, kept};
-use crate::numerator::{commute, order};
-use qd_ring::Cyc;
-use table_check::Total;
+use crate::numerator::{commute, order, sum};
+use qd_ring::{Cyc, Folded, Root, Terms};
 use transport::Simples;
-
-/// The term of simples `i` and `j` for `g` and `h` of their classes, which commute.
-fn kept_term<const K: u32>(
-    simples: &Simples<K>,
-    conjugates: &Vec<Vec<Cyc<K>>>,
-    i: u32,
-    j: u32,
-    g: u32,
-    h: u32,
-) -> Option<Cyc<K>>
-    requires kept { AreKept K simples.now conjugates.now.items }
-    requires i_below { i < count K simples.now }
-    requires j_below { j < count K simples.now }
-    requires g_below { g < simples.now.cocycle.group.order }
-    requires h_below { h < simples.now.cocycle.group.order }
-    requires g_class { class_of simples.now.cocycle.group g ≡ class_at K simples.now i }
-    requires h_class { class_of simples.now.cocycle.group h ≡ class_at K simples.now j }
-    requires commute { product simples.now.cocycle.group g h ≡ product simples.now.cocycle.group h g }
-    ensures forms { Forms (pair_term K simples.now i j g h) result }
-{
-    let left = kept(simples, conjugates, i, g, h);
-    let right = kept(simples, conjugates, j, h, g);
-    left.try_mul(&right)
-}
 
 /// Whether `h` is in the class of simple `j` and commutes with `g`.
 fn meets<const K: u32>(simples: &Simples<K>, j: u32, g: u32, h: u32) -> bool
@@ -51,90 +25,136 @@ fn meets<const K: u32>(simples: &Simples<K>, j: u32, g: u32, h: u32) -> bool
     is_in_class(simples, j, h) && commute(simples.cocycle().group(), g, h)
 }
 
-/// The sum with the term for `g`, which is in the class of simple `i`, and `h`.
-fn with_pair<const K: u32>(
-    total: Total<K>,
+/// Adds the term of simples `i` and `j` for `g` and `h` of their classes, which commute, where there is room for it.
+fn add_term<const K: u32>(
+    folded: &mut Folded<K>,
     simples: &Simples<K>,
-    conjugates: &Vec<Vec<Cyc<K>>>,
+    conjugates: &Vec<Vec<Terms<K>>>,
     i: u32,
     j: u32,
     g: u32,
     h: u32,
-) -> Option<Total<K>>
+) -> bool
     requires kept { AreKept K simples.now conjugates.now.items }
     requires i_below { i < count K simples.now }
     requires j_below { j < count K simples.now }
     requires g_below { g < simples.now.cocycle.group.order }
     requires h_below { h < simples.now.cocycle.group.order }
     requires g_class { class_of simples.now.cocycle.group g ≡ class_at K simples.now i }
-    requires total { IsTotal (s_term K simples.now i j) (g * simples.now.cocycle.group.order + h) (cyclotomic_value K total.sum.coefficients) total.sizes }
-    ensures more { IfSome result (λ total. IsTotal (s_term K simples.now i j) (g * simples.now.cocycle.group.order + (h + 1)) (cyclotomic_value K total.sum.coefficients) total.sizes) }
-    ensures overflow { IfNone result (Forms (s_sum K simples.now i j) None) }
+    requires h_class { class_of simples.now.cocycle.group h ≡ class_at K simples.now j }
+    requires commute { product simples.now.cocycle.group g h ≡ product simples.now.cocycle.group h g }
+    ensures folded { let n = simples.now.cocycle.group.order in let term = s_term K simples.now i j in
+        IsTrue result → IsFolded K term (g * n + h) (folded_value K folded.old) folded.old.bound → IsFolded K term (g * n + (h + 1)) (folded_value K folded.new) folded.new.bound }
 {
-    if meets(simples, j, g, h) {
-        total.with(kept_term(simples, conjugates, i, j, g, h))
-    } else {
-        Some(total)
-    }
+    let _order = order(simples);
+    folded.add_product(
+        kept(simples, conjugates, i, g, h),
+        kept(simples, conjugates, j, h, g),
+        Root::new(0),
+    )
 }
 
-/// The sum with the terms for `g`, which is in the class of simple `i`, and each element.
-fn with_row<const K: u32>(
-    total: Total<K>,
+/// Adds the term for `g`, which is in the class of simple `i`, and `h`; it is left out where it is 0.
+fn add_pair<const K: u32>(
+    folded: &mut Folded<K>,
     simples: &Simples<K>,
-    conjugates: &Vec<Vec<Cyc<K>>>,
+    conjugates: &Vec<Vec<Terms<K>>>,
     i: u32,
     j: u32,
     g: u32,
-) -> Option<Total<K>>
+    h: u32,
+) -> bool
+    requires kept { AreKept K simples.now conjugates.now.items }
+    requires i_below { i < count K simples.now }
+    requires j_below { j < count K simples.now }
+    requires g_below { g < simples.now.cocycle.group.order }
+    requires h_below { h < simples.now.cocycle.group.order }
+    requires g_class { class_of simples.now.cocycle.group g ≡ class_at K simples.now i }
+    ensures folded { let n = simples.now.cocycle.group.order in let term = s_term K simples.now i j in
+        IsTrue result → IsFolded K term (g * n + h) (folded_value K folded.old) folded.old.bound → IsFolded K term (g * n + (h + 1)) (folded_value K folded.new) folded.new.bound }
+{
+    if meets(simples, j, g, h) {
+        add_term(folded, simples, conjugates, i, j, g, h)
+    } else {
+        true
+    }
+}
+
+/// Adds the terms for `g`, which is in the class of simple `i`, and each element.
+fn add_row<const K: u32>(
+    folded: &mut Folded<K>,
+    simples: &Simples<K>,
+    conjugates: &Vec<Vec<Terms<K>>>,
+    i: u32,
+    j: u32,
+    g: u32,
+) -> bool
     requires kept { AreKept K simples.now conjugates.now.items }
     requires i_below { i < count K simples.now }
     requires j_below { j < count K simples.now }
     requires g_below { g < simples.now.cocycle.group.order }
     requires g_class { class_of simples.now.cocycle.group g ≡ class_at K simples.now i }
-    requires total { IsTotal (s_term K simples.now i j) (g * simples.now.cocycle.group.order) (cyclotomic_value K total.sum.coefficients) total.sizes }
-    ensures more { IfSome result (λ total. IsTotal (s_term K simples.now i j) ((g + 1) * simples.now.cocycle.group.order) (cyclotomic_value K total.sum.coefficients) total.sizes) }
-    ensures overflow { IfNone result (Forms (s_sum K simples.now i j) None) }
+    ensures folded { let n = simples.now.cocycle.group.order in let term = s_term K simples.now i j in
+        IsTrue result → IsFolded K term (g * n) (folded_value K folded.old) folded.old.bound → IsFolded K term ((g + 1) * n) (folded_value K folded.new) folded.new.bound }
 {
     let order = order(simples);
-    let mut total = total;
     for h in 0..order {
-        let Some(more) = with_pair(total, simples, conjugates, i, j, g, h) else {
-            return None;
-        };
-        total = more;
+        if !add_pair(folded, simples, conjugates, i, j, g, h) {
+            return false;
+        }
     }
-    Some(total)
+    true
 }
 
-/// The sum with the terms for `g` and each element, which are 0 where `g` isn't in the class of simple `i`.
-fn with_element<const K: u32>(
-    total: Total<K>,
+/// Adds the terms for `g` and each element, which are 0 where `g` isn't in the class of simple `i`.
+fn add_element<const K: u32>(
+    folded: &mut Folded<K>,
     simples: &Simples<K>,
-    conjugates: &Vec<Vec<Cyc<K>>>,
+    conjugates: &Vec<Vec<Terms<K>>>,
     i: u32,
     j: u32,
     g: u32,
-) -> Option<Total<K>>
+) -> bool
     requires kept { AreKept K simples.now conjugates.now.items }
     requires i_below { i < count K simples.now }
     requires j_below { j < count K simples.now }
     requires g_below { g < simples.now.cocycle.group.order }
-    requires total { IsTotal (s_term K simples.now i j) (g * simples.now.cocycle.group.order) (cyclotomic_value K total.sum.coefficients) total.sizes }
-    ensures more { IfSome result (λ total. IsTotal (s_term K simples.now i j) ((g + 1) * simples.now.cocycle.group.order) (cyclotomic_value K total.sum.coefficients) total.sizes) }
-    ensures overflow { IfNone result (Forms (s_sum K simples.now i j) None) }
+    ensures folded { let n = simples.now.cocycle.group.order in let term = s_term K simples.now i j in
+        IsTrue result → IsFolded K term (g * n) (folded_value K folded.old) folded.old.bound → IsFolded K term ((g + 1) * n) (folded_value K folded.new) folded.new.bound }
 {
     if is_in_class(simples, i, g) {
-        with_row(total, simples, conjugates, i, j, g)
+        add_row(folded, simples, conjugates, i, j, g)
     } else {
-        Some(total)
+        true
     }
+}
+
+/// The sum of the terms of simples `i` and `j`, where they may be folded.
+fn folded_sum<const K: u32>(
+    simples: &Simples<K>,
+    conjugates: &Vec<Vec<Terms<K>>>,
+    i: u32,
+    j: u32,
+) -> Option<Cyc<K>>
+    requires kept { AreKept K simples.now conjugates.now.items }
+    requires i_below { i < count K simples.now }
+    requires j_below { j < count K simples.now }
+    ensures forms { IfSome result (λ sum. Forms (s_sum K simples.now i j) (Some sum)) }
+{
+    let order = order(simples);
+    let mut folded = Folded::zero();
+    for g in 0..order {
+        if !add_element(&mut folded, simples, conjugates, i, j, g) {
+            return None;
+        }
+    }
+    Some(folded.finish())
 }
 
 /// The sum of the terms of simples `i` and `j`.
 pub fn kept_sum<const K: u32>(
     simples: &Simples<K>,
-    conjugates: &Vec<Vec<Cyc<K>>>,
+    conjugates: &Vec<Vec<Terms<K>>>,
     i: u32,
     j: u32,
 ) -> Option<Cyc<K>>
@@ -143,13 +163,8 @@ pub fn kept_sum<const K: u32>(
     requires j_below { j < count K simples.now }
     ensures forms { Forms (s_sum K simples.now i j) result }
 {
-    let order = order(simples);
-    let mut total = Total::zero();
-    for g in 0..order {
-        let Some(more) = with_element(total, simples, conjugates, i, j, g) else {
-            return None;
-        };
-        total = more;
+    match folded_sum(simples, conjugates, i, j) {
+        Some(folded) => Some(folded),
+        None => sum(simples, i, j),
     }
-    Some(total.sum())
 }

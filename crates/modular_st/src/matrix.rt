@@ -11,7 +11,7 @@ use crate::conjugates::conjugates;
 use crate::kept_sum::kept_sum;
 use crate::numerator::s_site;
 use crate::refusal::StRefusal;
-use qd_ring::{Cyc, Rows};
+use qd_ring::{Cyc, Rows, Terms};
 use std::alloc::Global;
 use std::marker::Model;
 use transport::Simples;
@@ -52,7 +52,7 @@ impl<const K: u32> SMatrix<K> {
 /// The entry at simples `i` and `j`.
 fn entry<const K: u32>(
     simples: &Simples<K>,
-    conjugates: &Vec<Vec<Cyc<K>>>,
+    conjugates: &Vec<Vec<Terms<K>>>,
     i: u32,
     j: u32,
 ) -> Result<Cyc<K>, StRefusal>
@@ -72,7 +72,7 @@ fn entry<const K: u32>(
 fn append_row<const K: u32>(
     rows: &mut Rows<K>,
     simples: &Simples<K>,
-    conjugates: &Vec<Vec<Cyc<K>>>,
+    conjugates: &Vec<Vec<Terms<K>>>,
     i: u32,
 ) -> Result<(), StRefusal>
     requires kept { AreKept K simples.now conjugates.now.items }

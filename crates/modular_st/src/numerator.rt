@@ -11,8 +11,7 @@ ghost use Rattle.transport.specs.SSums.{commute, pair_term, s_sum};
 ghost use Rattle.modular_st.specs.Numerators.{s_term, s_site};
 
 use group_table::Group;
-use qd_ring::{Cyc, Part, Site};
-use table_check::Total;
+use qd_ring::{Cyc, Part, Site, Total};
 use transport::Simples;
 
 /// The order of the group.
@@ -82,8 +81,8 @@ fn term<const K: u32>(simples: &Simples<K>, i: u32, j: u32, p: u32) -> Option<Cy
     }
 }
 
-/// The sum of the terms of simples `i` and `j`.
-fn sum<const K: u32>(simples: &Simples<K>, i: u32, j: u32) -> Option<Cyc<K>>
+/// The sum of the terms of simples `i` and `j`, term by term.
+pub fn sum<const K: u32>(simples: &Simples<K>, i: u32, j: u32) -> Option<Cyc<K>>
     requires i_below { i < count K simples.now }
     requires j_below { j < count K simples.now }
     ensures forms { Forms (s_sum K simples.now i j) result }

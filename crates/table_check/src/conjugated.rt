@@ -3,12 +3,14 @@ ghost use Rattle.twisted.specs.Twist.{size};
 ghost use Rattle.table_check.specs.Characters.{characters_of, IsShaped};
 ghost use Rattle.table_check.specs.Check.{unitary_miss};
 ghost use Rattle.table_check.specs.Conjugates.{values_of, conjugate_row};
-ghost use Rattle.table_check.specs.Formed.{Forms};
+ghost use Rattle.qd_ring.specs.Formed.{Forms};
+ghost use Rattle.qd_ring.specs.Folding.{IsSparseOf};
 ghost use Rattle.table_check.specs.Sides.{conjugate_value};
 
 use crate::candidate::Candidate;
+use crate::kept::Kept;
 use group_table::Memory;
-use qd_ring::Cyc;
+use qd_ring::{Cyc, Terms};
 use std::alloc::Global;
 use std::marker::Model;
 
@@ -16,7 +18,7 @@ use std::marker::Model;
 #[derive(Debug, Drop)]
 pub struct Conjugated<const K: u32> {
     candidate: Candidate<K>,
-    conjugates: Vec<Vec<Cyc<K>>>,
+    conjugates: Vec<Vec<Kept<K>>>,
 }
 
 impl<const K: u32> Model for Conjugated<K> {
@@ -35,7 +37,7 @@ fn conjugate_row<const K: u32>(
     alloc: Global,
     table: &Candidate<K>,
     i: u32,
-) -> Result<Vec<Cyc<K>>, Memory>
+) -> Result<Vec<Kept<K>>, Memory>
     requires i_below { i < length table.now.rows }
     requires unitary { unitary_miss table.now.over (characters_of K table.now.rows) ≡ None }
     ensures row { IfOk result (λ row. values_of K row.items ≡ conjugate_row (size table.now.over) (characters_of K table.now.rows) i) }
@@ -46,7 +48,7 @@ fn conjugate_row<const K: u32>(
         let Some(conjugate) = table.value(i, x).try_conj() else {
             unreachable!()
         };
-        row.push(conjugate)?;
+        row.push(Kept::of(conjugate))?;
     }
     Ok(row)
 }
@@ -89,6 +91,15 @@ impl<const K: u32> Conjugated<K> {
         requires x_below { x < size self.now.over }
         ensures forms { Forms (conjugate_value self.now.over (characters_of K self.now.rows) i x) (Some result) }
     {
-        self.conjugates[i as usize][x as usize]
+        self.conjugates[i as usize][x as usize].value
+    }
+
+    /// Its sparse form.
+    pub fn terms(&self, i: u32, x: u32) -> &Terms<K>
+        requires i_below { i < length self.now.rows }
+        requires x_below { x < size self.now.over }
+        ensures terms { IsSparseOf K (conjugate_value self.now.over (characters_of K self.now.rows) i x) result.now }
+    {
+        &self.conjugates[i as usize][x as usize].terms
     }
 }

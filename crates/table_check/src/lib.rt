@@ -9,6 +9,7 @@ mod candidate;
 mod compared;
 mod conjugated;
 mod identity_name;
+mod kept;
 mod miss;
 mod refusal;
 mod refusals;
@@ -17,13 +18,12 @@ mod sides;
 mod table;
 #[cfg(test)]
 mod tests;
-mod total;
 
 pub use identity_name::IdentityName;
 pub use miss::{Clause, Miss};
+pub use qd_ring::Total;
 pub use refusal::TableRefusal;
 pub use table::Table;
-pub use total::Total;
 
 /// The elements of the conjugates of a good table's rows are, up to whole factors, orthogonal central idempotents of the twisted group
 /// algebra that add up to one; there are as many as the rank of its centre.

@@ -1,17 +1,18 @@
 //! The sides of the clauses, each as it is formed.
 
-ghost use Rattle.std.specs.Prelude.{◌≡◌, ◌<◌, ◌%◌, ℕ, length};
+ghost use Rattle.std.specs.Prelude.{◌≡◌, ◌==◌, ◌+◌, ◌<◌, ◌%◌, ℕ, length, Some, IsTrue, IfSome};
 ghost use Rattle.cyclotomic.specs.CyclotomicRing.{cyclotomic_value};
 ghost use Rattle.twisted.specs.Twist.{size};
 ghost use Rattle.twisted.specs.Algebra.{left_quotient, exponent};
 ghost use Rattle.table_check.specs.Characters.{characters_of, IsShaped};
-ghost use Rattle.table_check.specs.Formed.{Forms, given, whole};
+ghost use Rattle.classes.specs.Conjugacy.{conjugate};
+ghost use Rattle.qd_ring.specs.Formed.{Forms, given, whole};
+ghost use Rattle.qd_ring.specs.Folding.{folded_value, IsFolded};
 ghost use Rattle.table_check.specs.Sides.{degree_value, own_place, right_quotient, with_phase, unitary_left, unitary_right, twist_left, twist_right, central_left, central_right, product_sum, product_left, product_right, sum_left, sum_right, column_left, column_term, column_right, product_term, sum_term, row_term};
 
 use crate::candidate::Candidate;
 use crate::conjugated::Conjugated;
-use crate::total::Total;
-use qd_ring::{Cyc, Root};
+use qd_ring::{Cyc, Folded, Root, Terms, Total};
 use twisted::{Twist, conjugate, kappa};
 
 /// The place of `y^-1 x`.
@@ -163,8 +164,47 @@ fn product_term<const K: u32>(
     with_phase(candidate, y, z, &product)
 }
 
-/// The value of `E_i E_j` at the place `x`.
-fn product_sum<const K: u32>(table: &Conjugated<K>, i: u32, j: u32, x: u32) -> Option<Cyc<K>>
+/// Adds the term at `y` of the value of `E_i E_j` at the place `x`, where there is room for it.
+fn add_product_term<const K: u32>(
+    folded: &mut Folded<K>,
+    table: &Conjugated<K>,
+    i: u32,
+    j: u32,
+    x: u32,
+    y: u32,
+) -> bool
+    requires i_below { i < length table.now.rows }
+    requires j_below { j < length table.now.rows }
+    requires y_below { y < size table.now.over }
+    requires x_below { x < size table.now.over }
+    ensures folded { let term = product_term table.now.over (characters_of K table.now.rows) i j x in
+        IsTrue result → IsFolded K term y (folded_value K folded.old) folded.old.bound → IsFolded K term (y + 1) (folded_value K folded.new) folded.new.bound }
+{
+    let candidate = table.candidate();
+    let z = left_quotient(candidate.over(), y, x);
+    let phase = candidate.over().phase(y, z);
+    folded.add_product(table.terms(i, y), table.terms(j, z), root(candidate, phase))
+}
+
+/// The value of `E_i E_j` at the place `x`, where its terms may be folded.
+fn folded_product_sum<const K: u32>(table: &Conjugated<K>, i: u32, j: u32, x: u32) -> Option<Cyc<K>>
+    requires i_below { i < length table.now.rows }
+    requires j_below { j < length table.now.rows }
+    requires x_below { x < size table.now.over }
+    ensures forms { IfSome result (λ sum. Forms (product_sum table.now.over (characters_of K table.now.rows) i j x) (Some sum)) }
+{
+    let places = table.candidate().over().size();
+    let mut folded = Folded::zero();
+    for y in 0..places {
+        if !add_product_term(&mut folded, table, i, j, x, y) {
+            return None;
+        }
+    }
+    Some(folded.finish())
+}
+
+/// The value of `E_i E_j` at the place `x`, term by term.
+fn exact_product_sum<const K: u32>(table: &Conjugated<K>, i: u32, j: u32, x: u32) -> Option<Cyc<K>>
     requires i_below { i < length table.now.rows }
     requires j_below { j < length table.now.rows }
     requires x_below { x < size table.now.over }
@@ -181,6 +221,19 @@ fn product_sum<const K: u32>(table: &Conjugated<K>, i: u32, j: u32, x: u32) -> O
     Some(total.sum())
 }
 
+/// The value of `E_i E_j` at the place `x`.
+fn product_sum<const K: u32>(table: &Conjugated<K>, i: u32, j: u32, x: u32) -> Option<Cyc<K>>
+    requires i_below { i < length table.now.rows }
+    requires j_below { j < length table.now.rows }
+    requires x_below { x < size table.now.over }
+    ensures forms { Forms (product_sum table.now.over (characters_of K table.now.rows) i j x) result }
+{
+    match folded_product_sum(table, i, j, x) {
+        Some(sum) => Some(sum),
+        None => exact_product_sum(table, i, j, x),
+    }
+}
+
 /// The value of `d_i E_i E_i` at the place `x`, or of `E_i E_j` for two different rows.
 pub fn product_left<const K: u32>(table: &Conjugated<K>, i: u32, j: u32, x: u32) -> Option<Cyc<K>>
     requires i_below { i < length table.now.rows }
@@ -188,13 +241,13 @@ pub fn product_left<const K: u32>(table: &Conjugated<K>, i: u32, j: u32, x: u32)
     requires x_below { x < size table.now.over }
     ensures forms { Forms (product_left table.now.over (characters_of K table.now.rows) i j x) result }
 {
-    let Some(sum) = product_sum(table, i, j, x) else {
+    let Some(value) = product_sum(table, i, j, x) else {
         return None;
     };
     if i == j {
-        degree(table.candidate(), i).try_mul(&sum)
+        degree(table.candidate(), i).try_mul(&value)
     } else {
-        Some(sum)
+        Some(value)
     }
 }
 
@@ -262,8 +315,42 @@ fn row_term<const K: u32>(table: &Conjugated<K>, x: u32, y: u32, i: u32) -> Opti
     conjugate.try_mul(&table.candidate().value(i, y))
 }
 
-/// The sum over the rows of the conjugate of the value at `x` times the value at `y`.
-pub fn column_left<const K: u32>(table: &Conjugated<K>, x: u32, y: u32) -> Option<Cyc<K>>
+/// Adds the conjugate of the value of row `i` at `x`, times its value at `y`, where there is room for it.
+fn add_row_term<const K: u32>(
+    folded: &mut Folded<K>,
+    table: &Conjugated<K>,
+    x: u32,
+    y: u32,
+    i: u32,
+) -> bool
+    requires x_below { x < size table.now.over }
+    requires y_below { y < size table.now.over }
+    requires i_below { i < length table.now.rows }
+    ensures folded { let term = row_term table.now.over (characters_of K table.now.rows) x y in
+        IsTrue result → IsFolded K term i (folded_value K folded.old) folded.old.bound → IsFolded K term (i + 1) (folded_value K folded.new) folded.new.bound }
+{
+    let value = Terms::of(&table.candidate().value(i, y));
+    folded.add_product(table.terms(i, x), &value, Root::new(0))
+}
+
+/// The sum over the rows of the conjugate of the value at `x` times the value at `y`, where its terms may be folded.
+fn folded_column_left<const K: u32>(table: &Conjugated<K>, x: u32, y: u32) -> Option<Cyc<K>>
+    requires x_below { x < size table.now.over }
+    requires y_below { y < size table.now.over }
+    ensures forms { IfSome result (λ sum. Forms (column_left table.now.over (characters_of K table.now.rows) x y) (Some sum)) }
+{
+    let rows = table.candidate().rows();
+    let mut folded = Folded::zero();
+    for i in 0..rows {
+        if !add_row_term(&mut folded, table, x, y, i) {
+            return None;
+        }
+    }
+    Some(folded.finish())
+}
+
+/// The same, term by term.
+fn exact_column_left<const K: u32>(table: &Conjugated<K>, x: u32, y: u32) -> Option<Cyc<K>>
     requires x_below { x < size table.now.over }
     requires y_below { y < size table.now.over }
     ensures forms { Forms (column_left table.now.over (characters_of K table.now.rows) x y) result }
@@ -277,6 +364,27 @@ pub fn column_left<const K: u32>(table: &Conjugated<K>, x: u32, y: u32) -> Optio
         total = more;
     }
     Some(total.sum())
+}
+
+/// The sum over the rows of the conjugate of the value at `x` times the value at `y`.
+pub fn column_left<const K: u32>(table: &Conjugated<K>, x: u32, y: u32) -> Option<Cyc<K>>
+    requires x_below { x < size table.now.over }
+    requires y_below { y < size table.now.over }
+    ensures forms { Forms (column_left table.now.over (characters_of K table.now.rows) x y) result }
+{
+    match folded_column_left(table, x, y) {
+        Some(sum) => Some(sum),
+        None => exact_column_left(table, x, y),
+    }
+}
+
+/// Whether `c` carries `x` to `y`.
+fn carries<const K: u32>(table: &Candidate<K>, x: u32, y: u32, c: u32) -> bool
+    requires x_below { x < size table.now.over }
+    requires c_below { c < size table.now.over }
+    ensures carries { result ≡ (conjugate table.now.over.group c x == y) }
+{
+    conjugate(table.over().group(), c, x) == y
 }
 
 /// The conjugate of the root of the conjugation phase of `c` and `x` where `c` carries `x` to `y`, else 0.
@@ -296,7 +404,7 @@ fn column_term<const K: u32>(table: &Candidate<K>, x: u32, y: u32, c: u32) -> Op
     }
 }
 
-/// The sum of these over all `c`.
+/// The sum of these over all `c`; those that are 0 are left out.
 pub fn column_right<const K: u32>(table: &Candidate<K>, x: u32, y: u32) -> Option<Cyc<K>>
     requires x_below { x < size table.now.over }
     requires y_below { y < size table.now.over }
@@ -305,10 +413,12 @@ pub fn column_right<const K: u32>(table: &Candidate<K>, x: u32, y: u32) -> Optio
     let places = table.over().size();
     let mut total = Total::zero();
     for c in 0..places {
-        let Some(more) = total.with(column_term(table, x, y, c)) else {
-            return None;
-        };
-        total = more;
+        if carries(table, x, y, c) {
+            let Some(more) = total.with(column_term(table, x, y, c)) else {
+                return None;
+            };
+            total = more;
+        }
     }
     Some(total.sum())
 }

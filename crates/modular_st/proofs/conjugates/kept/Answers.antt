@@ -17,5 +17,5 @@ returns g c =
     row_read g.row.K c.args.simples.now c.args.conjugates.now.items c.requires.kept c.args.i c.args.g row c.requires.i_below c.requires.g_below c.requires.class
     (subst (λ n. row ≡ get_or c.args.conjugates.now.items (c.args.i * n + c.args.g) row) c.order-order.ensures.order c.index-row.ensures) in
     record {
-      forms = value_read g.row.K c.args.simples.now c.args.i c.args.g c.args.h row.items c.index.result.now is c.requires.h_below c.requires.commute c.index.ensures;
+      sparse = value_read g.row.K c.args.simples.now c.args.i c.args.g c.args.h row.items c.index.result.now is c.requires.h_below c.requires.commute c.index.ensures;
     }

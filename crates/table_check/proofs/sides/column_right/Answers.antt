@@ -1,9 +1,12 @@
-use Rattle.std.proofs.Common.{subst, arith, ap}
+use Rattle.std.proofs.Common.{◌+◌, ◌∙◌, subst, sym, arith, ap}
 use Rattle.cyclotomic.specs.CyclotomicRing.{cyclotomic_value}
 use Rattle.twisted.specs.Twist.{size}
 use Rattle.table_check.specs.Sides.{column_term}
-use Rattle.table_check.specs.Totals.{IsTotal}
+use Rattle.qd_ring.specs.Totals.{IsTotal}
+use Rattle.qd_ring.proofs.NoughtLaws.{total_nought}
+use Rattle.table_check.proofs.Folds.{column_left_out}
 use Rattle.table_check.proofs.sides.column_right.Goals as goal
+use Rattle.table_check.proofs.sides.column_right.Goals.{then-carries+in-Some, else-carries}
 
 pub loop-c-init : goal.loop-c-init
 loop-c-init g c = c.zero-total.ensures.none_added (column_term c.args.table.now.over c.args.x c.args.y)
@@ -14,7 +17,18 @@ returns-in_default g c = record {
 }
 
 pub loop-c-preserved : goal.loop-c-preserved
-loop-c-preserved g c = c.in-Some.ensures.more (column_term c.args.table.now.over c.args.x c.args.y) c.loop-c.c c.loop-c.invariant (c.column_term.ensures.forms)
+loop-c-preserved g c =
+    let term = column_term c.args.table.now.over c.args.x c.args.y in
+    let i = c.loop-c.c in
+    elim c.if-carries.branch [
+      | then-carries+in-Some w ↦
+          subst (λ t. IsTotal term (i + 1) (cyclotomic_value g.row.K t.sum.coefficients) t.sizes) (sym w.total-is)
+          (w.in-Some.ensures.more term i c.loop-c.invariant w.column_term.ensures.forms)
+      | else-carries w ↦
+          subst (λ t. IsTotal term (i + 1) (cyclotomic_value g.row.K t.sum.coefficients) t.sizes) (sym w.total-is)
+          (total_nought term i (cyclotomic_value g.row.K c.loop-c.total.sum.coefficients) c.loop-c.total.sizes c.loop-c.invariant
+          (column_left_out g.row.K c.args.table.now.over c.args.x c.args.y i (sym c.carries.ensures.carries ∙ w.if-carries.false)))
+    ]
 
 pub returns : goal.returns
 returns g c = record {

@@ -24,9 +24,9 @@ index-requires-2 g c =
 
 pub returns : goal.returns
 returns g c = record {
-  forms = subst (λ (t : RowsOver). c.args.i < length t.rows → c.args.x < size t.over → Forms (conjugate_value t.over (characters_of g.row.K t.rows) c.args.i c.args.x) (Some c.index-2.result.now))
+  forms = subst (λ (t : RowsOver). c.args.i < length t.rows → c.args.x < size t.over → Forms (conjugate_value t.over (characters_of g.row.K t.rows) c.args.i c.args.x) (Some c.index-2.result.now.value))
       c.self.view_is
-      (λ row place. conjugate_kept g.row.K c.self.inside.candidate c.args.i c.args.x c.index-2.result.now
+      (λ row place. conjugate_kept g.row.K c.self.inside.candidate c.args.i c.args.x c.index-2.result.now.value
       (kept_value g.row.K c.self.inside.candidate c.self.inside.conjugates.items c.self.invariant.1 c.args.i c.args.x c.index.result.now c.index-2.result.now row place c.index.ensures c.index-2.ensures))
       c.requires.i_below c.requires.x_below;
 }
