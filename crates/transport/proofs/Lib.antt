@@ -10,3 +10,5 @@ pub mod DoubleSimples
 pub mod CharacterLaws
 pub mod Distinct
 pub mod GoodTables
+pub mod Wholes
+pub mod PairSums
