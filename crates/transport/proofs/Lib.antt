@@ -12,3 +12,8 @@ pub mod Distinct
 pub mod GoodTables
 pub mod Wholes
 pub mod PairSums
+pub mod Dimensions
+pub mod SMatrixLaws
+pub mod TwistRoots
+pub mod TensorProducts
+pub mod FusionLaws
