@@ -17,3 +17,4 @@ pub mod SMatrixLaws
 pub mod TwistRoots
 pub mod TensorProducts
 pub mod FusionLaws
+pub mod Transporters

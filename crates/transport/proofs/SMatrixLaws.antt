@@ -1,15 +1,17 @@
 -- S is symmetric and unitary, its row at the vacuum holds the dimensions, and full characters are orthogonal.
-use Rattle.std.proofs.Common.{◌≡◌, ℕ, ◌*◌, ◌<◌, sym, ap, ap₂, ◌∙◌}
+use Rattle.std.proofs.Common.{◌≡◌, ℕ, ◌*◌, ◌<◌, ◌==◌, sym, ap, ap₂, ◌∙◌, eqb-true, eq-eqb}
+use Rattle.std.specs.Prelude.{if◌then◌else◌}
 use Rattle.algebra.specs.Below.{Below}
 use Rattle.algebra.proofs.SumLaws.{sum_ext}
 use Rattle.cyclotomic.specs.Cyclotomic.{cyclotomic}
-use Rattle.cyclotomic.specs.Ring.{value_product}
+use Rattle.cyclotomic.specs.Ring.{value_nought, value_product}
 use Rattle.cyclotomic.specs.CyclotomicRing.{CyclotomicValue, cyclotomic_ring, conjugate}
-use Rattle.table_check.specs.Formed.{multiplied, conjugated}
+use Rattle.table_check.specs.Formed.{multiplied, conjugated, whole}
 use Rattle.characters.specs.Setting.{Setting, Classes}
 use Rattle.characters.specs.Pairs.{inner_product as abstract_inner}
 use Rattle.characters.specs.FullCharacters.{full_character as character}
 use Rattle.characters.specs.SMatrix.{s_sum as abstract_sum, pair_term as abstract_term}
+use Rattle.characters.proofs.SettingLaws.{same_test}
 use Rattle.characters.proofs.PairLaws.{inner_product_is}
 use Rattle.characters.proofs.SLaws.{s_sum_is, s_sum_symmetric, s_sum_of_vacuum}
 use Rattle.characters.proofs.OrthogonalityLaws.{first_orthogonality}
@@ -19,7 +21,7 @@ use Rattle.transport.specs.FullCharacters.{full_character}
 use Rattle.transport.specs.SSums.{pair_term}
 use Rattle.transport.specs.Fusion.{inner_product}
 use Rattle.transport.specs.Matrices.{s_entry}
-use Rattle.transport.specs.Headline.{OfAllSimples, CharactersOrthogonal, SSymmetric, VacuumRow, VacuumEntry, SUnitary, SquaresOfDimensions}
+use Rattle.transport.specs.Headline.{OfAllSimples, CharactersOrthogonal, SSymmetric, VacuumRow, VacuumEntry, SUnitary, AdjointUnitary, SquaresOfDimensions}
 use Rattle.transport.proofs.Doubles.{double_classes}
 use Rattle.transport.proofs.DoubleSimples.{setting, simples}
 use Rattle.transport.proofs.CharacterLaws.{character_is, term_is}
@@ -51,12 +53,14 @@ module _ (k : ℕ) (s : SimplesOver) (S : AreSimples k s) where
       (λ g x commuting. ap₂ (λ u v. T.ring.mul u (conjugate k v)) (character_is k s S i g x commuting) (character_is k s S j g x commuting))
 
 pub characters_orthogonal : OfAllSimples CharactersOrthogonal
-characters_orthogonal k s S i j i_below j_below =
-    let I = simple k s S i i_below in
-    let J = simple k s S j j_below in
-    sym (inner_product_of k s S I J)
-    ∙ first_orthogonality (setting k s S) (double_classes s.cocycle S.cocycle) (simples k s S) (numbered k s S) (good_tables k s S) (torsion_free k) I J
-    ∙ at_equal_is k s S I J _ _ (order_is k s S)
+characters_orthogonal k s S = record {
+  orthogonal = λ i j i_below j_below.
+      let I = simple k s S i i_below in
+      let J = simple k s S j j_below in
+      sym (inner_product_of k s S I J)
+      ∙ first_orthogonality (setting k s S) (double_classes s.cocycle S.cocycle) (simples k s S) (numbered k s S) (good_tables k s S) (torsion_free k) I J
+      ∙ at_equal_is k s S I J _ _ (order_is k s S);
+}
 
 pub s_symmetric : OfAllSimples SSymmetric
 s_symmetric k s S i j i_below j_below =
@@ -95,3 +99,14 @@ squares_of_dimensions k s S =
     sym (ap₂ (value_product (cyclotomic k)) (vacuum_row k s S l below) (ap (conjugate k) (vacuum_row k s S l below) ∙ whole_conjugate k S.conductor (dimension_at k s l))
     ∙ whole_product k (dimension_at k s l) (dimension_at k s l)))
     ∙ s_is_unitary k s S 0 0 V.below V.below)
+
+-- the conjugates of columns, since S is symmetric
+pub adjoint_is_unitary : OfAllSimples AdjointUnitary
+adjoint_is_unitary k s S i j i_below j_below =
+    let n = s.cocycle.group.order in
+    sum_ext (cyclotomic_ring k) (count k s) _ _
+    (λ l below.
+    ap₂ (λ u v. value_product (cyclotomic k) (conjugate k u) v) (s_symmetric k s S l i below i_below) (s_symmetric k s S l j below j_below)
+    ∙ (cyclotomic_ring k).mul_comm (conjugate k (s_entry k s i l)) (s_entry k s j l))
+    ∙ s_is_unitary k s S j i j_below i_below
+    ∙ ap (λ b. if b then whole k (n * n) else value_nought) (same_test (j == i) (i == j) (λ h. eq-eqb i j (sym (eqb-true j i h))) (λ h. eq-eqb j i (sym (eqb-true i j h))))

@@ -3,12 +3,13 @@
 use Rattle.std.specs.Prelude.{◌≡◌, ℕ, ◌*◌, ◌/◌, ◌<◌}
 use Rattle.cyclotomic.specs.Cyclotomic.{cyclotomic}
 use Rattle.cyclotomic.specs.Ring.{value_one}
-use Rattle.cyclotomic.specs.CyclotomicRing.{root, conjugate}
+use Rattle.cyclotomic.specs.CyclotomicRing.{CyclotomicValue, root, conjugate}
 use Rattle.group_table.specs.Group.{product}
+use Rattle.classes.specs.Conjugacy.{conjugate as conjugation, representative_at}
 use Rattle.slant.specs.Phases.{theta}
 use Rattle.table_check.specs.Formed.{whole}
-use Rattle.transport.specs.Simples.{SimplesOver, count, dimension_at, AreSimples}
-use Rattle.transport.specs.FullCharacters.{root_exponent, full_character}
+use Rattle.transport.specs.Simples.{SimplesOver, count, class_at, dimension_at, AreSimples}
+use Rattle.transport.specs.FullCharacters.{root_exponent, carried_value, full_character}
 use Rattle.transport.specs.Laws.{IsElement, Commute}
 use Rattle.transport.specs.Fusion.{tensor_character, inner_product, fusion_sum, IsFusionNumber, AreFusionNumbers}
 use Rattle.transport.specs.Matrices.{at_equal, sum_of, times, product_of, adjoint, sum_numbers, s_entry, twist_root, by_twists, by_s, dimensions_product}
@@ -26,10 +27,15 @@ module _ (k : ℕ) (s : SimplesOver) where
   abbrev pub IsSimple : ℕ → Type 0
   IsSimple i = i < count k s
 
+  -- u is the full character of i at g and x by every c that carries the representative a of the class of i to g = c a c^-1
+  pub record IsByEachTransporter (i g x : ℕ) (u : CyclotomicValue k) : Type 0 where
+    pub carried : (c : ℕ) → IsElement s c → conjugation s.cocycle.group c (representative_at s.cocycle.group (class_at k s i)) ≡ g
+        → u ≡ (carried_value k s i g x c).value
+
   -- the inner product of the full characters of i and j is n for i = j, else 0
-  abbrev pub CharactersOrthogonal : Type 0
-  CharactersOrthogonal =
-      (i j : ℕ) → IsSimple i → IsSimple j → (inner_product k s (full_character k s i) (full_character k s j)).value ≡ at_equal k i j (whole k (order_of s))
+  pub record CharactersOrthogonal : Type 0 where
+    pub orthogonal : (i j : ℕ) → IsSimple i → IsSimple j
+        → (inner_product k s (full_character k s i) (full_character k s j)).value ≡ at_equal k i j (whole k (order_of s))
 
   -- M_ij = M_ji
   abbrev pub SSymmetric : Type 0
@@ -48,6 +54,12 @@ module _ (k : ℕ) (s : SimplesOver) where
   SUnitary =
       (i j : ℕ) → IsSimple i → IsSimple j →
       product_of k (count k s) (s_entry k s) (adjoint k (s_entry k s)) i j ≡ at_equal k i j (whole k (order_of s * order_of s))
+
+  -- the sum over l of conj(M_li) M_lj is n n for i = j, else 0
+  abbrev pub AdjointUnitary : Type 0
+  AdjointUnitary =
+      (i j : ℕ) → IsSimple i → IsSimple j →
+      product_of k (count k s) (adjoint k (s_entry k s)) (s_entry k s) i j ≡ at_equal k i j (whole k (order_of s * order_of s))
 
   -- the D_i D_i add up to n n
   abbrev pub SquaresOfDimensions : Type 0

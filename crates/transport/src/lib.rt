@@ -2,7 +2,7 @@
 #![tactic(auto)]
 
 ghost use Rattle.transport.specs.Laws.{SimplesAreRows, SimplesAscend, TransporterIndependent, Covariant, TermsInvariant};
-ghost use Rattle.transport.specs.Headline.{OfAllSimples, CharactersOrthogonal, SSymmetric, VacuumRow, VacuumEntry, SUnitary, SquaresOfDimensions};
+ghost use Rattle.transport.specs.Headline.{OfAllSimples, CharactersOrthogonal, SSymmetric, VacuumRow, VacuumEntry, SUnitary, AdjointUnitary, SquaresOfDimensions};
 ghost use Rattle.transport.specs.Headline.{TwistsAct, TwistsUnitary, STSRelation, STCubeRelation, SFourthRelation};
 ghost use Rattle.transport.specs.Headline.{TensorProductsDecompose, FusionDimensions, NumbersOfDimensions, NumbersAreMultiplicities, ColumnsMultiply, NumbersByS};
 
@@ -38,6 +38,7 @@ pub fn s_laws()
     ensures vacuum_row { OfAllSimples VacuumRow }
     ensures vacuum_entry { OfAllSimples VacuumEntry }
     ensures unitary { OfAllSimples SUnitary }
+    ensures adjoint { OfAllSimples AdjointUnitary }
     ensures squares { OfAllSimples SquaresOfDimensions }
 {}
 
