@@ -1,9 +1,9 @@
 -- The tensor characters and fusion sums by good tables are those of the twisted quantum double.
-use Rattle.std.proofs.Common.{◌≡◌, ℕ, refl, sym, ap, ap₂, ◌∙◌}
+use Rattle.std.proofs.Common.{◌≡◌, ◌<◌, ℕ, refl, sym, ap, ap₂, ◌∙◌}
 use Rattle.algebra.specs.Sums.{pick}
 use Rattle.algebra.specs.Totals.{equals}
 use Rattle.algebra.specs.Groups.{conj}
-use Rattle.algebra.specs.Below.{Below}
+use Rattle.algebra.specs.Below.{Below, below_equal}
 use Rattle.algebra.proofs.SumLaws.{pick_of}
 use Rattle.algebra.proofs.GroupLaws.{inv_op_op, op_inv_op}
 use Rattle.algebra.proofs.TotalLaws.{total_ext, total_pick, equals_true, equals_of}
@@ -21,7 +21,8 @@ use Rattle.characters.proofs.FusionLaws.{tensor_character_is, fusion_sum_is}
 use Rattle.transport.specs.Simples.{SimplesOver, count, AreSimples}
 use Rattle.transport.specs.FullCharacters.{root_exponent, full_character}
 use Rattle.transport.specs.SSums.{commute}
-use Rattle.transport.specs.Fusion.{tensor_term, tensor_character, fusion_sum}
+use Rattle.transport.specs.Laws.{IsElement, Commute}
+use Rattle.transport.specs.Fusion.{left_quotient, tensor_term, tensor_character, fusion_sum}
 use Rattle.transport.proofs.Doubles.{double_classes}
 use Rattle.transport.proofs.DoubleSimples.{setting, simples}
 use Rattle.transport.proofs.CharacterLaws.{character_is}
@@ -80,3 +81,14 @@ module _ (k : ℕ) (s : SimplesOver) (S : AreSimples k s) where
       fusion_sum_is T C (simples k s S) i j l ∙ inner_product_is T _ _
       ∙ pair_sum_is k s S _ (λ g x. multiplied k (tensor_character k s i.value j.value g x) (conjugated k (full_character k s l.value g x)))
       (λ g x commuting. ap₂ (λ u v. T.ring.mul u (conjugate k v)) (tensor_is i j g x commuting) (character_is k s S l g x commuting))
+
+-- where g and h commute with x, so does h^-1 g
+pub quotient_commutes : (k : ℕ) (s : SimplesOver) → AreSimples k s → (g x h : ℕ) → IsElement s g → IsElement s x → IsElement s h → Commute s g x → Commute s h x
+    → (left_quotient s.cocycle.group h g < s.cocycle.group.order) × Commute s (left_quotient s.cocycle.group h g) x
+quotient_commutes k s S g x h g_below x_below h_below first second =
+    let G : Below s.cocycle.group.order = record { value = g; below = g_below } in
+    let X : Below s.cocycle.group.order = record { value = x; below = x_below } in
+    let H : Below s.cocycle.group.order = record { value = h; below = h_below } in (
+      ((setting k s S).group.op ((setting k s S).group.inv H) G).below,
+      ap (λ (z : Below s.cocycle.group.order). z.value) (other_commutes k s S G X H (below_equal _ _ first) (below_equal _ _ second)),
+    )
