@@ -1,5 +1,5 @@
 -- The matrix S whose entries are the sums of the program is symmetric and unitary, and its row at the vacuum holds the dimensions.
-use Rattle.std.proofs.Common.{◌≡◌, ℕ, ◌<◌, sym, ap, ap₂, ◌∙◌}
+use Rattle.std.proofs.Common.{◌≡◌, ℕ, ◌<◌, sym, ap₂, ◌∙◌}
 use Rattle.algebra.proofs.SumLaws.{sum_ext}
 use Rattle.cyclotomic.specs.CyclotomicRing.{cyclotomic_ring, conjugate}
 use Rattle.transport.specs.Simples.{SimplesOver, count, AreSimples}

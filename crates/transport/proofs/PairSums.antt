@@ -37,7 +37,8 @@ double_sum R (suc m) n f =
     ∙ ap₂ R.add (double_sum R m n f) (sum_ext R n _ _ (λ h below. ap₂ f (div-mul-add m n h below) (mod-mul-add m n h below)))
     ∙ sym (sum_suc R m _)
 
-pick_if : (k : ℕ) (test : Bool) (u : CyclotomicValue k) → pick (cyclotomic_ring k) test u ≡ (if test then u else value_nought)
+-- a value that a test picks
+pub pick_if : (k : ℕ) (test : Bool) (u : CyclotomicValue k) → pick (cyclotomic_ring k) test u ≡ (if test then u else value_nought)
 pick_if k true u = pick_of (cyclotomic_ring k) true u refl
 pick_if k false u = pick_off (cyclotomic_ring k) false u refl
 

@@ -1,22 +1,23 @@
 -- The twists of the simples, as roots of the ring, and the relations of S and T.
-use Rattle.std.proofs.Common.{◌≡◌, ℕ, ◌*◌, true, Option, refl, sym, ap, ap₂, ◌∙◌}
+use Rattle.std.proofs.Common.{◌≡◌, ℕ, ◌*◌, ◌<◌, true, Option, refl, sym, ap, ap₂, ◌∙◌, ◌==◌}
 use Rattle.std.specs.Prelude.{unwrap_or}
 use Rattle.algebra.specs.Structures.{CommRing}
 use Rattle.algebra.specs.Sums.{sum_below}
 use Rattle.algebra.specs.Groups.{conj}
 use Rattle.algebra.specs.Below.{Below, below_equal}
-use Rattle.algebra.proofs.SumLaws.{sum_ext, sum_exchange, sum_mul, mul_sum}
+use Rattle.algebra.proofs.SumLaws.{mul_pick, sum_pick, sum_ext, sum_exchange, sum_mul, mul_sum}
 use Rattle.classes.proofs.Searches.{first_finds}
 use Rattle.cochain.specs.Cochain.{Cochain}
 use Rattle.group_table.specs.Group.{identity_of}
 use Rattle.cyclotomic.specs.Cyclotomic.{cyclotomic}
-use Rattle.cyclotomic.specs.Ring.{value_product}
+use Rattle.cyclotomic.specs.Ring.{value_product, value_one}
 use Rattle.cyclotomic.specs.CyclotomicRing.{CyclotomicValue, cyclotomic_ring, root, conjugate}
 use Rattle.cyclotomic.proofs.Inverses.{root_conjugate}
 use Rattle.twisted.specs.Twist.{TwistedSubgroup, place_of}
 use Rattle.slant.specs.Phases.{theta}
 use Rattle.slant.specs.Twists.{twist_of as twisted_centraliser}
 use Rattle.phases.specs.Phases.{theta as slant_phase}
+use Rattle.table_check.specs.Formed.{whole}
 use Rattle.table_check.specs.Sides.{twist_left, twist_right}
 use Rattle.table_check.specs.Check.{is_same, where_holds, twist_of}
 use Rattle.table_check.specs.Good.{HasTwist}
@@ -31,15 +32,15 @@ use Rattle.characters.proofs.SettingLaws.{commuting_product}
 use Rattle.characters.proofs.Relations.{s_t_s, s_t_cubed, s_fourth}
 use Rattle.transport.specs.Simples.{SimplesOver, count, twist_at, over_at, characters_at, simple_at, degree_at, class_at, value_at, AreSimples}
 use Rattle.transport.specs.FullCharacters.{root_exponent}
-use Rattle.transport.specs.Matrices.{s_entry, twist_root, by_twists, by_s}
-use Rattle.transport.specs.Headline.{OfAllSimples, TwistsAct, TwistsUnitary, STSRelation, STCubeRelation, SFourthRelation}
+use Rattle.transport.specs.Matrices.{Matrix, at_equal, product_of, adjoint, s_entry, twist_root, by_twists, by_s}
+use Rattle.transport.specs.Headline.{OfAllSimples, TwistsAct, TwistsUnitary, StepsAreInverse, STSRelation, STCubeRelation, SFourthRelation}
 use Rattle.transport.proofs.Doubles.{double_classes}
 use Rattle.transport.proofs.DoubleSimples.{setting, simples, at, row, over_is, degree, at_identity, whole_multiple}
 use Rattle.transport.proofs.CharacterLaws.{character_is}
 use Rattle.transport.proofs.GoodTables.{numbered, good_tables, torsion_free}
 use Rattle.transport.proofs.Wholes.{whole_product}
-use Rattle.transport.proofs.PairSums.{simples_sum, at_equal_is, order_is, square_is}
-use Rattle.transport.proofs.SMatrixLaws.{simple, entry_is}
+use Rattle.transport.proofs.PairSums.{pick_if, simples_sum, at_equal_is, order_is, square_is}
+use Rattle.transport.proofs.SMatrixLaws.{simple, entry_is, s_is_unitary, adjoint_is_unitary}
 
 at_is : (w : Cochain) (a : ℕ) → (twisted_centraliser w a).at ≡ a
 unfolding twisted_centraliser
@@ -110,6 +111,34 @@ twists_act k s S i g x i_below g_below x_below commutes =
 
 pub twists_unitary : OfAllSimples TwistsUnitary
 twists_unitary k s S i below = root_conjugate k S.conductor (twist_at k s i)
+
+-- a matrix times two whose product is a multiple of the identity
+times_both : (k n : ℕ) (a : ℕ → CyclotomicValue k) (b c : Matrix k) (u : CyclotomicValue k) (j : ℕ) → ((m : ℕ) → m < n → product_of k n b c m j ≡ at_equal k m j u) → j < n
+    → sum_below (cyclotomic_ring k) n (λ l. value_product (cyclotomic k) (sum_below (cyclotomic_ring k) n (λ m. value_product (cyclotomic k) (a m) (b m l))) (c l j))
+    ≡ value_product (cyclotomic k) u (a j)
+times_both k n a b c u j multiple below =
+    let R = cyclotomic_ring k in
+    product_assoc R n a b (λ l. c l j)
+    ∙ sum_ext R n _ _ (λ m inside. ap (R.mul (a m)) (multiple m inside ∙ sym (pick_if k (m == j) u)) ∙ mul_pick R (m == j) (a m) u)
+    ∙ sum_pick R n j (λ m. R.mul (a m) u) below ∙ R.mul_comm (a j) u
+
+-- what is multiplied by two inverse factors
+times_inverses : (k : ℕ) (a r q : CyclotomicValue k) → value_product (cyclotomic k) r q ≡ value_one (cyclotomic k) → value_product (cyclotomic k) (value_product (cyclotomic k) a r) q ≡ a
+times_inverses k a r q unit = let R = cyclotomic_ring k in R.mul_assoc a r q ∙ ap (R.mul a) unit ∙ R.mul_one a
+
+pub steps_are_inverse : OfAllSimples StepsAreInverse
+steps_are_inverse k s S =
+    let square = whole k (s.cocycle.group.order * s.cocycle.group.order) in
+    let x = twist_root k s in
+    record {
+      s_undone = λ a i j below.
+          times_both k (count k s) (a i) (s_entry k s) (adjoint k (s_entry k s)) square j (λ m inside. s_is_unitary k s S m j inside below) below;
+      adjoint_undone = λ a i j below.
+          times_both k (count k s) (a i) (adjoint k (s_entry k s)) (s_entry k s) square j (λ m inside. adjoint_is_unitary k s S m j inside below) below;
+      twists_undone = λ a i j below. times_inverses k (a i j) (x j) (conjugate k (x j)) (twists_unitary k s S j below);
+      inverse_undone = λ a i j below.
+          times_inverses k (a i j) (conjugate k (x j)) (x j) ((cyclotomic_ring k).mul_comm (conjugate k (x j)) (x j) ∙ twists_unitary k s S j below);
+    }
 
 pub s_t_s_relation : OfAllSimples STSRelation
 s_t_s_relation k s S i j i_below j_below =

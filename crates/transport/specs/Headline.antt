@@ -12,7 +12,7 @@ use Rattle.transport.specs.Simples.{SimplesOver, count, class_at, dimension_at, 
 use Rattle.transport.specs.FullCharacters.{root_exponent, carried_value, full_character}
 use Rattle.transport.specs.Laws.{IsElement, Commute}
 use Rattle.transport.specs.Fusion.{tensor_character, inner_product, fusion_sum, IsFusionNumber, AreFusionNumbers}
-use Rattle.transport.specs.Matrices.{at_equal, sum_of, times, product_of, adjoint, sum_numbers, s_entry, twist_root, by_twists, by_s, dimensions_product}
+use Rattle.transport.specs.Matrices.{Matrix, at_equal, sum_of, times, product_of, adjoint, sum_numbers, s_entry, twist_root, by_twists, by_s, by_adjoint, by_inverse_twists, dimensions_product}
 
 -- the law holds of all simples by good tables
 abbrev pub OfAllSimples : (ℕ → SimplesOver → Type 0) → Type 0
@@ -75,6 +75,13 @@ module _ (k : ℕ) (s : SimplesOver) where
   -- x^t conj(x^t) = 1
   abbrev pub TwistsUnitary : Type 0
   TwistsUnitary = (i : ℕ) → IsSimple i → times k (twist_root k s i) (conjugate k (twist_root k s i)) ≡ value_one (cyclotomic k)
+
+  -- for every matrix A: A M M* = n n A, A M* M = n n A, A T T^-1 = A and A T^-1 T = A, with M* for the transposed conjugate
+  pub record StepsAreInverse : Type 0 where
+    pub s_undone : (a : Matrix k) (i j : ℕ) → IsSimple j → by_adjoint k s (by_s k s a) i j ≡ times k (whole k (order_of s * order_of s)) (a i j)
+    pub adjoint_undone : (a : Matrix k) (i j : ℕ) → IsSimple j → by_s k s (by_adjoint k s a) i j ≡ times k (whole k (order_of s * order_of s)) (a i j)
+    pub twists_undone : (a : Matrix k) (i j : ℕ) → IsSimple j → by_inverse_twists k s (by_twists k s a) i j ≡ a i j
+    pub inverse_undone : (a : Matrix k) (i j : ℕ) → IsSimple j → by_twists k s (by_inverse_twists k s a) i j ≡ a i j
 
   -- M T M = n T^-1 M T^-1
   abbrev pub STSRelation : Type 0

@@ -58,6 +58,14 @@ module _ (k : ℕ) (s : SimplesOver) where
   abbrev pub by_s : Matrix k → Matrix k
   by_s a = product_of k (count k s) a s_entry
 
+  -- a matrix times the transposed conjugate of n S
+  abbrev pub by_adjoint : Matrix k → Matrix k
+  by_adjoint a = product_of k (count k s) a (adjoint k s_entry)
+
+  -- a matrix times the inverse of T
+  abbrev pub by_inverse_twists : Matrix k → Matrix k
+  by_inverse_twists a i j = times k (a i j) (conjugate k (twist_root j))
+
   -- the product of all dimensions
   abbrev pub dimensions_product : ℕ
   dimensions_product = product_numbers (count k s) (dimension_at k s)

@@ -3,7 +3,7 @@
 
 ghost use Rattle.transport.specs.Laws.{SimplesAreRows, SimplesAscend, TransporterIndependent, Covariant, TermsInvariant};
 ghost use Rattle.transport.specs.Headline.{OfAllSimples, CharactersOrthogonal, SSymmetric, VacuumRow, VacuumEntry, SUnitary, AdjointUnitary, SquaresOfDimensions};
-ghost use Rattle.transport.specs.Headline.{TwistsAct, TwistsUnitary, STSRelation, STCubeRelation, SFourthRelation};
+ghost use Rattle.transport.specs.Headline.{TwistsAct, TwistsUnitary, StepsAreInverse, STSRelation, STCubeRelation, SFourthRelation};
 ghost use Rattle.transport.specs.Headline.{TensorProductsDecompose, FusionDimensions, NumbersOfDimensions, NumbersAreMultiplicities, ColumnsMultiply, NumbersByS};
 
 mod entry;
@@ -47,6 +47,7 @@ pub fn s_laws()
 pub fn relation_laws()
     ensures acts { OfAllSimples TwistsAct }
     ensures inverse { OfAllSimples TwistsUnitary }
+    ensures steps { OfAllSimples StepsAreInverse }
     ensures product { OfAllSimples STSRelation }
     ensures cube { OfAllSimples STCubeRelation }
     ensures fourth { OfAllSimples SFourthRelation }
