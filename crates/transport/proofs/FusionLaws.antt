@@ -16,7 +16,7 @@ use Rattle.transport.specs.Simples.{SimplesOver, count, dimension_at, AreSimples
 use Rattle.transport.specs.FullCharacters.{full_character}
 use Rattle.transport.specs.Fusion.{tensor_character, fusion_sum, AreFusionNumbers}
 use Rattle.transport.specs.Matrices.{s_entry, sum_numbers, product_numbers, dimensions_product}
-use Rattle.transport.specs.Headline.{OfAllSimples, TensorProductsDecompose, FusionDimensions, NumbersOfDimensions, NumbersAreMultiplicities, ColumnsMultiply, NumbersByS}
+use Rattle.transport.specs.Headline.{OfAllSimples, TensorProductsDecompose, FusionDimensions, NumbersOfDimensions, NumbersAreRule}
 use mathlib.Core.Logic.{◌⊎◌, inl, inr}
 use Rattle.transport.proofs.Rows.{last_or_less}
 use Rattle.transport.proofs.Doubles.{double_classes, order_positive}
@@ -163,12 +163,12 @@ numbers_of_dimensions k s S i j i_below j_below number numbers =
     ∙ ap (λ u. R.mul u (whole k (d l))) (sym (numbers l below)))
     ∙ dimensions k s S (simple k s S i i_below) (simple k s S j j_below)))
 
-pub numbers_are_multiplicities : OfAllSimples NumbersAreMultiplicities
-numbers_are_multiplicities k s S number numbers i j g x i_below j_below g_below x_below commutes =
-    multiplicities k s S number numbers (simple k s S i i_below) (simple k s S j j_below) (record { value = g; below = g_below }) (record { value = x; below = x_below }) (below_equal _ _ commutes)
-
-pub columns_multiply : OfAllSimples ColumnsMultiply
-columns_multiply k s S number numbers i j l i_below j_below l_below = columns k s S number numbers (simple k s S i i_below) (simple k s S j j_below) (simple k s S l l_below)
-
-pub numbers_by_s : OfAllSimples NumbersByS
-numbers_by_s k s S number numbers i j m i_below j_below m_below = by_s k s S number numbers (simple k s S i i_below) (simple k s S j j_below) (simple k s S m m_below)
+pub numbers_are_rule : OfAllSimples NumbersAreRule
+numbers_are_rule k s S number numbers = record {
+  numbers = numbers;
+  multiplicities = λ i j g x i_below j_below g_below x_below commutes.
+      multiplicities k s S number numbers (simple k s S i i_below) (simple k s S j j_below) (record { value = g; below = g_below }) (record { value = x; below = x_below }) (below_equal _ _ commutes);
+  dimensions = λ i j i_below j_below. numbers_of_dimensions k s S i j i_below j_below (number i j) (λ l below. numbers i j l i_below j_below below);
+  columns = λ i j l i_below j_below l_below. columns k s S number numbers (simple k s S i i_below) (simple k s S j j_below) (simple k s S l l_below);
+  by_s = λ i j m i_below j_below m_below. by_s k s S number numbers (simple k s S i i_below) (simple k s S j j_below) (simple k s S m m_below);
+}

@@ -33,14 +33,14 @@ use Rattle.characters.proofs.Relations.{s_t_s, s_t_cubed, s_fourth}
 use Rattle.transport.specs.Simples.{SimplesOver, count, twist_at, over_at, characters_at, simple_at, degree_at, class_at, value_at, AreSimples}
 use Rattle.transport.specs.FullCharacters.{root_exponent}
 use Rattle.transport.specs.Matrices.{Matrix, at_equal, product_of, adjoint, s_entry, twist_root, by_twists, by_s}
-use Rattle.transport.specs.Headline.{OfAllSimples, TwistsAct, TwistsUnitary, StepsAreInverse, STSRelation, STCubeRelation, SFourthRelation}
+use Rattle.transport.specs.Headline.{OfAllSimples, TwistsAct, TwistsUnitary, StepsAreInverse, STSRelation, STCubeRelation, SFourthRelation, HasModularData}
 use Rattle.transport.proofs.Doubles.{double_classes}
 use Rattle.transport.proofs.DoubleSimples.{setting, simples, at, row, over_is, degree, at_identity, whole_multiple}
 use Rattle.transport.proofs.CharacterLaws.{character_is}
 use Rattle.transport.proofs.GoodTables.{numbered, good_tables, torsion_free}
 use Rattle.transport.proofs.Wholes.{whole_product}
 use Rattle.transport.proofs.PairSums.{pick_if, simples_sum, at_equal_is, order_is, square_is}
-use Rattle.transport.proofs.SMatrixLaws.{simple, entry_is, s_is_unitary, adjoint_is_unitary}
+use Rattle.transport.proofs.SMatrixLaws.{simple, entry_is, characters_orthogonal, s_symmetric, vacuum_row, vacuum_entry, s_is_unitary, adjoint_is_unitary, squares_of_dimensions}
 
 at_is : (w : Cochain) (a : ℕ) → (twisted_centraliser w a).at ≡ a
 unfolding twisted_centraliser
@@ -187,3 +187,17 @@ s_fourth_relation k s S i j i_below j_below =
     (simples_sum k s S _ (λ l. R.mul (M o.value l) (M l j)) (λ l. ap₂ R.mul (entry_is k s S o l) (entry_is k s S l J)))))
     ∙ s_fourth (setting k s S) (double_classes s.cocycle S.cocycle) (simples k s S) (numbered k s S) (good_tables k s S) (torsion_free k) I J
     ∙ at_equal_is k s S I J _ _ (ap₂ R.mul (square_is k s S) (square_is k s S) ∙ whole_product k (n * n) (n * n))
+
+pub modular_data : OfAllSimples HasModularData
+modular_data k s S = record {
+  characters = characters_orthogonal k s S;
+  symmetric = s_symmetric k s S;
+  vacuum_row = vacuum_row k s S;
+  vacuum_entry = vacuum_entry k s S;
+  unitary = s_is_unitary k s S;
+  squares = squares_of_dimensions k s S;
+  twists = twists_act k s S;
+  product = s_t_s_relation k s S;
+  cube = s_t_cube_relation k s S;
+  fourth = s_fourth_relation k s S;
+}

@@ -122,24 +122,39 @@ module _ (k : ℕ) (s : SimplesOver) where
       (i j : ℕ) → IsSimple i → IsSimple j → (number : ℕ → ℕ) → ((l : ℕ) → IsSimple l → IsFusionNumber k s i j l (number l)) →
       sum_numbers (count k s) (λ l. number l * dimension_at k s l) ≡ dimension_at k s i * dimension_at k s j
 
-  -- fusion numbers N are the tensor multiplicities: (i*j)(g,x) is the sum over l of N_ijl ch_l(g,x) at g and x that commute
-  abbrev pub NumbersAreMultiplicities : Type 0
-  NumbersAreMultiplicities =
-      (number : ℕ → ℕ → ℕ → ℕ) → AreFusionNumbers k s number →
-      (i j g x : ℕ) → IsSimple i → IsSimple j → IsElement s g → IsElement s x → Commute s g x →
-      (tensor_character k s i j g x).value ≡ sum_of k (count k s) (λ l. times k (whole k (number i j l)) (full_character k s l g x).value)
+  -- numbers N that are the fusion numbers of all simples, with what follows of them
+  pub record IsFusionRule (number : ℕ → ℕ → ℕ → ℕ) : Type 0 where
+    -- each fusion sum I_ijl is n N_ijl
+    pub numbers : AreFusionNumbers k s number
+    -- they are the tensor multiplicities: (i*j)(g,x) is the sum over l of N_ijl ch_l(g,x) at g and x that commute
+    pub multiplicities : (i j g x : ℕ) → IsSimple i → IsSimple j → IsElement s g → IsElement s x → Commute s g x
+        → (tensor_character k s i j g x).value ≡ sum_of k (count k s) (λ l. times k (whole k (number i j l)) (full_character k s l g x).value)
+    -- the N_ijl D_l add up to D_i D_j
+    pub dimensions : (i j : ℕ) → IsSimple i → IsSimple j
+        → sum_numbers (count k s) (λ l. number i j l * dimension_at k s l) ≡ dimension_at k s i * dimension_at k s j
+    -- M_il M_jl is D_l times the sum over m of N_ijm M_ml (Verlinde 1988)
+    pub columns : (i j l : ℕ) → IsSimple i → IsSimple j → IsSimple l
+        → times k (s_entry k s i l) (s_entry k s j l)
+        ≡ times k (whole k (dimension_at k s l)) (sum_of k (count k s) (λ m. times k (whole k (number i j m)) (s_entry k s m l)))
+    -- with L for the product of all dimensions, n n L N_ijm is the sum over l of (L / D_l) M_il M_jl conj(M_ml) (Verlinde 1988)
+    pub by_s : (i j m : ℕ) → IsSimple i → IsSimple j → IsSimple m
+        → sum_of k (count k s) (λ l. times k (whole k (dimensions_product k s / dimension_at k s l))
+        (times k (times k (s_entry k s i l) (s_entry k s j l)) (conjugate k (s_entry k s m l))))
+        ≡ whole k (number i j m * (dimensions_product k s * (order_of s * order_of s)))
 
-  -- M_il M_jl is D_l times the sum over m of N_ijm M_ml (Verlinde 1988)
-  abbrev pub ColumnsMultiply : Type 0
-  ColumnsMultiply =
-      (number : ℕ → ℕ → ℕ → ℕ) → AreFusionNumbers k s number → (i j l : ℕ) → IsSimple i → IsSimple j → IsSimple l →
-      times k (s_entry k s i l) (s_entry k s j l)
-      ≡ times k (whole k (dimension_at k s l)) (sum_of k (count k s) (λ m. times k (whole k (number i j m)) (s_entry k s m l)))
+  -- fusion numbers are a fusion rule
+  abbrev pub NumbersAreRule : Type 0
+  NumbersAreRule = (number : ℕ → ℕ → ℕ → ℕ) → AreFusionNumbers k s number → IsFusionRule number
 
-  -- with L for the product of all dimensions, n n L N_ijm is the sum over l of (L / D_l) M_il M_jl conj(M_ml) (Verlinde 1988)
-  abbrev pub NumbersByS : Type 0
-  NumbersByS =
-      (number : ℕ → ℕ → ℕ → ℕ) → AreFusionNumbers k s number → (i j m : ℕ) → IsSimple i → IsSimple j → IsSimple m →
-      sum_of k (count k s) (λ l. times k (whole k (dimensions_product k s / dimension_at k s l))
-      (times k (times k (s_entry k s i l) (s_entry k s j l)) (conjugate k (s_entry k s m l))))
-      ≡ whole k (number i j m * (dimensions_product k s * (order_of s * order_of s)))
+  -- modular data: what holds of the full characters, S and T of the simples
+  pub record HasModularData : Type 0 where
+    pub characters : CharactersOrthogonal
+    pub symmetric : SSymmetric
+    pub vacuum_row : VacuumRow
+    pub vacuum_entry : VacuumEntry
+    pub unitary : SUnitary
+    pub squares : SquaresOfDimensions
+    pub twists : TwistsAct
+    pub product : STSRelation
+    pub cube : STCubeRelation
+    pub fourth : SFourthRelation

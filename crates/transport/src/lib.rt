@@ -3,8 +3,8 @@
 
 ghost use Rattle.transport.specs.Laws.{SimplesAreRows, SimplesAscend, TransporterIndependent, Covariant, TermsInvariant};
 ghost use Rattle.transport.specs.Headline.{OfAllSimples, CharactersOrthogonal, SSymmetric, VacuumRow, VacuumEntry, SUnitary, AdjointUnitary, SquaresOfDimensions};
-ghost use Rattle.transport.specs.Headline.{TwistsAct, TwistsUnitary, StepsAreInverse, STSRelation, STCubeRelation, SFourthRelation};
-ghost use Rattle.transport.specs.Headline.{TensorProductsDecompose, FusionDimensions, NumbersOfDimensions, NumbersAreMultiplicities, ColumnsMultiply, NumbersByS};
+ghost use Rattle.transport.specs.Headline.{TwistsAct, TwistsUnitary, StepsAreInverse, STSRelation, STCubeRelation, SFourthRelation, HasModularData};
+ghost use Rattle.transport.specs.Headline.{TensorProductsDecompose, FusionDimensions, NumbersOfDimensions, NumbersAreRule};
 
 mod entry;
 mod listing;
@@ -51,6 +51,7 @@ pub fn relation_laws()
     ensures product { OfAllSimples STSRelation }
     ensures cube { OfAllSimples STCubeRelation }
     ensures fourth { OfAllSimples SFourthRelation }
+    ensures modular_data { OfAllSimples HasModularData }
 {}
 
 /// Of the simples by any good tables: tensor products decompose into simples by the fusion sums. Where these are the order of the group
@@ -59,7 +60,5 @@ pub fn fusion_laws()
     ensures decompose { OfAllSimples TensorProductsDecompose }
     ensures sums_of_dimensions { OfAllSimples FusionDimensions }
     ensures dimensions { OfAllSimples NumbersOfDimensions }
-    ensures multiplicities { OfAllSimples NumbersAreMultiplicities }
-    ensures columns { OfAllSimples ColumnsMultiply }
-    ensures by_s { OfAllSimples NumbersByS }
+    ensures rule { OfAllSimples NumbersAreRule }
 {}

@@ -1,4 +1,4 @@
-use Rattle.transport.proofs.FusionLaws.{tensor_products_decompose, fusion_of_dimensions, numbers_of_dimensions, numbers_are_multiplicities, columns_multiply, numbers_by_s}
+use Rattle.transport.proofs.FusionLaws.{tensor_products_decompose, fusion_of_dimensions, numbers_of_dimensions, numbers_are_rule}
 use Rattle.transport.proofs.fusion_laws.Goals as goal
 
 pub returns : goal.returns
@@ -6,7 +6,5 @@ returns c = record {
   decompose = tensor_products_decompose;
   sums_of_dimensions = fusion_of_dimensions;
   dimensions = numbers_of_dimensions;
-  multiplicities = numbers_are_multiplicities;
-  columns = columns_multiply;
-  by_s = numbers_by_s;
+  rule = numbers_are_rule;
 }

@@ -1,4 +1,4 @@
-use Rattle.transport.proofs.TwistRoots.{twists_act, twists_unitary, steps_are_inverse, s_t_s_relation, s_t_cube_relation, s_fourth_relation}
+use Rattle.transport.proofs.TwistRoots.{twists_act, twists_unitary, steps_are_inverse, s_t_s_relation, s_t_cube_relation, s_fourth_relation, modular_data}
 use Rattle.transport.proofs.relation_laws.Goals as goal
 
 pub returns : goal.returns
@@ -9,4 +9,5 @@ returns c = record {
   product = s_t_s_relation;
   cube = s_t_cube_relation;
   fourth = s_fourth_relation;
+  modular_data = modular_data;
 }
