@@ -10,6 +10,4 @@ pub mod Fusion
 pub mod Twists
 pub mod Parts
 pub mod Theorems
-pub mod FusionTheorems
 pub mod PlaceTheorems
-pub mod RelationTheorems

@@ -1,6 +1,5 @@
 -- Good tables of projective characters.
-use Rattle.std.specs.Prelude.{◌≡◌, ℕ}
-use Rattle.algebra.specs.Structures.{CommRing}
+use Rattle.std.specs.Prelude.{◌≡◌}
 use Rattle.algebra.specs.Sums.{pick, multiple}
 use Rattle.algebra.specs.Totals.{Finite, equals, total}
 use Rattle.characters.specs.Setting.{Setting, Classes, Commuting, commute}

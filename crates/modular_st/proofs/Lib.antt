@@ -3,3 +3,4 @@ mod Terms
 mod Kept
 mod RowsMade
 pub mod Entries
+mod MatrixLaws

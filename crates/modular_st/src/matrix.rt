@@ -6,6 +6,7 @@ ghost use Rattle.transport.specs.SSums.{s_sum};
 ghost use Rattle.modular_st.specs.Conjugates.{AreKept};
 ghost use Rattle.modular_st.specs.SMatrices.{values_of_rows, s_front, s_rows};
 ghost use Rattle.modular_st.specs.Refusal.{Refuses};
+ghost use Rattle.modular_st.specs.ModularMatrices.{entries_of, IsSymmetric, HoldsDimensions, IsUnitary};
 
 use crate::conjugates::conjugates;
 use crate::kept_sum::kept_sum;
@@ -97,6 +98,11 @@ pub fn s_matrix<const K: u32>(alloc: Global, simples: &Simples<K>) -> Result<SMa
     ensures columns { IfOk result (λ matrix. (i : ℕ) → i < count K simples.now → length (row_at matrix i) ≡ count K simples.now) }
     ensures entries { IfOk result (λ matrix. (i j : ℕ) → i < count K simples.now → j < count K simples.now → cyclotomic_value K (slice_index_or (row_at matrix i) j []) ≡ (s_sum K simples.now i j).value) }
     ensures refused { IfErr result (λ refusal. Refuses K simples.now refusal) }
+
+    // The theory of modular data, of these very entries.
+    ensures symmetric { IfOk result (λ matrix. IsSymmetric K simples.now (entries_of K matrix)) }
+    ensures dimensions { IfOk result (λ matrix. HoldsDimensions K simples.now (entries_of K matrix)) }
+    ensures unitary { IfOk result (λ matrix. IsUnitary K simples.now (entries_of K matrix)) }
 {
     let count = simples.count();
     let conjugates = conjugates(alloc, simples)?;

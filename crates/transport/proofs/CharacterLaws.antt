@@ -64,7 +64,7 @@ module _ (k : ℕ) (s : SimplesOver) (S : AreSimples k s) where
       equals_of T.finite (C.representative g) (at k s S i)
       (below_equal _ _ (sym (class_represents t lawful g.value g.below) ∙ ap (representative_at t) (eqb-true (class_of t g.value) class h))))
 
-  transport_is : (g x c : Element) → transport_root T g x c ≡ root k (root_exponent k s.cocycle (transport_phase s.cocycle g.value x.value c.value))
+  pub transport_is : (g x c : Element) → transport_root T g x c ≡ root k (root_exponent k s.cocycle (transport_phase s.cocycle g.value x.value c.value))
   unfolding transport_root carrying_phase slant_phase transport_phase theta conj
   transport_is g x c = refl
 
@@ -74,7 +74,7 @@ module _ (k : ℕ) (s : SimplesOver) (S : AreSimples k s) where
   unfolding conj
   carried_is i g x c = ap (λ r. T.ring.mul r ((simples k s S).value i (conj T.group x c))) (transport_is g x c)
 
-  character_is : (i : Below (count k s)) (g x : Element) → Commuting T g x → character T C (simples k s S) i g x ≡ (full_character k s i.value g.value x.value).value
+  pub character_is : (i : Below (count k s)) (g x : Element) → Commuting T g x → character T C (simples k s S) i g x ≡ (full_character k s i.value g.value x.value).value
   character_is i g x commuting =
       full_character_at T C (simples k s S) i g x commuting ∙ ap₂ (pick (cyclotomic_ring k)) (class_test i g) (carried_is i g x (C.carrier g))
       ∙ where_picked k (class_of s.cocycle.group g.value == class_at k s i.value) (carried_value k s i.value g.value x.value (transporter_of s.cocycle.group g.value))
@@ -86,7 +86,7 @@ module _ (k : ℕ) (s : SimplesOver) (S : AreSimples k s) where
   unfolding conj
   character_at_conjugates i g x c commuting = character_is i (conj T.group g c) (conj T.group x c) (commuting_conj T g x c commuting)
 
-  term_is : (i j : Below (count k s)) (g h : Element) → Commuting T g h → term T C (simples k s S) i j g h ≡ (pair_term k s i.value j.value g.value h.value).value
+  pub term_is : (i j : Below (count k s)) (g h : Element) → Commuting T g h → term T C (simples k s S) i j g h ≡ (pair_term k s i.value j.value g.value h.value).value
   term_is i j g h commuting =
       pair_term_is T C (simples k s S) i j g h
       ∙ ap₂ (λ u v. T.ring.mul (conjugate_value k u) (conjugate_value k v)) (character_is i g h commuting) (character_is j h g (sym commuting))

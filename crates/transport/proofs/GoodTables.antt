@@ -56,7 +56,7 @@ pub total_numbers : {A : Type 0} (R : CommRing A) (n : ℕ) (positive : 0 < n) (
     → total R (finite_below n positive) f ≡ sum_below R n g
 total_numbers R n positive f g same = total_ext R (finite_below n positive) f (λ x. g x.value) same ∙ total_below R n positive g
 
-equals_numbers : (n : ℕ) (positive : 0 < n) (x y : Below n) → equals (finite_below n positive) x y ≡ (x.value == y.value)
+pub equals_numbers : (n : ℕ) (positive : 0 < n) (x y : Below n) → equals (finite_below n positive) x y ≡ (x.value == y.value)
 unfolding equals
 equals_numbers n positive x y = refl
 

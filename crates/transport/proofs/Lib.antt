@@ -10,3 +10,11 @@ pub mod DoubleSimples
 pub mod CharacterLaws
 pub mod Distinct
 pub mod GoodTables
+pub mod Wholes
+pub mod PairSums
+pub mod Dimensions
+pub mod SMatrixLaws
+pub mod TwistRoots
+pub mod TensorProducts
+pub mod FusionLaws
+pub mod Transporters

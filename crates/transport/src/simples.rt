@@ -8,6 +8,7 @@ ghost use Rattle.table_check.specs.Formed.{Forms};
 ghost use Rattle.transport.specs.Simples.{SimplesOver, count, class_at, over_at, degree_at, dimension_at, twist_at, value_at, HasTables, AreSimples, IsVacuumAt};
 ghost use Rattle.transport.specs.FullCharacters.{element_value, full_character};
 ghost use Rattle.slant.specs.Phases.{carried, transport_phase};
+ghost use Rattle.transport.specs.Headline.{IsByEachTransporter, CharactersOrthogonal};
 ghost use Rattle.qd_ring.specs.declared.site.Part.TheVariants.{Full};
 
 use crate::entry::Entry;
@@ -190,6 +191,10 @@ impl<const K: u32> Simples<K> {
         requires commute { product self.now.cocycle.group g x ≡ product self.now.cocycle.group x g }
         ensures forms { Forms (full_character K self.now i g x) (result_ok result) }
         ensures site { IfErr result (λ site. site ≡ record { part = Full; at = g; i = i; j = 0; x = x }) }
+
+        // By every element that carries the representative, and orthogonal to the others.
+        ensures transporter { IfOk result (λ value. IsByEachTransporter K self.now i g x (cyclotomic_value K value.coefficients)) }
+        ensures orthogonal { CharactersOrthogonal K self.now }
     {
         if self.classes.class_of(g) != self.class(i) {
             return Ok(Cyc::zero());

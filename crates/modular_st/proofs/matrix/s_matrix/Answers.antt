@@ -3,6 +3,8 @@ use Rattle.std.proofs.lemmas.List.{length-map}
 use Rattle.std.proofs.lemmas.List.FromFn.{map-range_with_len_more, length-map-range_with_len}
 use Rattle.transport.specs.Simples.{count}
 use Rattle.modular_st.specs.SMatrices.{row_values, s_front}
+use Rattle.modular_st.specs.ModularMatrices.{entries_of}
+use Rattle.modular_st.proofs.MatrixLaws.{matrix_symmetric, matrix_dimensions, matrix_unitary}
 use Rattle.modular_st.proofs.Entries.{rows_done, matrix_rows, matrix_width, matrix_entry}
 use Rattle.modular_st.proofs.matrix.s_matrix.Goals as goal
 
@@ -44,3 +46,24 @@ returns-clause-entries g c =
     matrix_entry g.row.K c.args.simples.now c.loop-i.rows
     (rows_done g.row.K c.args.simples.now c.loop-i.rows c.loop-i.i c.loop-i.invariant
     (omega (arith, c.loop-i-test.false, c.loop-i.auto, c.count-count.ensures.count)))
+
+pub returns-clause-symmetric : goal.returns-clause-symmetric
+returns-clause-symmetric g c =
+    matrix_symmetric g.row.K c.args.simples.now c.count-count.ensures.simples (entries_of g.row.K c.loop-i.rows)
+    (matrix_entry g.row.K c.args.simples.now c.loop-i.rows
+    (rows_done g.row.K c.args.simples.now c.loop-i.rows c.loop-i.i c.loop-i.invariant
+    (omega (arith, c.loop-i-test.false, c.loop-i.auto, c.count-count.ensures.count))))
+
+pub returns-clause-dimensions : goal.returns-clause-dimensions
+returns-clause-dimensions g c =
+    matrix_dimensions g.row.K c.args.simples.now c.count-count.ensures.simples (entries_of g.row.K c.loop-i.rows)
+    (matrix_entry g.row.K c.args.simples.now c.loop-i.rows
+    (rows_done g.row.K c.args.simples.now c.loop-i.rows c.loop-i.i c.loop-i.invariant
+    (omega (arith, c.loop-i-test.false, c.loop-i.auto, c.count-count.ensures.count))))
+
+pub returns-clause-unitary : goal.returns-clause-unitary
+returns-clause-unitary g c =
+    matrix_unitary g.row.K c.args.simples.now c.count-count.ensures.simples (entries_of g.row.K c.loop-i.rows)
+    (matrix_entry g.row.K c.args.simples.now c.loop-i.rows
+    (rows_done g.row.K c.args.simples.now c.loop-i.rows c.loop-i.i c.loop-i.invariant
+    (omega (arith, c.loop-i-test.false, c.loop-i.auto, c.count-count.ensures.count))))

@@ -1,12 +1,16 @@
-use Rattle.std.proofs.Common.{◌≡◌, ◌*◌, ◌/◌, ◌%◌, ◌==◌, true, Some, None, sym, ap, ap₂, ◌∙◌, eq-eqb}
+use Rattle.std.proofs.Common.{◌≡◌, ◌*◌, ◌/◌, ◌%◌, ◌==◌, true, Some, None, sym, ap, ap₂, ◌∙◌, subst, eq-eqb}
 use Rattle.group_table.specs.Group.{Table}
 use Rattle.cochain.specs.Cochain.{Cochain}
 use Rattle.classes.specs.Conjugacy.{class_of, transporter_of}
 use Rattle.cyclotomic.specs.CyclotomicRing.{cyclotomic_value}
 use Rattle.slant.specs.Phases.{carried, transport_phase}
-use Rattle.transport.specs.Simples.{SimplesOver, class_at}
+use Rattle.transport.specs.Simples.{SimplesOver, class_at, AreSimples}
 use Rattle.transport.specs.FullCharacters.{root_exponent, element_value}
+use Rattle.transport.specs.Headline.{CharactersOrthogonal}
+use Rattle.transport.proofs.Distinct.{other_number}
 use Rattle.transport.proofs.FullCharacters.{character_formed}
+use Rattle.transport.proofs.SMatrixLaws.{characters_orthogonal}
+use Rattle.transport.proofs.Transporters.{by_each_transporter, nought_elsewhere}
 use Rattle.transport.proofs.simples.Simples.ch.Goals as goal
 use Rattle.transport.proofs.simples.Simples.ch.Given.{Over}
 use Rattle.transport.proofs.simples.Simples.ch.Goals.{After-try_times}
@@ -47,3 +51,29 @@ returns-in-None-clause-forms g c =
     let f = formed g (goal.at.returns-in-None-clause-forms g c).After-try_times in
     character_formed g.row.K c.self.invariant.simples.conductor c.args.self.now c.args.i c.args.g c.args.x c.new-root.result.exponent c.element_value-value.result None
     f.in_class f.exponent f.value c.in-None.ensures.fits tt
+
+pub returns-then-class_of-class-clause-transporter : goal.returns-then-class_of-class-clause-transporter
+returns-then-class_of-class-clause-transporter g c =
+    let s = c.args.self.now in
+    let t : c.self.inside.classes ≡ s.cocycle.group = c.self.invariant.classes_are ∙ ap (λ (s : SimplesOver). s.cocycle.group) c.self.view_is in
+    let class : c.class_of.result ≡ class_of s.cocycle.group c.args.g = c.class_of.ensures.class ∙ ap (λ (t : Table). class_of t c.args.g) t in
+    let other = other_number (class_of s.cocycle.group c.args.g) (class_at g.row.K s c.args.i) (λ same. c.if-class_of-class.true (class ∙ same ∙ sym c.class.ensures.class)) in
+    by_each_transporter g.row.K s (subst (AreSimples g.row.K) c.self.view_is c.self.invariant.simples) c.args.i c.args.g c.args.x
+    c.requires.i_below c.requires.g_below c.requires.x_below c.requires.commute _
+    (nought_elsewhere g.row.K s c.args.i c.args.g c.args.x _ other c.zero.ensures)
+
+pub returns-in-Some-clause-transporter : goal.returns-in-Some-clause-transporter
+returns-in-Some-clause-transporter g c =
+    by_each_transporter g.row.K c.args.self.now (subst (AreSimples g.row.K) c.self.view_is c.self.invariant.simples) c.args.i c.args.g c.args.x
+    c.requires.i_below c.requires.g_below c.requires.x_below c.requires.commute _
+    (returns-in-Some-clause-forms g c).stands
+
+pub returns-then-class_of-class-clause-orthogonal : goal.returns-then-class_of-class-clause-orthogonal
+returns-then-class_of-class-clause-orthogonal g c =
+    subst (CharactersOrthogonal g.row.K) c.self.view_is (characters_orthogonal g.row.K _ c.self.invariant.simples)
+
+pub returns-in-Some-clause-orthogonal : goal.returns-in-Some-clause-orthogonal
+returns-in-Some-clause-orthogonal g c = subst (CharactersOrthogonal g.row.K) c.self.view_is (characters_orthogonal g.row.K _ c.self.invariant.simples)
+
+pub returns-in-None-clause-orthogonal : goal.returns-in-None-clause-orthogonal
+returns-in-None-clause-orthogonal g c = subst (CharactersOrthogonal g.row.K) c.self.view_is (characters_orthogonal g.row.K _ c.self.invariant.simples)

@@ -1,0 +1,93 @@
+-- Whole numbers as values of the cyclotomic ring.
+use Rattle.std.proofs.Common.{◌≡◌, ℕ, zero, suc, ◌+◌, ◌-◌, ◌*◌, ◌<◌, ◌++◌, true, [], ◌∷◌, get_or, refl, sym, ap, ap₂, ◌∙◌, arith}
+use Rattle.std.specs.Prelude.{pos, nat_lt}
+use Rattle.std.specs.List.{list_all}
+use Rattle.std.proofs.lemmas.Bool.{ltb-true}
+use Rattle.algebra.specs.Structures.{CommRing}
+use Rattle.algebra.specs.Sums.{sum_below, multiple}
+use Rattle.algebra.proofs.RingLaws.{add_fixed}
+use Rattle.algebra.proofs.InvolutionLaws.{bar_one}
+use Rattle.algebra.proofs.SumLaws.{sum_zero, sum_suc, multiple_zero, multiple_add, multiple_multiple, multiple_is_mul, multiple_map}
+use Rattle.cyclotomic.specs.Conductors.{conductors, phi_of, is_conductor}
+use Rattle.cyclotomic.specs.Cyclotomic.{cyclotomic}
+use Rattle.cyclotomic.specs.Division.{degree, remainder}
+use Rattle.cyclotomic.specs.Polynomial.{zeros}
+use Rattle.cyclotomic.specs.Ring.{value_one, value_nought, value_of}
+use Rattle.cyclotomic.specs.CyclotomicRing.{CyclotomicValue, cyclotomic_ring, conjugate}
+use Rattle.cyclotomic.specs.Laws.Remainders.{zero_not_one, remainder-short}
+use Rattle.cyclotomic.proofs.Fields.{cyclotomic_degree}
+use Rattle.cyclotomic.proofs.Tests.{at_each_conductor}
+use Rattle.table_check.specs.Formed.{whole}
+use Rattle.transport.specs.Matrices.{sum_numbers}
+use Rattle.transport.proofs.Doubles.{conjugation}
+use Rattle.transport.proofs.DoubleSimples.{whole_multiple}
+use Rattle.transport.proofs.GoodTables.{torsion_free}
+
+all_degrees : list_all (λ (entry : ℕ × ℕ). nat_lt 0 (phi_of entry.0)) conductors ≡ true
+unfolding phi_of conductors
+all_degrees = refl
+
+first_of_zeros : (n : ℕ) → get_or (zeros n) 0 (pos 0) ≡ pos 0
+first_of_zeros zero = refl
+first_of_zeros (suc n) = refl
+
+module _ (k : ℕ) where
+  abbrev R : CommRing (CyclotomicValue k)
+  R = cyclotomic_ring k
+
+  abbrev one : CyclotomicValue k
+  one = value_one (cyclotomic k)
+
+  pub whole_zero : whole k 0 ≡ value_nought
+  whole_zero = whole_multiple k 0 ∙ multiple_zero R one
+
+  pub whole_sum : (a b : ℕ) → whole k (a + b) ≡ R.add (whole k a) (whole k b)
+  whole_sum a b = whole_multiple k (a + b) ∙ multiple_add R a b one ∙ sym (ap₂ R.add (whole_multiple k a) (whole_multiple k b))
+
+  -- a product with a whole number is so many copies
+  pub times_whole : (a : ℕ) (u : CyclotomicValue k) → R.mul (whole k a) u ≡ multiple R a u
+  times_whole a u = ap (λ z. R.mul z u) (whole_multiple k a) ∙ sym (multiple_is_mul R a u)
+
+  pub whole_product : (a b : ℕ) → R.mul (whole k a) (whole k b) ≡ whole k (a * b)
+  whole_product a b = times_whole a (whole k b) ∙ ap (multiple R a) (whole_multiple k b) ∙ multiple_multiple R a b one ∙ sym (whole_multiple k (a * b))
+
+  pub sum_of_wholes : (m : ℕ) (f : ℕ → ℕ) → sum_below R m (λ l. whole k (f l)) ≡ whole k (sum_numbers m f)
+  unfolding sum_numbers
+  sum_of_wholes zero f = sum_zero R _ ∙ sym whole_zero
+  sum_of_wholes (suc m) f = sum_suc R m _ ∙ ap (λ z. R.add z (whole k (f m))) (sum_of_wholes m f) ∙ sym (whole_sum (sum_numbers m f) (f m))
+
+  module _ (entry : is_conductor k ≡ true) where
+    pub whole_conjugate : (a : ℕ) → conjugate k (whole k a) ≡ whole k a
+    whole_conjugate a =
+        ap (conjugate k) (whole_multiple k a)
+        ∙ multiple_map R R (conjugation k entry).bar (conjugation k entry).bar_add a one ∙ ap (multiple R a) (bar_one R (conjugation k entry))
+        ∙ sym (whole_multiple k a)
+
+    degree_positive : 0 < degree (cyclotomic k)
+    degree_positive =
+        let some : 0 < phi_of k = ltb-true 0 (phi_of k) (at_each_conductor (λ k. nat_lt 0 (phi_of k)) all_degrees k entry) in
+        let same : degree (cyclotomic k) ≡ phi_of k = cyclotomic_degree k entry in
+        omega (arith, some, same)
+
+    -- 1 isn't 0
+    pub one_apart : value_one (cyclotomic k) ≡ value_nought → ⊥
+    unfolding value_of value_nought
+    one_apart e =
+        let rest : ℕ = degree (cyclotomic k) - 1 in
+        let some : 0 < degree (cyclotomic k) = degree_positive in
+        let short : remainder (cyclotomic k) (pos 1 ∷ []) ≡ (pos 1 ∷ []) ++ zeros rest = remainder-short (cyclotomic k) (pos 1 ∷ []) rest (omega (arith, some)) in
+        zero_not_one (sym (first_of_zeros (degree (cyclotomic k))) ∙ ap (λ xs. get_or xs 0 (pos 0)) (sym (ap (λ (u : CyclotomicValue k). u.coefficients) e) ∙ short))
+
+    differ : (a d : ℕ) → whole k a ≡ whole k (a + suc d) → ⊥
+    differ a d e =
+        one_apart ((torsion_free k).cancel (suc d) one (omega arith) (sym (whole_multiple k (suc d)) ∙ add_fixed R (whole k a) (whole k (suc d)) (sym (whole_sum a (suc d)) ∙ sym e)))
+
+    less_differ : (a b : ℕ) → a < b → whole k a ≡ whole k b → ⊥
+    less_differ a b less e = let same : b ≡ a + suc (b - a - 1) = omega (arith, less) in differ a (b - a - 1) (e ∙ ap (whole k) same)
+
+    -- whole numbers that are one value are equal
+    pub whole_injective : (a b : ℕ) → whole k a ≡ whole k b → a ≡ b
+    whole_injective a b e = equal a b (λ less. less_differ a b less e) (λ less. less_differ b a less (sym e))
+      where
+        equal : (x y : ℕ) → (x < y → ⊥) → (y < x → ⊥) → x ≡ y
+        equal x y not_below not_above = omega arith
