@@ -21,7 +21,9 @@ where
     requires few { n ≤ 60 }
     requires callable { (g h k : ℕ) → g < n → h < n → k < n → F.pre exponent g h k }
     ensures cube { IfOk result (λ exponents. length exponents ≡ n * n * n) }
-    ensures exponents { (at : ℕ → ℕ → ℕ → ℕ) → ((g h k v : ℕ) → g < n → h < n → k < n → F.post exponent g h k v → v ≡ at g h k) → IfOk result (λ exponents. exponents ≡ exponents_by n at) }
+    ensures exponents { (at : ℕ → ℕ → ℕ → ℕ) →
+        ((g h k v : ℕ) → g < n → h < n → k < n → F.post exponent g h k v → v ≡ at g h k) →
+        IfOk result (λ exponents. exponents ≡ exponents_by n at) }
 {
     let mut exponents = Nats::empty(alloc);
     for i in 0..n * n * n {

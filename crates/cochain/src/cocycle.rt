@@ -49,9 +49,10 @@ impl Cocycle {
         }
     }
 
-    /// This cocycle times the coboundary of the 2-cochain `b`, whose number of the pair `(g, h)` stands at place `g n + h`, n the
-    /// order of the group, and is taken modulo the number of roots: `w(g,h,k) b(h,k) b(g,hk) / (b(gh,k) b(g,h))`.
-    /// It is refused with the least pair with the identity at which `b` is not 1.
+    /// This cocycle times the coboundary of the 2-cochain `b`, whose number of the pair `(g, h)` stands at place
+    /// `g n + h`, n the order of the group, and is taken modulo the number of roots:
+    /// `w(g,h,k) b(h,k) b(g,hk) / (b(gh,k) b(g,h))`. It is refused with the least pair with the identity at which
+    /// `b` is not 1.
     pub fn gauge(&self, alloc: Global, b: &Nats) -> Result<Cocycle, GaugeRefusal>
         requires square { length b.now ≡ self.now.group.order * self.now.group.order }
         ensures made { IfOk result (λ w. (gauge_fault self.now b.now ≡ None) × (w ≡ gauged self.now b.now)) }

@@ -36,7 +36,8 @@ abbrev pub type_two_cocycle : ℕ → ℕ → ℕ → Cochain
 type_two_cocycle a b p =
     cochain_of (product_group 1 a b) (roots_of a p) (exponents_by (1 * a * b) (type_two_value b (step_of a p)))
 
--- Type III on the product of the cyclic groups of orders a, b and c: p x1 y2 z3 / t, where t is their greatest common divisor
+-- Type III on the product of the cyclic groups of orders a, b and c: p x1 y2 z3 / t, where t is their greatest
+-- common divisor
 abbrev pub type_three_value : ℕ → ℕ → ℕ → ℕ → ℕ → ℕ → ℕ
 type_three_value b c step x y z = step * (x / c / b) * (y / c % b * (z % c))
 

@@ -60,8 +60,9 @@ fn image_value(group: &Group, map: &Nats, w: &Cocycle, x: u32, y: u32, z: u32) -
     w.value(map.at(x), map.at(y), map.at(z))
 }
 
-/// The cocycle of `group` whose exponent at three elements is that of `from` at their images under `map`, which lists an element
-/// of the group of `from` for each element of `group`. It is refused with the least pair whose product `map` does not respect.
+/// The cocycle of `group` whose exponent at three elements is that of `from` at their images under `map`, which
+/// lists an element of the group of `from` for each element of `group`. It is refused with the least pair whose
+/// product `map` does not respect.
 pub fn inflate(
     alloc: Global,
     group: Group,
@@ -70,7 +71,8 @@ pub fn inflate(
 ) -> Result<Cocycle, InflateRefusal>
     requires count { length map.now ≡ group.order }
     requires elements { (g : ℕ) → g < group.order → slice_index map.now g < from.now.group.order }
-    ensures made { IfOk result (λ w. (map_fault group map.now from.now.group ≡ None) × (w ≡ inflated group map.now from.now)) }
+    ensures made { IfOk result (λ w.
+        (map_fault group map.now from.now.group ≡ None) × (w ≡ inflated group map.now from.now)) }
     ensures refused { IfErr result (λ refusal. RefusesMap refusal (map_fault group map.now from.now.group)) }
 {
     match map_fault(&group, map, from.group()) {

@@ -1,4 +1,5 @@
-//! Normalised 3-cocycles by formulas: the trivial one, types I, II and III on products of cyclic groups, and inflation along a map.
+//! Normalised 3-cocycles by formulas: the trivial one, types I, II and III on products of cyclic groups, and
+//! inflation along a map.
 #![tactic(auto)]
 
 ghost use Rattle.cocycle_make.specs.Laws.{TrivialIsLawful, TypeOneIsLawful, TypeTwoIsLawful, TypeThreeIsLawful, InflatedIsLawful};

@@ -40,9 +40,9 @@ pub fn trivial(alloc: Global, group: Group, roots: u32) -> Result<Cocycle, Memor
     cocycle_of(alloc, group, roots, &exponents)
 }
 
-/// Type I on the cyclic group of order `n`: with `p` reduced modulo `n` and `g` the greatest common divisor of `n` and `p`, the
-/// exponent at `(x, y, z)` is `(p/g) x` where `y + z` is at least `n`, else 0, modulo `n/g`.
-/// It is refused exactly where the order is not from 1 to 60.
+/// Type I on the cyclic group of order `n`: with `p` reduced modulo `n` and `g` the greatest common divisor of
+/// `n` and `p`, the exponent at `(x, y, z)` is `(p/g) x` where `y + z` is at least `n`, else 0, modulo `n/g`. It
+/// is refused exactly where the order is not from 1 to 60.
 pub fn type_one(alloc: Global, n: u32, p: u32) -> Result<Cocycle, MakeRefusal>
     ensures made { IfOk result (λ w. (size_fault n ≡ None) × (w ≡ type_one_cocycle n p)) }
     ensures refused { IfErr result (λ refusal. Refuses refusal (size_fault n)) }
@@ -54,9 +54,10 @@ pub fn type_one(alloc: Global, n: u32, p: u32) -> Result<Cocycle, MakeRefusal>
     Ok(cocycle_of(alloc, group, roots_of(n, p), &exponents)?)
 }
 
-/// Type II on the product of the cyclic groups of orders `a` and `b`, whose pair `(x, y)` has the number `x b + y`: with `p`
-/// reduced modulo `a` and `g` the greatest common divisor of `a` and `p`, the exponent at three pairs is `(p/g) x1` where
-/// `y2 + y3` is at least `b`, else 0, modulo `a/g`. It is refused exactly where the order is not from 1 to 60.
+/// Type II on the product of the cyclic groups of orders `a` and `b`, whose pair `(x, y)` has the number
+/// `x b + y`: with `p` reduced modulo `a` and `g` the greatest common divisor of `a` and `p`, the exponent at
+/// three pairs is `(p/g) x1` where `y2 + y3` is at least `b`, else 0, modulo `a/g`. It is refused exactly where
+/// the order is not from 1 to 60.
 pub fn type_two(alloc: Global, a: u32, b: u32, p: u32) -> Result<Cocycle, MakeRefusal>
     ensures made { IfOk result (λ w. (size_fault (a * b) ≡ None) × (w ≡ type_two_cocycle a b p)) }
     ensures refused { IfErr result (λ refusal. Refuses refusal (size_fault (a * b))) }
@@ -68,9 +69,10 @@ pub fn type_two(alloc: Global, a: u32, b: u32, p: u32) -> Result<Cocycle, MakeRe
     Ok(cocycle_of(alloc, group, roots_of(a, p), &exponents)?)
 }
 
-/// Type III on the product of the cyclic groups of orders `a`, `b` and `c`, whose triple `(x, y, z)` has the number
-/// `(x b + y) c + z`: with `t` their greatest common divisor, `p` reduced modulo `t` and `g` the greatest common divisor of `t`
-/// and `p`, the exponent at three triples is `(p/g) x1 y2 z3` modulo `t/g`. It is refused exactly where the order is not from 1 to 60.
+/// Type III on the product of the cyclic groups of orders `a`, `b` and `c`, whose triple `(x, y, z)` has the
+/// number `(x b + y) c + z`: with `t` their greatest common divisor, `p` reduced modulo `t` and `g` the greatest
+/// common divisor of `t` and `p`, the exponent at three triples is `(p/g) x1 y2 z3` modulo `t/g`. It is refused
+/// exactly where the order is not from 1 to 60.
 pub fn type_three(alloc: Global, a: u32, b: u32, c: u32, p: u32) -> Result<Cocycle, MakeRefusal>
     ensures made { IfOk result (λ w. (size_fault (a * b * c) ≡ None) × (w ≡ type_three_cocycle a b c p)) }
     ensures refused { IfErr result (λ refusal. Refuses refusal (size_fault (a * b * c))) }

@@ -5,7 +5,10 @@ use Rattle.group_table.specs.Group.{Table}
 
 -- the table of the products that a formula gives, row after row
 abbrev pub table_by : ℕ → (ℕ → ℕ → ℕ) → Table
-table_by order op = record { order = order; entries = map (λ i. op (i / order) (i % order)) (range_with_len 0 (order * order)) }
+table_by order op = record {
+  order = order;
+  entries = map (λ i. op (i / order) (i % order)) (range_with_len 0 (order * order));
+}
 
 -- the number of the pair (x, i), where x is below n; g is the pair (g % n, g / n)
 abbrev pub pair : ℕ → ℕ → ℕ → ℕ

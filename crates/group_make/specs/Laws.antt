@@ -1,7 +1,12 @@
 -- What holds of each group that a formula gives, for numbers without bound.
-use Rattle.std.specs.Prelude.{◌≡◌, ℕ, ◌%◌, ◌^◌, ◌<◌}
-use Rattle.group_table.specs.Group.{product, IsGroup}
+use Rattle.std.specs.Prelude.{◌≡◌, ℕ, ◌%◌, ◌^◌, ◌<◌, None}
+use Rattle.orders.specs.Group.{IsGroupBelow}
+use Rattle.group_table.specs.Group.{Table, product, group_fault, IsGroup}
 use Rattle.group_make.specs.Formulas.{table_by, cyclic_group, dihedral_group, dicyclic_group, product_group, semidirect_group}
+
+-- the check of a table is no stricter than the laws: a table whose products are a group breaks none
+abbrev pub LawfulTables : Type 0
+LawfulTables = (t : Table) (unit : ℕ) → IsGroupBelow t.order (product t) unit → group_fault t ≡ None
 
 -- the products of a table by a formula are those of the formula
 abbrev pub ProductsByFormula : Type 0

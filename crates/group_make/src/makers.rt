@@ -36,9 +36,9 @@ pub fn cyclic(alloc: Global, n: u32) -> Result<Group, MakeRefusal>
     Ok(group_of(alloc, order, &table)?)
 }
 
-/// The dihedral group of order `2 n`: the pairs `(i, j)`, `i` modulo `n` and `j` modulo 2, with the numbers `i + n j`, where
-/// `(i,j)(k,l)` is `(i + k, l + j)` for `j` = 0 and `(i - k, l + j)` for `j` = 1.
-/// It is refused exactly where its order is not from 1 to 60.
+/// The dihedral group of order `2 n`: the pairs `(i, j)`, `i` modulo `n` and `j` modulo 2, with the numbers
+/// `i + n j`, where `(i,j)(k,l)` is `(i + k, l + j)` for `j` = 0 and `(i - k, l + j)` for `j` = 1. It is refused
+/// exactly where its order is not from 1 to 60.
 pub fn dihedral(alloc: Global, n: u32) -> Result<Group, MakeRefusal>
     ensures made { IfOk result (λ group. (size_fault (2 * n) ≡ None) × (group ≡ dihedral_group n)) }
     ensures refused { IfErr result (λ refusal. Refuses refusal (size_fault (2 * n))) }
@@ -48,9 +48,9 @@ pub fn dihedral(alloc: Global, n: u32) -> Result<Group, MakeRefusal>
     Ok(group_of(alloc, order, &table)?)
 }
 
-/// The dicyclic group of order `4 n`: the pairs `(i, j)`, `i` modulo `2 n` and `j` modulo 2, with the numbers `i + 2 n j`, where
-/// `(i,0)(k,l)` is `(i + k, l)`, `(i,1)(k,0)` is `(i - k, 1)` and `(i,1)(k,1)` is `(i - k + n, 0)`.
-/// It is refused exactly where its order is not from 1 to 60.
+/// The dicyclic group of order `4 n`: the pairs `(i, j)`, `i` modulo `2 n` and `j` modulo 2, with the numbers
+/// `i + 2 n j`, where `(i,0)(k,l)` is `(i + k, l)`, `(i,1)(k,0)` is `(i - k, 1)` and `(i,1)(k,1)` is
+/// `(i - k + n, 0)`. It is refused exactly where its order is not from 1 to 60.
 pub fn dicyclic(alloc: Global, n: u32) -> Result<Group, MakeRefusal>
     ensures made { IfOk result (λ group. (size_fault (4 * n) ≡ None) × (group ≡ dicyclic_group n)) }
     ensures refused { IfErr result (λ refusal. Refuses refusal (size_fault (4 * n))) }
@@ -60,8 +60,8 @@ pub fn dicyclic(alloc: Global, n: u32) -> Result<Group, MakeRefusal>
     Ok(group_of(alloc, order, &table)?)
 }
 
-/// The product of the cyclic groups of orders `a`, `b` and `c`: the triples `(x, y, z)` with the numbers `(x b + y) c + z`,
-/// multiplied at each place. It is refused exactly where its order is not from 1 to 60.
+/// The product of the cyclic groups of orders `a`, `b` and `c`: the triples `(x, y, z)` with the numbers
+/// `(x b + y) c + z`, multiplied at each place. It is refused exactly where its order is not from 1 to 60.
 pub fn product(alloc: Global, a: u32, b: u32, c: u32) -> Result<Group, MakeRefusal>
     ensures made { IfOk result (λ group. (size_fault (a * b * c) ≡ None) × (group ≡ product_group a b c)) }
     ensures refused { IfErr result (λ refusal. Refuses refusal (size_fault (a * b * c))) }
@@ -71,9 +71,9 @@ pub fn product(alloc: Global, a: u32, b: u32, c: u32) -> Result<Group, MakeRefus
     Ok(group_of(alloc, order, &table)?)
 }
 
-/// The semidirect product of the cyclic groups of orders `n` and `m`: the pairs `(x, i)` with the numbers `x + n i`, where
-/// `(x,i)(y,j)` is `(x + r^i y, i + j)`. It is refused with its order exactly where that is not from 1 to 60, and else with
-/// the power `r^m` modulo `n` exactly where that is not 1 modulo `n`.
+/// The semidirect product of the cyclic groups of orders `n` and `m`: the pairs `(x, i)` with the numbers
+/// `x + n i`, where `(x,i)(y,j)` is `(x + r^i y, i + j)`. It is refused with its order exactly where that is not
+/// from 1 to 60, and else with the power `r^m` modulo `n` exactly where that is not 1 modulo `n`.
 pub fn semidirect(alloc: Global, n: u32, m: u32, r: u32) -> Result<Group, MakeRefusal>
     ensures made { IfOk result (λ group. (semidirect_fault n m r ≡ None) × (group ≡ semidirect_group n m r)) }
     ensures refused { IfErr result (λ refusal. Refuses refusal (semidirect_fault n m r)) }

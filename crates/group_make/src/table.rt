@@ -13,7 +13,8 @@ fn listed<F: Fn(u32) -> u32>(alloc: Global, count: u32, number: F) -> Result<Nat
 where
     F: Drop,
     requires callable { (i : ℕ) → i < count → F.pre number i }
-    ensures listed { (at : ℕ → ℕ) → ((i v : ℕ) → i < count → F.post number i v → v ≡ at i) → IfOk result (λ numbers. numbers ≡ map at (range_with_len 0 count)) }
+    ensures listed { (at : ℕ → ℕ) → ((i v : ℕ) → i < count → F.post number i v → v ≡ at i) →
+        IfOk result (λ numbers. numbers ≡ map at (range_with_len 0 count)) }
 {
     let mut numbers = Nats::empty(alloc);
     for i in 0..count {
@@ -32,7 +33,9 @@ where
     F: Drop,
     requires few { order ≤ 60 }
     requires callable { (g h : ℕ) → g < order → h < order → F.pre product g h }
-    ensures products { (op : ℕ → ℕ → ℕ) → ((g h v : ℕ) → g < order → h < order → F.post product g h v → v ≡ op g h) → IfOk result (λ table. table ≡ (table_by order op).entries) }
+    ensures products { (op : ℕ → ℕ → ℕ) →
+        ((g h v : ℕ) → g < order → h < order → F.post product g h v → v ≡ op g h) →
+        IfOk result (λ table. table ≡ (table_by order op).entries) }
 {
     listed(alloc, order * order, |i| product(i / order, i % order))
 }

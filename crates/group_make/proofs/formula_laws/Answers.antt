@@ -1,7 +1,11 @@
+use Rattle.group_make.proofs.Lawful.{lawful}
 use Rattle.group_make.proofs.Tables.{product_by, table_group}
 use Rattle.group_make.proofs.Extensions.{cyclic_below}
 use Rattle.group_make.proofs.formula_laws.Goals as goal
 use Rattle.group_make.proofs.FormulaGroups.{dihedral_below, dicyclic_below, product_below, semidirect_below}
+
+pub returns-clause-complete : goal.returns-clause-complete
+returns-clause-complete c = lawful
 
 pub returns-clause-products : goal.returns-clause-products
 returns-clause-products c = product_by
