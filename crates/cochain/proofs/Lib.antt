@@ -1,3 +1,6 @@
 pub mod Cube
 pub mod Difference
 pub mod Sentences
+pub mod Formula
+pub mod Lawful
+pub mod Gauged

@@ -1,6 +1,7 @@
 -- A 3-cochain of a finite group with values in the N-th roots of unity, written by their exponents modulo N, and the
 -- first law of a normalised 3-cocycle that it breaks (Dijkgraaf, Pasquier, Roche 1990).
-use Rattle.std.specs.Prelude.{◌≡◌, ℕ, ◌+◌, ◌*◌, ◌%◌, ◌<◌, ◌≤◌, Bool, true, ◌||◌, ◌==◌, List, length, map, slice_index, Option, Some, None, if◌then◌else◌}
+use Rattle.std.specs.Prelude.{◌≡◌, ℕ, ◌+◌, ◌*◌, ◌/◌, ◌%◌, ◌<◌, ◌≤◌, Bool, true, ◌||◌, ◌==◌, List, length, map, slice_index, Option, Some, None, if◌then◌else◌}
+use Rattle.std.specs.List.{range_with_len}
 use Rattle.scan.specs.First.{option_or, first}
 use Rattle.group_table.specs.Group.{Table, product, identity_of, IsGroup, IsSmall}
 use Rattle.cochain.specs.declared.fault.CocycleFault.{CocycleFault}
@@ -19,6 +20,10 @@ reduced roots exponents = map (λ v. v % roots) exponents
 -- the cochain of a group with these exponents
 abbrev pub cochain_of : Table → ℕ → List ℕ → Cochain
 cochain_of group roots exponents = record { group = group; roots = roots; exponents = reduced roots exponents }
+
+-- the exponents that a formula gives, one for each triple of elements, in the order of their places
+abbrev pub exponents_by : ℕ → (ℕ → ℕ → ℕ → ℕ) → List ℕ
+exponents_by n at = map (λ i. at (i / n / n) (i / n % n) (i % n)) (range_with_len 0 (n * n * n))
 
 -- w(g,h,k), an exponent modulo the number of roots
 abbrev pub value : Cochain → ℕ → ℕ → ℕ → ℕ

@@ -1,2 +1,3 @@
 pub mod Cochain
 pub mod Refusal
+pub mod Gauge

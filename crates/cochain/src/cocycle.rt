@@ -1,8 +1,10 @@
 ghost use Rattle.std.specs.Prelude.{◌≡◌, ◌*◌, ◌<◌, length, None, IfOk, IfErr};
 ghost use Rattle.cochain.specs.Cochain.{Cochain, cochain_of, value, cocycle_fault, IsRoots, IsCocycle};
 ghost use Rattle.cochain.specs.Refusal.{Refuses};
+ghost use Rattle.cochain.specs.Gauge.{gauge_fault, gauged, RefusesGauge};
 
-use crate::fault::CocycleRefusal;
+use crate::coboundary::{gauge_fault, gauged};
+use crate::fault::{CocycleRefusal, GaugeRefusal};
 use crate::laws::cocycle_fault;
 use crate::three_cochain::ThreeCochain;
 use group_table::{Group, Nats};
@@ -44,6 +46,24 @@ impl Cocycle {
         match cocycle_fault(&cochain) {
             Some(fault) => Err(CocycleRefusal::Fault(fault)),
             None => Ok(Cocycle { cochain }),
+        }
+    }
+
+    /// This cocycle times the coboundary of the 2-cochain `b`, whose number of the pair `(g, h)` stands at place
+    /// `g n + h`, n the order of the group, and is taken modulo the number of roots:
+    /// `w(g,h,k) b(h,k) b(g,hk) / (b(gh,k) b(g,h))`. It is refused with the least pair with the identity at which
+    /// `b` is not 1.
+    pub fn gauge(&self, alloc: Global, b: &Nats) -> Result<Cocycle, GaugeRefusal>
+        requires square { length b.now ≡ self.now.group.order * self.now.group.order }
+        ensures made { IfOk result (λ w. (gauge_fault self.now b.now ≡ None) × (w ≡ gauged self.now b.now)) }
+        ensures refused { IfErr result (λ refusal. RefusesGauge refusal (gauge_fault self.now b.now)) }
+    {
+        match gauge_fault(&self.cochain, b.as_slice()) {
+            Some(refusal) => Err(refusal),
+            None => {
+                let cochain = gauged(alloc, &self.cochain, b.as_slice())?;
+                Ok(Cocycle { cochain })
+            }
         }
     }
 

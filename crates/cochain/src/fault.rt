@@ -1,5 +1,6 @@
 ghost use Rattle.std.specs.Prelude.{◌≡◌};
 ghost use Rattle.cochain.specs.declared.fault.CocycleRefusal.TheVariants.{Memory};
+ghost use Rattle.cochain.specs.declared.fault.GaugeRefusal.TheVariants as gauges;
 
 use std::alloc::AllocError;
 
@@ -26,5 +27,22 @@ impl From<AllocError> for CocycleRefusal {
 
     fn from(_error: AllocError) -> CocycleRefusal {
         CocycleRefusal::Memory
+    }
+}
+
+/// Why a cocycle was not gauged.
+#[derive(Clone, Copy, Debug, PartialEq, Eq)]
+pub enum GaugeRefusal {
+    /// `g` or `h` is the identity, and the number of the pair is not 0 modulo the number of roots.
+    NotNormal { g: u32, h: u32 },
+    /// There was no memory. It says nothing of the numbers.
+    Memory,
+}
+
+impl From<AllocError> for GaugeRefusal {
+    ghost from_gives = { λ _ refusal. refusal ≡ gauges.Memory };
+
+    fn from(_error: AllocError) -> GaugeRefusal {
+        GaugeRefusal::Memory
     }
 }

@@ -1,0 +1,7 @@
+use Rattle.std.proofs.Common.{◌≡◌}
+use Rattle.cocycle_make.specs.Divisors.{greatest, divides_both}
+use Rattle.cocycle_make.proofs.lowest.common_divisor.Given as goal
+
+-- the greatest of the numbers tried
+abbrev pub invariant-loop-i : goal.invariant-loop-i
+invariant-loop-i l = l.greatest ≡ greatest l.i (divides_both l.n l.p)

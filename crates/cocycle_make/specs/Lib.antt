@@ -1,0 +1,4 @@
+pub mod Divisors
+pub mod Cocycles
+pub mod Refusal
+pub mod Laws

@@ -1,0 +1,5 @@
+pub mod Lawful
+pub mod Tables
+pub mod Extensions
+pub mod FormulaGroups
+pub mod Bounds
