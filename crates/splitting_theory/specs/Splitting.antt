@@ -1,11 +1,13 @@
 -- Splitting a commutative ring whose elements are their own q-th powers, by idempotents (Dixon 1967; the parts by Lagrange).
 use Rattle.std.specs.Prelude.{◌≡◌, ◌≢◌, ℕ, zero, suc, ◌<◌, Bool, true, false, List, [], ◌∷◌, ◌++◌, flat_map, if◌then◌else◌}
 use Rattle.algebra.specs.Structures.{CommRing}
-use Rattle.algebra.specs.Sums.{multiple, power}
+use Rattle.algebra.specs.Sums.{multiple, power, sum_list}
+use Rattle.splitting_theory.specs.Lists.{Each, Pairwise}
 
--- q copies of an element are nought, fewer only of nought, and each element is its own q-th power
+-- one isn't nought, q copies of it are, fewer copies are nought only of nought, and each element is its own q-th power
 pub record IsFixed {B : Type 0} (Z : CommRing B) (q : ℕ) : Type 0 where
   pub over_one : 1 < q
+  pub one_there : Z.one ≢ Z.nought
   pub vanish : multiple Z q Z.one ≡ Z.nought
   pub cancel : (n : ℕ) (x : B) → 0 < n → n < q → multiple Z n x ≡ Z.nought → x ≡ Z.nought
   pub fixed : (x : B) → power Z x q ≡ x
@@ -29,6 +31,48 @@ module _ {B : Type 0} (Z : CommRing B) where
   -- the part of e at the number v: e less the sum of v^(q-1-j) k^j e over j below q, which is Lagrange's polynomial for v at k, times e
   unfoldable pub part : ℕ → (k e : B) → ℕ → B
   part q k e v = Z.add e (Z.neg (horner k (number v) e q))
+
+-- k multiplies e by a number below q
+pub record Acts {B : Type 0} (Z : CommRing B) (q : ℕ) (k e : B) : Type 0 where
+  pub value : ℕ
+  pub below : value < q
+  pub acts : Z.mul k e ≡ Z.mul (number Z value) e
+
+-- k multiplies e and f by one number below q
+pub record ActsAlike {B : Type 0} (Z : CommRing B) (q : ℕ) (k e f : B) : Type 0 where
+  pub value : ℕ
+  pub below : value < q
+  pub left : Z.mul k e ≡ Z.mul (number Z value) e
+  pub right : Z.mul k f ≡ Z.mul (number Z value) f
+
+-- k multiplies e by a lower number than f, both below q
+pub record ActsLower {B : Type 0} (Z : CommRing B) (q : ℕ) (k e f : B) : Type 0 where
+  pub low : ℕ
+  pub high : ℕ
+  pub less : low < high
+  pub below : high < q
+  pub left : Z.mul k e ≡ Z.mul (number Z low) e
+  pub right : Z.mul k f ≡ Z.mul (number Z high) f
+
+-- a nonzero idempotent that each of the first t elements multiplies by a number
+pub record IsPiece {B : Type 0} (Z : CommRing B) (q : ℕ) (at : ℕ → B) (t : ℕ) (e : B) : Type 0 where
+  pub there : e ≢ Z.nought
+  pub idempotent : Z.mul e e ≡ e
+  pub served : (s : ℕ) → s < t → Acts Z q (at s) e
+
+-- the first of t elements that multiplies e and f by two numbers multiplies e by the lower one, and e f is nought
+pub record Precedes {B : Type 0} (Z : CommRing B) (q : ℕ) (at : ℕ → B) (t : ℕ) (e f : B) : Type 0 where
+  pub apart : Z.mul e f ≡ Z.nought
+  pub place : ℕ
+  pub place_below : place < t
+  pub before : (s : ℕ) → s < place → ActsAlike Z q (at s) e f
+  pub here : ActsLower Z q (at place) e f
+
+-- one in its pieces under t elements, in the order of the numbers that these multiply them by
+pub record IsSplitting {B : Type 0} (Z : CommRing B) (q : ℕ) (at : ℕ → B) (t : ℕ) (es : List B) : Type 0 where
+  pub each : Each (IsPiece Z q at t) es
+  pub order : Pairwise (Precedes Z q at t) es
+  pub whole : sum_list Z es ≡ Z.one
 
 module _ {B : Type 0} (Z : CommRing B) (T : ZeroTest Z) (q : ℕ) where
   -- the parts of e at the numbers below n that aren't nought, ascending
