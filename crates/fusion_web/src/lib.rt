@@ -1,0 +1,12 @@
+//! Fusion numbers in a web: entries that stand in one list, each linked in the ring of its pair and in the ring of its result.
+#![tactic(auto)]
+
+mod links;
+mod node;
+mod refusal;
+mod side;
+
+pub use node::Node;
+pub use refusal::WebRefusal;
+/// There was no memory for what was asked. Nothing that was lent has changed.
+pub use std::alloc::AllocError as Memory;
