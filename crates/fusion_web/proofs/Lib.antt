@@ -1,2 +1,5 @@
 mod RingLaws
 mod NodeLaws
+mod EntryLaws
+mod WebLaws
+mod WalkLaws

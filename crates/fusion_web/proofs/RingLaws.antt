@@ -331,3 +331,11 @@ module _ (ring key next next' : ℕ → ℕ) (m p : ℕ) (lasts : List (Option �
       empty = lasts_empty_still ring key m lasts inside is.empty is.last end ends less;
       last = lasts_last_still ring key m lasts inside is.empty is.last end ends less;
     }
+
+-- the place after the last is the first
+pub first_after_last : (ring key : ℕ → ℕ) (m c e q : ℕ) → IsLast ring key m c e → IsNext ring key m e q → IsFirst ring key m c q
+first_after_last ring key m c e q last is = record {
+  inside = is.inside;
+  here = is.same ∙ last.here;
+  least = λ r below here. (is.around (last.greatest q is.inside (is.same ∙ last.here)) r below (here ∙ sym last.here)).0;
+}

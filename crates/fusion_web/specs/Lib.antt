@@ -1,3 +1,4 @@
 pub mod Entries
 pub mod Rings
 pub mod Links
+pub mod Walks

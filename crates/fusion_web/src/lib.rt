@@ -5,8 +5,12 @@ mod links;
 mod node;
 mod refusal;
 mod side;
+mod walks;
+mod web;
 
 pub use node::Node;
 pub use refusal::WebRefusal;
+pub use walks::{IntoWalk, RowWalk};
+pub use web::Web;
 /// There was no memory for what was asked. Nothing that was lent has changed.
 pub use std::alloc::AllocError as Memory;

@@ -1,9 +1,10 @@
 //! The linking of nodes in their rings.
 
-ghost use Rattle.std.specs.Prelude.{◌≡◌, ◌+◌, ◌<◌, ◌≤◌, ℕ, map, length, slice_set, Some, None, slice_index_or};
-ghost use Rattle.fusion_web.specs.Entries.{IsEntry};
+ghost use Rattle.std.specs.Prelude.{◌≡◌, ◌+◌, ◌*◌, ◌<◌, ◌≤◌, ℕ, map, length, slice_set, Some, None, slice_index_or};
+ghost use Rattle.fusion_web.specs.Entries.{IsEntry, IsWeb};
 ghost use Rattle.fusion_web.specs.Rings.{IsNext, IsLast, AreDistinct, IsPlaceBefore};
-ghost use Rattle.fusion_web.specs.Links.{entry_of, node_at, with_next, ring_at, key_at, next_at, AreLinked};
+ghost use Rattle.fusion_web.specs.Links.{entry_of, node_at, with_next, ring_at, key_at, next_at, AreLinked, IsHead, IsLinkedWeb, web_of};
+ghost use Rattle.fusion_web.specs.declared.side.Side.TheVariants as sides;
 
 use crate::node::Node;
 use crate::side::Side;
@@ -41,7 +42,7 @@ fn place_before(nodes: &[Node], side: Side, simples: u32, place: u32, last: u32)
 }
 
 /// Links the last node, at `place`, in its ring.
-pub fn link(
+fn link(
     nodes: &mut [Node],
     lasts: &mut [Option<u32>],
     side: Side,
@@ -71,5 +72,38 @@ pub fn link(
     set_next(nodes, side, before, place);
     if is_last {
         lasts[ring] = Some(place);
+    }
+}
+
+/// Links the last node of a web, at `place`, in both of its rings.
+pub fn link_in_both(
+    nodes: &mut [Node],
+    row_lasts: &mut [Option<u32>],
+    into_lasts: &mut [Option<u32>],
+    simples: u32,
+    place: u32,
+)
+    requires web { IsWeb (web_of simples nodes.old) }
+    requires place { place + 1 ≡ length nodes.old }
+    requires rows { AreLinked sides.Row simples nodes.old place row_lasts.old }
+    requires row_count { length row_lasts.old ≡ simples * simples }
+    requires intos { AreLinked sides.Into simples nodes.old place into_lasts.old }
+    requires into_count { length into_lasts.old ≡ simples }
+    ensures linked { IsLinkedWeb simples nodes.new row_lasts.new into_lasts.new }
+    ensures entries { map entry_of nodes.new ≡ map entry_of nodes.old }
+{
+    link(nodes, row_lasts, Side::Row, simples, place);
+    link(nodes, into_lasts, Side::Into, simples, place);
+}
+
+/// The place with the least key of a ring; `None` exactly where the ring is empty.
+pub fn head(nodes: &[Node], lasts: &[Option<u32>], side: Side, ring: u32, simples: u32) -> Option<u32>
+    requires ring { ring < length lasts.now }
+    requires linked { AreLinked side simples nodes.now (length nodes.now) lasts.now }
+    ensures head { IsHead side (web_of simples nodes.now) ring result }
+{
+    match lasts[ring as usize] {
+        Some(last) => Some(side.next(&nodes[last as usize])),
+        None => None,
     }
 }
