@@ -8,7 +8,7 @@ use Rattle.scan.proofs.Places.{and_true}
 use Rattle.fusion_web.specs.Entries.{Entry, WebEntries, IsEntry, IsWeb, AreApart, entry_at, no_entry, is_entry_of, count_of, most_nodes}
 use Rattle.fusion_web.proofs.RingLaws.{below_suc}
 
-cases : (b : Bool) → (b ≡ true) ⊎ (b ≡ false)
+pub cases : (b : Bool) → (b ≡ true) ⊎ (b ≡ false)
 cases true = inl refl
 cases false = inr refl
 
