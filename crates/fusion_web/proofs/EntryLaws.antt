@@ -24,7 +24,7 @@ find_only {X} test (x ∷ xs) (suc p) d inside passes only =
     ]
 
 -- where none passes, none is found
-find_none : {X : Type 0} (test : X → Bool) (xs : List X) (d : X) → ((q : ℕ) → q < length xs → test (get_or xs q d) ≡ true → ⊥) → find test xs ≡ None
+pub find_none : {X : Type 0} (test : X → Bool) (xs : List X) (d : X) → ((q : ℕ) → q < length xs → test (get_or xs q d) ≡ true → ⊥) → find test xs ≡ None
 find_none test [] d none = refl
 find_none {X} test (x ∷ xs) d none =
     elim (cases (test x)) [
@@ -38,7 +38,7 @@ pub record IsOf (i j k : ℕ) (e : Entry) : Type 0 where
   pub j_is : e.j ≡ j
   pub k_is : e.k ≡ k
 
-is_of : (i j k : ℕ) (e : Entry) → is_entry_of i j k e ≡ true → IsOf i j k e
+pub is_of : (i j k : ℕ) (e : Entry) → is_entry_of i j k e ≡ true → IsOf i j k e
 is_of i j k e passes =
     let parts = and_true _ _ passes in
     let pair = and_true _ _ parts.0 in record { i_is = eqb-true _ _ pair.0; j_is = eqb-true _ _ pair.1; k_is = eqb-true _ _ parts.1 }

@@ -3,3 +3,4 @@ mod NodeLaws
 mod EntryLaws
 mod WebLaws
 mod WalkLaws
+mod SumLaws

@@ -1,6 +1,7 @@
 //! Fusion numbers in a web: entries that stand in one list, each linked in the ring of its pair and in the ring of its result.
 #![tactic(auto)]
 
+pub mod laws;
 mod links;
 mod node;
 mod refusal;
@@ -14,3 +15,6 @@ pub use walks::{IntoWalk, RowWalk};
 pub use web::Web;
 /// There was no memory for what was asked. Nothing that was lent has changed.
 pub use std::alloc::AllocError as Memory;
+
+#[cfg(test)]
+mod tests;

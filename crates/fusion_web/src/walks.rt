@@ -117,7 +117,8 @@ impl Web {
         }
     }
 
-    /// The pairs in whose product `k` comes, by their first member, then their second, each with how often it does.
+    /// The pairs in whose product `k` comes, by their first member, then their second, each with how often it does. As std's `Into` has
+    /// a method of this name, an owned web is asked as `Web::into(&web, k)`.
     pub fn into(&self, k: u32) -> IntoWalk<'_>
         requires k_below { k < self.now.simples }
         ensures items { result ≡ into_of self.now k }
