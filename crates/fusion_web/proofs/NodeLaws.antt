@@ -45,7 +45,7 @@ module _ (side : Side) where
   next_elsewhere nodes p next r other = ap (next_of side) (get_or-set_other nodes p r (with_next side (node_at nodes p) next) no_node other)
 
   module _ (n : ℕ) (nodes : List Node) (place : ℕ) (lasts : List (Option ℕ)) (last : place + 1 ≡ length nodes)
-    (is : AreLinked side n nodes place lasts) (inside : ring_at side n nodes place < length lasts) where
+      (is : AreLinked side n nodes place lasts) (inside : ring_at side n nodes place < length lasts) where
     -- in the words of some entries, which are those of the nodes
     abbrev linked_over : List Entry → ℕ → List Node → List (Option ℕ) → Type 0
     linked_over entries m nodes lasts = IsRinged (λ p. ring_of side n (entry_at entries p)) (λ p. key_of side n (entry_at entries p)) m (next_at side nodes) lasts
@@ -68,8 +68,8 @@ module _ (side : Side) where
 
     -- the last node is put after `before`
     module _ (apart : AreDistinct (ring_at side n nodes) (key_at side n nodes) (place + 1)) (before end : ℕ)
-      (at : IsPlaceBefore (ring_at side n nodes) (key_at side n nodes) place (next_at side nodes) before)
-      (ends : get_or lasts (ring_at side n nodes place) None ≡ Some end) where
+        (at : IsPlaceBefore (ring_at side n nodes) (key_at side n nodes) place (next_at side nodes) before)
+        (ends : get_or lasts (ring_at side n nodes place) None ≡ Some end) where
       abbrev once : List Node
       once = relinked nodes place (next_at side nodes before)
 

@@ -13,7 +13,7 @@ lower a b most other = elim (below_suc a b (omega arith)) [ inl e ↦ absurd (ot
 
 -- rings, keys and links that agree below m
 module _ (ring ring' key key' next next' : ℕ → ℕ) (m : ℕ)
-  (rings : (r : ℕ) → r < m → ring r ≡ ring' r) (keys : (r : ℕ) → r < m → key r ≡ key' r) (nexts : (r : ℕ) → r < m → next r ≡ next' r) where
+    (rings : (r : ℕ) → r < m → ring r ≡ ring' r) (keys : (r : ℕ) → r < m → key r ≡ key' r) (nexts : (r : ℕ) → r < m → next r ≡ next' r) where
   next_agrees : (p q : ℕ) → p < m → IsNext ring key m p q → IsNext ring' key' m p q
   next_agrees p q below is = record {
     inside = is.inside;
@@ -199,36 +199,36 @@ module _ (ring key : ℕ → ℕ) (m : ℕ) where
           let own = linked r inside in
           let one_key : ring m ≡ ring r → key p ≡ key r → ⊥ = λ here e. other (sym (apart p r (omega (arith, is.inside)) (omega arith) (is.here ∙ here) e)) in
           kept r (next r) inside own
-              (λ here up less.
-                  let rest = own.greater up p is.inside (is.here ∙ here) in
-                  elim (cases_lt (key p) (key (next p))) [
-                    | inl rising ↦
-                        let between = is.greater rising in
-                        elim (cases_lt (key p) (key r)) [
-                          | inl over ↦ let after = old.greater rising r inside (sym (is.here ∙ here)) over in absurd (omega arith)
-                          | inr under ↦ let reached = rest (lower _ _ under (one_key here)) in omega arith
-                        ]
-                    | inr falling ↦
-                        let around = old.around falling r inside (sym (is.here ∙ here)) in
-                        let reached = rest (lower _ _ around.1 (one_key here)) in
-                        let over = is.around falling (omega (arith, around.0, less)) in
-                        omega arith
-                  ])
-              (λ here down.
-                  let around = own.around down p is.inside (is.here ∙ here) in
-                  let over = lower _ _ around.1 (λ e. one_key here (sym e)) in
-                  elim (cases_lt (key p) (key (next p))) [
-                    | inl rising ↦
-                        let between = is.greater rising in
-                        let after = old.greater rising r inside (sym (is.here ∙ here)) over in
-                        (omega (arith, around.0, between.0), omega (arith, between.1, after))
-                    | inr falling ↦ let wrong = old.around falling r inside (sym (is.here ∙ here)) in absurd (omega (arith, wrong.1, over))
-                  ])
+          (λ here up less.
+          let rest = own.greater up p is.inside (is.here ∙ here) in
+          elim (cases_lt (key p) (key (next p))) [
+            | inl rising ↦
+                let between = is.greater rising in
+                elim (cases_lt (key p) (key r)) [
+                  | inl over ↦ let after = old.greater rising r inside (sym (is.here ∙ here)) over in absurd (omega arith)
+                  | inr under ↦ let reached = rest (lower _ _ under (one_key here)) in omega arith
+                ]
+            | inr falling ↦
+                let around = old.around falling r inside (sym (is.here ∙ here)) in
+                let reached = rest (lower _ _ around.1 (one_key here)) in
+                let over = is.around falling (omega (arith, around.0, less)) in
+                omega arith
+          ])
+          (λ here down.
+          let around = own.around down p is.inside (is.here ∙ here) in
+          let over = lower _ _ around.1 (λ e. one_key here (sym e)) in
+          elim (cases_lt (key p) (key (next p))) [
+            | inl rising ↦
+                let between = is.greater rising in
+                let after = old.greater rising r inside (sym (is.here ∙ here)) over in
+                (omega (arith, around.0, between.0), omega (arith, between.1, after))
+            | inr falling ↦ let wrong = old.around falling r inside (sym (is.here ∙ here)) in absurd (omega (arith, wrong.1, over))
+          ])
 
 -- the lasts of the rings with the new place
 module _ (ring key : ℕ → ℕ) (m : ℕ) (lasts : List (Option ℕ)) (inside : ring m < length lasts)
-  (empty : (c : ℕ) → c < length lasts → get_or lasts c None ≡ None → IsEmpty ring key m c)
-  (last : (c e : ℕ) → c < length lasts → get_or lasts c None ≡ Some e → IsLast ring key m c e) where
+    (empty : (c : ℕ) → c < length lasts → get_or lasts c None ≡ None → IsEmpty ring key m c)
+    (last : (c e : ℕ) → c < length lasts → get_or lasts c None ≡ Some e → IsLast ring key m c e) where
   -- in a ring that isn't its own
   empty_elsewhere : (c : ℕ) → (c ≡ ring m → ⊥) → IsEmpty ring key m c → IsEmpty ring key (m + 1) c
   empty_elsewhere c other none r below here = elim (below_suc r m below) [ inl e ↦ other (sym here ∙ ap ring e) | inr old ↦ none r old here ]
@@ -303,8 +303,8 @@ ringed_alone ring key next m lasts inside none own is =
 
 -- the new place after the place before it
 module _ (ring key next next' : ℕ → ℕ) (m p : ℕ) (lasts : List (Option ℕ)) (is : IsRinged ring key m next lasts) (apart : AreDistinct ring key (m + 1))
-  (before : IsPlaceBefore ring key m next p)
-  (at_new : next' m ≡ next p) (at_before : next' p ≡ m) (elsewhere : (r : ℕ) → r < m → (r ≡ p → ⊥) → next' r ≡ next r) where
+    (before : IsPlaceBefore ring key m next p)
+    (at_new : next' m ≡ next p) (at_before : next' p ≡ m) (elsewhere : (r : ℕ) → r < m → (r ≡ p → ⊥) → next' r ≡ next r) where
   linked_anew : (r : ℕ) → r < m + 1 → IsNext ring key (m + 1) r (next' r)
   linked_anew r below =
       elim (below_suc r m below) [

@@ -60,9 +60,9 @@ counts_grow web e is new i j k =
           let none : find (is_entry_of i j k) web.entries ≡ None =
           find_none (is_entry_of i j k) web.entries no_entry
           (λ q below passes.
-              let there = is_of i j k (entry_at web.entries q) passes in
-              absent web e.i e.j e.k is new q below
-              (record { i_is = there.i_is ∙ sym here.i_is; j_is = there.j_is ∙ sym here.j_is; k_is = there.k_is ∙ sym here.k_is })) in
+          let there = is_of i j k (entry_at web.entries q) passes in
+          absent web e.i e.j e.k is new q below
+          (record { i_is = there.i_is ∙ sym here.i_is; j_is = there.j_is ∙ sym here.j_is; k_is = there.k_is ∙ sym here.k_is })) in
           ap (λ found. count (option_or found (cond (is_entry_of i j k e) (Some e) None))) none
           ∙ ap (λ b. count (option_or None (cond b (Some e) None))) same ∙ sym (ap (λ b. cond b e.count (count_of web i j k)) same)
       | inr other ↦

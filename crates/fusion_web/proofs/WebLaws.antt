@@ -62,7 +62,7 @@ module _ (n : ℕ) where
 
 -- a node that comes to a web
 module _ (n : ℕ) (nodes : List Node) (node : Node) (is : IsWeb (web_of n nodes)) (entry : IsEntry n (entry_of node)) (new : count_of (web_of n nodes) node.i node.j node.k ≡ 0)
-  (room : length nodes < most_nodes) where
+    (room : length nodes < most_nodes) where
   pub web_pushed : (now : List Node) → now ≡ nodes ++ node ∷ [] → IsWeb (web_of n now)
   web_pushed now same =
       subst (λ es. IsWeb (record { simples = n; entries = es })) (sym (ap (map entry_of) same ∙ map_push entry_of nodes node))

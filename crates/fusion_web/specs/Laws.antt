@@ -14,7 +14,7 @@ abbrev pub IntoSums : Type 0
 IntoSums =
     (web : WebEntries) (k : ℕ) (f : ℕ → ℕ → ℕ → ℕ) → ((i j : ℕ) → f i j 0 ≡ 0)
     → let n = web.simples in
-      sum_by (λ s. f s.0 s.1 s.2) (into_of web k) ≡ sum_by (λ q. f (q / n) (q % n) (count_of web (q / n) (q % n) k)) (range_with_len 0 (n * n))
+    sum_by (λ s. f s.0 s.1 s.2) (into_of web k) ≡ sum_by (λ q. f (q / n) (q % n) (count_of web (q / n) (q % n) k)) (range_with_len 0 (n * n))
 
 -- a new entry gives its count to its three simples, and all other counts stay
 abbrev pub CountsGrow : Type 0

@@ -42,13 +42,7 @@ fn place_before(nodes: &[Node], side: Side, simples: u32, place: u32, last: u32)
 }
 
 /// Links the last node, at `place`, in its ring.
-fn link(
-    nodes: &mut [Node],
-    lasts: &mut [Option<u32>],
-    side: Side,
-    simples: u32,
-    place: u32,
-)
+fn link(nodes: &mut [Node], lasts: &mut [Option<u32>], side: Side, simples: u32, place: u32)
     requires few { simples ≤ 256 }
     requires place { place + 1 ≡ length nodes.old }
     requires entries { (p : ℕ) → p < length nodes.old → IsEntry simples (entry_of (node_at nodes.old p)) }
@@ -67,7 +61,8 @@ fn link(
     };
     let before = place_before(nodes, side, simples, place, last);
     let after = side.next(&nodes[before as usize]);
-    let is_last = side.key(simples, &nodes[last as usize]) < side.key(simples, &nodes[place as usize]);
+    let is_last = side.key(simples, &nodes[last as usize])
+        < side.key(simples, &nodes[place as usize]);
     set_next(nodes, side, place, after);
     set_next(nodes, side, before, place);
     if is_last {
@@ -97,7 +92,13 @@ pub fn link_in_both(
 }
 
 /// The place with the least key of a ring; `None` exactly where the ring is empty.
-pub fn head(nodes: &[Node], lasts: &[Option<u32>], side: Side, ring: u32, simples: u32) -> Option<u32>
+pub fn head(
+    nodes: &[Node],
+    lasts: &[Option<u32>],
+    side: Side,
+    ring: u32,
+    simples: u32,
+) -> Option<u32>
     requires ring { ring < length lasts.now }
     requires linked { AreLinked side simples nodes.now (length nodes.now) lasts.now }
     ensures head { IsHead side (web_of simples nodes.now) ring result }

@@ -121,7 +121,13 @@ impl Web {
         requires j_below { j < self.now.simples }
         ensures head { IsHead sides.Row self.now (i * self.now.simples + j) result }
     {
-        head(&self.nodes, &self.row_lasts, Side::Row, i * self.simples + j, self.simples)
+        head(
+            &self.nodes,
+            &self.row_lasts,
+            Side::Row,
+            i * self.simples + j,
+            self.simples,
+        )
     }
 
     /// The place of the first entry of this result by i, then j; `None` exactly where the result has no entry.
