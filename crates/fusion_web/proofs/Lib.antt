@@ -1,0 +1,6 @@
+mod RingLaws
+mod NodeLaws
+mod EntryLaws
+mod WebLaws
+mod WalkLaws
+mod SumLaws

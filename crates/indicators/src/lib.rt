@@ -1,0 +1,9 @@
+//! Frobenius-Schur indicators from fusion numbers, dimensions and twists.
+#![tactic(auto)]
+
+mod numerator;
+
+pub use numerator::indicator;
+
+#[cfg(test)]
+mod tests;
