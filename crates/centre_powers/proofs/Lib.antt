@@ -1,0 +1,2 @@
+pub mod ConvolutionRing
+pub mod FixedPowers

@@ -1,0 +1,2 @@
+pub mod CentralPowers
+pub mod Instances

@@ -1,0 +1,3 @@
+pub mod RingSums
+pub mod SumPowers
+pub mod CentralElements

@@ -1,0 +1,4 @@
+pub mod Rings
+pub mod Traces
+pub mod CrossedProducts
+pub mod Theorems
