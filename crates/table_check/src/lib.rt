@@ -15,8 +15,6 @@ mod refusals;
 mod row_clauses;
 mod sides;
 mod table;
-#[cfg(test)]
-mod tests;
 mod total;
 
 pub use identity_name::IdentityName;
