@@ -10,8 +10,6 @@ mod conjugacy;
 mod extension;
 mod pair;
 mod powers;
-#[cfg(test)]
-mod tests;
 
 pub use conjugacy::{ext_classes, lifts_conjugate};
 pub use extension::{ext_inverse, ext_product};

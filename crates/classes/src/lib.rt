@@ -7,8 +7,6 @@ ghost use Rattle.classes.specs.Laws.{RepresentativeConjugate, RepresentativeLeas
 mod class_table;
 mod parts;
 mod sweep;
-#[cfg(test)]
-mod tests;
 
 pub use class_table::Classes;
 

@@ -18,5 +18,3 @@ pub use simple_lines::append_simples;
 /// There was no memory for what was asked.
 pub use std::alloc::AllocError as Memory;
 
-#[cfg(test)]
-mod tests;

@@ -8,8 +8,6 @@ mod group;
 mod laws;
 mod nats;
 mod powers;
-#[cfg(test)]
-mod tests;
 
 pub use fault::{GroupFault, GroupRefusal};
 pub use group::Group;

@@ -13,5 +13,3 @@ pub use numerator::s_numerator;
 pub use refusal::StRefusal;
 pub use twist::twist_exponent;
 
-#[cfg(test)]
-mod tests;

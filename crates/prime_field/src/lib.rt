@@ -7,8 +7,6 @@ mod elimination;
 mod fault;
 mod kernels;
 pub mod laws;
-#[cfg(test)]
-mod linear_tests;
 mod matrix;
 mod minimals;
 mod mod_ring;
@@ -16,8 +14,6 @@ mod mod_ring_laws;
 mod moduli;
 mod poly;
 mod tabulate;
-#[cfg(test)]
-mod tests;
 
 pub use fault::ModulusFault;
 pub use kernels::kernel;

@@ -22,5 +22,3 @@ pub use qd_text::Memory;
 pub use reading::parse;
 pub use refusal::DocRefusal;
 
-#[cfg(test)]
-mod tests;

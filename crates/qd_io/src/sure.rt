@@ -1,6 +1,7 @@
 ghost use Rattle.std.specs.Prelude.{◌≡◌, ◌-◌, ◌<◌, ◌≤◌, ◌↔◌, [], ◌++◌, length, drop, min, Ok, Some, None, IfOk, IfErr, OnErr, OnOk, IsOk};
 ghost use Rattle.std.specs.Io.KnownBytes.{ReadConsumes, WriteAppends};
 ghost use Rattle.qd_io.specs.Stream.{Rises, KeepsRoom};
+ghost use Rattle.qd_io.specs.Memory.{next_fault};
 
 use crate::Memory;
 use crate::copying::copy_front;
@@ -111,6 +112,7 @@ impl Sink for SureSink {
         ensures sure { IsOk result ↔ (length piece.now ≤ self.old.room) }
         ensures taken { OnOk result (self.new ≡ record { written = self.old.written ++ piece.now; room = self.old.room - length piece.now; faults = self.old.faults }) }
         ensures all { IfOk result (λ taken. taken ≡ length piece.now) }
+        ensures refused { OnErr result (self.new ≡ record self.old { faults = next_fault self.old.faults }) }
     {
         if piece.len() > self.room {
             self.faults = self.faults.saturating_add(1);

@@ -13,5 +13,3 @@ pub use token::{Token, next_token};
 /// There was no memory for what was asked. Nothing that was lent has changed.
 pub use std::alloc::AllocError as Memory;
 
-#[cfg(test)]
-mod tests;

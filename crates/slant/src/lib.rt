@@ -7,8 +7,6 @@ ghost use Rattle.slant.specs.TwistLaws.{CentraliserIsTwist, ElementsCommute, Pro
 
 mod centraliser;
 mod slant_product;
-#[cfg(test)]
-mod tests;
 
 pub use centraliser::twist_at;
 pub use slant_product::{gamma, theta};

@@ -16,8 +16,6 @@ mod refusals;
 mod row_clauses;
 mod sides;
 mod table;
-#[cfg(test)]
-mod tests;
 
 pub use identity_name::IdentityName;
 pub use miss::{Clause, Miss};

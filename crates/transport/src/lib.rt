@@ -10,8 +10,6 @@ mod entry;
 mod listing;
 mod simples;
 mod tables;
-#[cfg(test)]
-mod tests;
 
 pub use simples::Simples;
 pub use tables::Tables;

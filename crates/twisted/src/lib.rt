@@ -9,8 +9,6 @@ mod elem;
 mod product;
 mod regular;
 mod sums;
-#[cfg(test)]
-mod tests;
 mod twist;
 
 pub use elem::Elem;
