@@ -1,0 +1,4 @@
+pub mod Sums
+pub mod CentralValues
+pub mod Candidate
+pub mod Faults
