@@ -16,3 +16,5 @@ pub mod SpreadLaws
 pub mod ProductLaws
 pub mod CycLaws
 pub mod CycSums
+pub mod RootSumLaws
+pub mod SizeLaws

@@ -1,4 +1,5 @@
 pub mod Fit
+pub mod RootSums
 pub mod CycArrays
 pub mod CyclotomicFit
 pub mod ReductionSigns

@@ -6,6 +6,7 @@ mod cyc_buffer;
 mod cyc_ops;
 mod cyc_ring;
 mod cyc_ring_laws;
+pub mod laws;
 mod plain;
 pub mod reduction;
 mod ring;
