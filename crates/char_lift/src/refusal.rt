@@ -8,7 +8,10 @@ use group_table::Memory;
 #[derive(Clone, Copy, Debug, PartialEq, Eq)]
 pub enum LiftRefusal {
     /// No degree fits the sum `s` of this row, a residue.
-    NoDegree { row: u32, s: u32 },
+    NoDegree {
+        row: u32,
+        s: u32,
+    },
     /// The multiplicities of this row at the element `x` add up to `sum`, and not to the degree.
     Multiplicity {
         row: u32,
