@@ -17,4 +17,3 @@ pub use s_lines::append_s;
 pub use simple_lines::append_simples;
 /// There was no memory for what was asked.
 pub use std::alloc::AllocError as Memory;
-

@@ -12,4 +12,3 @@ pub use matrix::{SMatrix, s_matrix};
 pub use numerator::s_numerator;
 pub use refusal::StRefusal;
 pub use twist::twist_exponent;
-

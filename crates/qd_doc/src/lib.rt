@@ -21,4 +21,3 @@ pub use printing::{print, printed_is_read};
 pub use qd_text::Memory;
 pub use reading::parse;
 pub use refusal::DocRefusal;
-

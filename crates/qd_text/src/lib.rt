@@ -12,4 +12,3 @@ pub use natural::{NumberFault, number};
 pub use token::{Token, next_token};
 /// There was no memory for what was asked. Nothing that was lent has changed.
 pub use std::alloc::AllocError as Memory;
-

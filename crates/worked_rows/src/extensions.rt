@@ -3,8 +3,8 @@
 ghost use Rattle.std.specs.Prelude.{◌≡◌};
 ghost use Rattle.twisted.specs.Twist.{size};
 
-use central_ext::{Pair, ext_classes, ext_inverse, ext_product, lifts_conjugate, power_phase};
 use crate::made::twist_of;
+use central_ext::{Pair, ext_classes, ext_inverse, ext_product, lifts_conjugate, power_phase};
 use std::alloc::Global;
 use std::process::Abort;
 use twisted::Twist;

@@ -7,10 +7,10 @@ use cochain::{Cocycle, CocycleFault};
 use data_print::{Cause, ShapeFault, append_classes, append_head, append_refusal, append_s};
 use group_table::{Group, GroupFault, Nats};
 use qd_ring::{Cyc, Part, Plain, Root, Rows, Site};
+use qd_text::Expected;
 use std::alloc::{AllocError, Global};
 use std::process::Abort;
 use std::test::Fail;
-use qd_text::Expected;
 use table_check::IdentityName;
 
 fn numbers(alloc: Global, list: &[u32]) -> Result<Nats, AllocError> {
