@@ -18,6 +18,7 @@ use Rattle.table_check.specs.Characters.{Characters}
 use Rattle.table_check.specs.Formed.{Formed, given, whole, conjugated, multiplied, where_so}
 use Rattle.table_check.specs.Sides.{right_quotient, degree_value, product_term, product_sum}
 use Rattle.table_check.specs.Good.{IsGood}
+use Rattle.table_check.proofs.WholeValues.{conjugate_apart}
 use Rattle.table_check.specs.Idempotents.{row_element, row_degree, AreIdempotents, GoodTablesGiveIdempotents}
 
 module _ (k : ℕ) (entry : is_conductor k ≡ true) (s : TwistedSubgroup) (twist : IsTwist s) (divides : k % s.modulus ≡ 0) (table : Characters k) (good : IsGood s table) where
@@ -81,6 +82,7 @@ module _ (k : ℕ) (entry : is_conductor k ≡ true) (s : TwistedSubgroup) (twis
         ∙ sym (left_other (i == j) (multiplied k (degree_value s table i) (product_sum s table i j x)) (product_sum s table i j x) (different i j apart))
         ∙ good.product i j x row other place
         ∙ left_other (i == j) (multiplied k (given k (whole k (size s))) (conjugated k (given k (table.chi i x)))) (given k value_nought) (different i j apart);
+    nonzero = λ i row. conjugate_apart k entry (good.degree i row).degree (row_degree s table i) (good.degree i row).positive (good.degree i row).same;
     complete = λ x place. good.sum x place ∙ picked (x == identity_of s.group) (whole k (size s));
   }
 

@@ -24,7 +24,7 @@ module _ {k : ℕ} (s : TwistedSubgroup) (table : Characters k) where
   abbrev pub row_degree : ℕ → CyclotomicValue k
   row_degree i = table.chi i (identity_of s.group)
 
-  -- as many as the rank, with degrees; central; orthogonal idempotents up to whole factors; and adding up to one
+  -- as many as the rank, with degrees; central; orthogonal idempotents up to whole factors, none of them 0; and adding up to one
   pub record AreIdempotents (entry : is_conductor k ≡ true) : Type 0 where
     pub count : table.count ≡ rank s
     pub degree : (i : ℕ) → i < table.count → IsDegree k (size s) (row_degree i)
@@ -34,6 +34,7 @@ module _ {k : ℕ} (s : TwistedSubgroup) (table : Characters k) where
         ≡ value_product (cyclotomic k) (whole k (size s)) (row_element i x)
     pub orthogonal : (i j x : ℕ) → i < table.count → j < table.count → x < size s → i ≢ j
         → twisted_product (cyclotomic_ring k) (x_root k entry) s (row_element i) (row_element j) x ≡ value_nought
+    pub nonzero : (i : ℕ) → i < table.count → row_element i (identity_of s.group) ≢ value_nought
     pub complete : (x : ℕ) → x < size s
         → sum_below (cyclotomic_ring k) table.count (λ i. value_product (cyclotomic k) (row_degree i) (row_element i x))
         ≡ pick (cyclotomic_ring k) (x == identity_of s.group) (whole k (size s))

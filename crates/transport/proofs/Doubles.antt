@@ -11,22 +11,14 @@ use Rattle.classes.proofs.Conjugacy.{transporter_is, representative_below, repre
 use Rattle.cochain.specs.Cochain.{Cochain, IsCocycle}
 use Rattle.cyclotomic.specs.Conductors.{is_conductor}
 use Rattle.cyclotomic.specs.Cyclotomic.{cyclotomic}
-use Rattle.cyclotomic.specs.CyclotomicRing.{CyclotomicValue, cyclotomic_ring, root, conjugate as conjugate_value}
-use Rattle.cyclotomic.proofs.Images.{image-sum, root-zero, root-sum}
-use Rattle.cyclotomic.proofs.Inverses.{conjugation_prime, galois_product, conjugate_conjugate, root_modulo, root_conjugate}
+use Rattle.cyclotomic.specs.CyclotomicRing.{CyclotomicValue, cyclotomic_ring, root}
+use Rattle.cyclotomic.proofs.Images.{root-zero, root-sum}
+use Rattle.cyclotomic.proofs.Inverses.{root_modulo, root_conjugate}
+use Rattle.table_check.proofs.WholeValues.{conjugation}
 use Rattle.slant.proofs.Instances.{group, exponent, three_cocycle}
 use Rattle.characters.specs.Setting.{Setting, Classes}
 use Rattle.characters.proofs.ClassLaws.{classes_by_conjugates}
 use Rattle.transport.specs.FullCharacters.{root_exponent}
-
--- complex conjugation respects sums and products, and is its own inverse
-abbrev pub conjugation : (k : ℕ) → is_conductor k ≡ true → Involution (cyclotomic_ring k)
-conjugation k entry = record {
-  bar = conjugate_value k;
-  bar_add = image-sum (cyclotomic k) (k - 1);
-  bar_mul = galois_product k entry (k - 1) (conjugation_prime k entry);
-  bar_bar = conjugate_conjugate k entry;
-}
 
 -- a multiple of a number modulo the same multiple of a modulus
 scaled_mod : (n q v k : ℕ) → q * n ≡ k → (v * q) % k ≡ (v % n * q) % k

@@ -1,35 +1,19 @@
 -- Whole numbers as values of the cyclotomic ring.
-use Rattle.std.proofs.Common.{◌≡◌, ℕ, zero, suc, ◌+◌, ◌-◌, ◌*◌, ◌<◌, ◌++◌, true, [], ◌∷◌, get_or, refl, sym, ap, ap₂, ◌∙◌, arith}
-use Rattle.std.specs.Prelude.{pos, nat_lt}
-use Rattle.std.specs.List.{list_all}
-use Rattle.std.proofs.lemmas.Bool.{ltb-true}
+use Rattle.std.proofs.Common.{◌≡◌, ℕ, zero, suc, ◌+◌, ◌-◌, ◌*◌, ◌<◌, true, refl, sym, ap, ap₂, ◌∙◌, arith}
 use Rattle.algebra.specs.Structures.{CommRing}
 use Rattle.algebra.specs.Sums.{sum_below, multiple}
 use Rattle.algebra.proofs.RingLaws.{add_fixed}
 use Rattle.algebra.proofs.InvolutionLaws.{bar_one}
 use Rattle.algebra.proofs.SumLaws.{sum_zero, sum_suc, multiple_zero, multiple_add, multiple_multiple, multiple_is_mul, multiple_map}
-use Rattle.cyclotomic.specs.Conductors.{conductors, phi_of, is_conductor}
+use Rattle.cyclotomic.specs.Conductors.{is_conductor}
 use Rattle.cyclotomic.specs.Cyclotomic.{cyclotomic}
-use Rattle.cyclotomic.specs.Division.{degree, remainder}
-use Rattle.cyclotomic.specs.Polynomial.{zeros}
-use Rattle.cyclotomic.specs.Ring.{value_one, value_nought, value_of}
+use Rattle.cyclotomic.specs.Ring.{value_one, value_nought}
 use Rattle.cyclotomic.specs.CyclotomicRing.{CyclotomicValue, cyclotomic_ring, conjugate}
-use Rattle.cyclotomic.specs.Laws.Remainders.{zero_not_one, remainder-short}
-use Rattle.cyclotomic.proofs.Fields.{cyclotomic_degree}
-use Rattle.cyclotomic.proofs.Tests.{at_each_conductor}
 use Rattle.table_check.specs.Formed.{whole}
+use Rattle.table_check.proofs.WholeValues.{conjugation, whole_apart}
 use Rattle.transport.specs.Matrices.{sum_numbers}
-use Rattle.transport.proofs.Doubles.{conjugation}
 use Rattle.transport.proofs.DoubleSimples.{whole_multiple}
 use Rattle.transport.proofs.GoodTables.{torsion_free}
-
-all_degrees : list_all (λ (entry : ℕ × ℕ). nat_lt 0 (phi_of entry.0)) conductors ≡ true
-unfolding phi_of conductors
-all_degrees = refl
-
-first_of_zeros : (n : ℕ) → get_or (zeros n) 0 (pos 0) ≡ pos 0
-first_of_zeros zero = refl
-first_of_zeros (suc n) = refl
 
 module _ (k : ℕ) where
   abbrev R : CommRing (CyclotomicValue k)
@@ -63,24 +47,9 @@ module _ (k : ℕ) where
         ∙ multiple_map R R (conjugation k entry).bar (conjugation k entry).bar_add a one ∙ ap (multiple R a) (bar_one R (conjugation k entry))
         ∙ sym (whole_multiple k a)
 
-    degree_positive : 0 < degree (cyclotomic k)
-    degree_positive =
-        let some : 0 < phi_of k = ltb-true 0 (phi_of k) (at_each_conductor (λ k. nat_lt 0 (phi_of k)) all_degrees k entry) in
-        let same : degree (cyclotomic k) ≡ phi_of k = cyclotomic_degree k entry in
-        omega (arith, some, same)
-
-    -- 1 isn't 0
-    pub one_apart : value_one (cyclotomic k) ≡ value_nought → ⊥
-    unfolding value_of value_nought
-    one_apart e =
-        let rest : ℕ = degree (cyclotomic k) - 1 in
-        let some : 0 < degree (cyclotomic k) = degree_positive in
-        let short : remainder (cyclotomic k) (pos 1 ∷ []) ≡ (pos 1 ∷ []) ++ zeros rest = remainder-short (cyclotomic k) (pos 1 ∷ []) rest (omega (arith, some)) in
-        zero_not_one (sym (first_of_zeros (degree (cyclotomic k))) ∙ ap (λ xs. get_or xs 0 (pos 0)) (sym (ap (λ (u : CyclotomicValue k). u.coefficients) e) ∙ short))
-
     differ : (a d : ℕ) → whole k a ≡ whole k (a + suc d) → ⊥
     differ a d e =
-        one_apart ((torsion_free k).cancel (suc d) one (omega arith) (sym (whole_multiple k (suc d)) ∙ add_fixed R (whole k a) (whole k (suc d)) (sym (whole_sum a (suc d)) ∙ sym e)))
+        whole_apart k entry 1 (omega arith) ((torsion_free k).cancel (suc d) one (omega arith) (sym (whole_multiple k (suc d)) ∙ add_fixed R (whole k a) (whole k (suc d)) (sym (whole_sum a (suc d)) ∙ sym e)))
 
     less_differ : (a b : ℕ) → a < b → whole k a ≡ whole k b → ⊥
     less_differ a b less e = let same : b ≡ a + suc (b - a - 1) = omega (arith, less) in differ a (b - a - 1) (e ∙ ap (whole k) same)
