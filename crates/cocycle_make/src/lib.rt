@@ -2,7 +2,7 @@
 //! inflation along a map.
 #![tactic(auto)]
 
-ghost use Rattle.cocycle_make.specs.Laws.{TrivialIsLawful, TypeOneIsLawful, TypeTwoIsLawful, TypeThreeIsLawful, InflatedIsLawful};
+ghost use Rattle.cocycle_make.specs.Laws.{LawfulExponents, TrivialIsLawful, TypeOneIsLawful, TypeTwoIsLawful, TypeThreeIsLawful, InflatedIsLawful};
 
 mod inflation;
 mod lowest;
@@ -17,8 +17,9 @@ pub use inflation::inflate;
 pub use makers::{trivial, type_one, type_three, type_two};
 pub use refusal::InflateRefusal;
 
-/// The formulas give normalised 3-cocycles, for numbers without bound.
+/// The formulas give normalised 3-cocycles, for numbers without bound. Exponents that meet the plain laws break none.
 pub fn cocycle_laws()
+    ensures complete { LawfulExponents }
     ensures trivial { TrivialIsLawful }
     ensures type_one { TypeOneIsLawful }
     ensures type_two { TypeTwoIsLawful }
