@@ -1,5 +1,5 @@
 -- What the program has to say, and how it ends by writing that.
-use Rattle.std.specs.Prelude.{◌≡◌, ℕ, ◌<◌, List, length, Option, Some, None, Result, Ok, Err, ⊤, ◌⊎◌}
+use Rattle.std.specs.Prelude.{◌≡◌, ℕ, ◌<◌, List, length, Option, None, Result, Ok, Err, ⊤, ◌⊎◌}
 use Rattle.std.specs.Global.{Vec}
 use Rattle.std.specs.Io.KnownBytes.{Appends}
 use Rattle.qd_io.specs.Stream.{AppendsFront, HasRoom, TakesUpTo, TakesOver}
