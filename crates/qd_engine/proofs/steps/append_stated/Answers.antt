@@ -16,6 +16,6 @@ returns c =
       follows = follow_on _ _ _ _ c.append_numbers.result none
           (subst
           (λ (k : ℕ). Follows (tables_cause w k blocks) (LateIn k (simples_over w blocks) parts)
-              (λ done. c.append_numbers.new.out.items ≡ c.args.out.now.items ++ parts_text (row_part_text k (simples_over w blocks)) parts) c.append_numbers.result)
+          (λ done. c.append_numbers.new.out.items ≡ c.args.out.now.items ++ parts_text (row_part_text k (simples_over w blocks)) parts) c.append_numbers.result)
           is c.append_numbers.ensures.follows);
     }
