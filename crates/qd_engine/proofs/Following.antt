@@ -10,7 +10,7 @@ use Rattle.data_print.specs.declared.cause.Cause.{Cause}
 use Rattle.qd_engine.specs.Words.{form_of}
 use Rattle.qd_engine.specs.Documents.{document_in}
 use Rattle.qd_engine.specs.Report.{report_of}
-use Rattle.qd_engine.specs.Tests.{scan_test, document_test, refusal, LatePart, LateIn, Late}
+use Rattle.qd_engine.specs.Tests.{document_test, refusal, LatePart, LateIn, Late}
 use Rattle.qd_engine.specs.Follows.{Follows, StopsLate}
 use Rattle.qd_engine.specs.Endings.{Reports}
 use Rattle.qd_engine.specs.declared.command.RowPart.{RowPart}

@@ -13,9 +13,9 @@ use Rattle.qd_engine.specs.Documents.{document_in, exponents_of}
 use Rattle.qd_engine.specs.Report.{report_in}
 use Rattle.qd_engine.specs.Tests.{refusal, report_unless, answer_for, plan, LateFor, ComesLate}
 use Rattle.qd_engine.specs.Answers.{Said, Whole, Cut, said_by}
-use Rattle.qd_engine.specs.Causes.{Agrees, OfInput, OfCommand, Refuses, Means, MeansSo, Comes, IsDone}
+use Rattle.qd_engine.specs.Causes.{Agrees, OfCommand, Refuses, Means, MeansSo, Comes, IsDone}
 use Rattle.qd_engine.specs.Acceptable.{IsAcceptable}
-use Rattle.qd_engine.specs.Endings.{Reports, Says, Writing, IsWhole, IsCut, Ends, EndsSaying, IsRoomy, Decides}
+use Rattle.qd_engine.specs.Endings.{Reports, Says, Writing, Ends, EndsSaying, IsRoomy, Decides}
 use Rattle.qd_engine.specs.declared.command.Command.{Command}
 use Rattle.qd_engine.specs.declared.answer.Why.{Why}
 use Rattle.qd_engine.specs.declared.answer.Why.TheVariants as whys

@@ -1,6 +1,5 @@
 -- No test says anything of an acceptable input, and what its rows give.
-use Rattle.std.proofs.Common.{◌≡◌, ℕ, ◌<◌, ◌%◌, List, length, Option, Some, None, refl, sym, ap, subst, ◌∙◌}
-use Rattle.std.specs.Prelude.{unwrap_or}
+use Rattle.std.proofs.Common.{◌≡◌, ℕ, List, length, Option, Some, None, refl, sym, ap, subst}
 use Rattle.std.specs.Option.{option_map}
 use Rattle.std.proofs.lemmas.Bool.{eq-eqb, le-leb}
 use Rattle.scan.specs.First.{option_or}
@@ -10,18 +9,15 @@ use Rattle.classes.proofs.Conjugacy.{representative_at_is}
 use Rattle.cochain.specs.Cochain.{Cochain, IsCocycle}
 use Rattle.slant.specs.Twists.{twist_of}
 use Rattle.slant.proofs.TwistLaws.{twist_lawful}
-use Rattle.table_check.specs.Check.{table_miss}
 use Rattle.table_check.proofs.Fitting.{good_misses_nothing}
 use Rattle.table_check.proofs.Idempotents.{good_tables_give_idempotents}
 use Rattle.qd_doc.specs.Blocks.{Block}
-use Rattle.qd_doc.specs.Grammar.{stop_of}
 use Rattle.qd_doc.specs.declared.document.Given.{Given}
 use Rattle.data_print.specs.declared.cause.Cause.{Cause}
 use Rattle.data_print.specs.declared.cause.Cause.TheVariants as causes
 use Rattle.qd_steps.specs.Tables.{class_twist, class_table, table_cause, tables_cause, cause_of_miss}
-use Rattle.qd_engine.specs.Words.{form_of}
 use Rattle.qd_engine.specs.Documents.{document_in, exponents_of, given_in, root_order, conductor_of}
-use Rattle.qd_engine.specs.Tests.{scan_test, without_conductor, conductor_test, stated_test, simples_test, matching_test, rows_test, document_test, refusal}
+use Rattle.qd_engine.specs.Tests.{scan_test, without_conductor, conductor_test, matching_test, rows_test, document_test, refusal}
 use Rattle.qd_engine.specs.Causes.{AreGood, IsVerified, IsAccepted, GiveIdempotents}
 use Rattle.qd_engine.specs.Acceptable.{AllFit}
 use Rattle.qd_engine.specs.declared.command.RowReport.{RowReport}

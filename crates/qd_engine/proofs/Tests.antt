@@ -1,5 +1,5 @@
 -- What the tests of an input say: nothing, or a cause of their own; and what holds where none says anything.
-use Rattle.std.proofs.Common.{◌≡◌, ℕ, ◌<◌, ◌≤◌, Bool, true, false, cond, List, length, Option, Some, None, refl, sym, ap, subst, ◌∙◌}
+use Rattle.std.proofs.Common.{◌≡◌, ℕ, ◌<◌, Bool, true, false, cond, List, length, Option, Some, None, refl, sym, subst}
 use Rattle.std.specs.Prelude.{◌==◌, nat_le, sum, unwrap_or}
 use Rattle.std.specs.Option.{option_map}
 use Rattle.std.proofs.lemmas.Bool.{eqb-true, leb-true}
@@ -33,7 +33,7 @@ use Rattle.qd_engine.specs.Documents.{document_in, table_of, exponents_of, given
 use Rattle.qd_engine.specs.Shape.{shape_fault}
 use Rattle.qd_engine.specs.Report.{class_ranks}
 use Rattle.qd_engine.specs.Tests.{scan_test, without_conductor, conductor_test, stated_test, simples_test, matching_test, rows_test, document_test, refusal, LatePart, LateRows, Late}
-use Rattle.qd_engine.specs.Causes.{AreGood, IsVerified, IsAccepted}
+use Rattle.qd_engine.specs.Causes.{IsVerified, IsAccepted}
 use Rattle.qd_engine.specs.declared.command.RowPart.{RowPart}
 use Rattle.qd_engine.specs.declared.command.RowPart.TheVariants as row_parts
 use Rattle.qd_engine.specs.declared.command.RowReport.{RowReport}

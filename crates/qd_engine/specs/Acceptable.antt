@@ -8,23 +8,21 @@ use Rattle.table_check.specs.Fitting.{SidesFit}
 use Rattle.qd_steps.specs.Tables.{class_twist, class_table}
 use Rattle.data_print.specs.declared.cause.Cause.{Cause}
 use Rattle.qd_engine.specs.Words.{command_of}
-use Rattle.qd_engine.specs.Documents.{document_in, exponents_of, given_in, conductor_of}
+use Rattle.qd_engine.specs.Documents.{document_in, conductor_of}
 use Rattle.qd_engine.specs.Tests.{Late}
-use Rattle.qd_engine.specs.Causes.{IsAccepted}
-use Rattle.qd_engine.specs.declared.command.RowReport.{RowReport}
+use Rattle.qd_engine.specs.Causes.{OfRows, IsAccepted}
 use Rattle.qd_engine.specs.declared.command.Command.{Command}
 
 -- no side of the check of a class's table overflows
 abbrev pub AllFit : Cochain → ℕ → List Block → Type 0
 AllFit w k blocks = (c : ℕ) → c < length (representatives w.group) → SidesFit (class_twist w c) (class_table k blocks c)
 
--- the words are a command, and the input is accepted by it; for one with rows, the sides of their tables fit, and nothing comes late: the
--- sums of S fit
+-- the words are a command, and the input is accepted by it; for one with rows, the sides of their tables fit; and nothing
+-- comes late: the sums of S fit
 pub record IsAcceptable (words : List (List ℕ)) (bytes : List ℕ) : Type 0 where
   pub command : Command
   pub asked : command_of words ≡ Some command
   pub short : length bytes ≤ INPUT_LIMIT
   pub accepted : IsAccepted command bytes
-  pub fits : (report : RowReport) → command.rows ≡ Some report
-      → AllFit (exponents_of (document_in command bytes)) (conductor_of (exponents_of (document_in command bytes))) (given_in (document_in command bytes)).blocks
+  pub fits : OfRows command (document_in command bytes) (λ report w given. AllFit w (conductor_of w) given.blocks)
   pub sums : (cause : Cause) → Late command (document_in command bytes) cause → ⊥

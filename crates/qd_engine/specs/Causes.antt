@@ -4,6 +4,7 @@ use Rattle.std.specs.Io.KnownBytes.{Appends}
 use Rattle.qd_io.specs.declared.reading.TheConstants.{INPUT_LIMIT}
 use Rattle.qd_doc.specs.Grammar.{stop_of}
 use Rattle.qd_doc.specs.Blocks.{Block}
+use Rattle.qd_doc.specs.declared.document.Document.{Document}
 use Rattle.qd_doc.specs.declared.document.Given.{Given}
 use Rattle.group_table.specs.Group.{IsGroup}
 use Rattle.cochain.specs.Cochain.{Cochain, IsCocycle}
@@ -43,13 +44,16 @@ OfCommand words left P =
 -- the input is refused so: the first test that says something says this; or none does, and this comes late
 abbrev pub Refuses : Cause → Command → List ℕ → Type 0
 Refuses cause command bytes =
-    (refusal command bytes ≡ Some cause) ⊎ ((refusal command bytes ≡ None) × Late command (document_in command bytes) cause)
+    (refusal command bytes ≡ Some cause)
+    ⊎ ((refusal command bytes ≡ None) × Late command (document_in command bytes) cause)
 
--- What holds where the program refuses so, by the words, by what the source had left, and by whether the source failed in this call.
+-- What holds where the program refuses so, by the words, by what the source had left, and by whether the source failed in
+-- this call.
 abbrev pub Means : List (List ℕ) → Option (List ℕ) → Type 0 → Cause → Type 0
 Means words left failed Usage = command_of words ≡ None
 Means words left failed Read = IsSome (command_of words) × failed
-Means words left failed TooLong = IsSome (command_of words) × OfInput (read_of words left) (λ bytes. INPUT_LIMIT < length bytes)
+Means words left failed TooLong =
+    IsSome (command_of words) × OfInput (read_of words left) (λ bytes. INPUT_LIMIT < length bytes)
 Means words left failed cause = OfCommand words left (Refuses cause)
 
 -- the rows of a conductor are good tables of the classes
@@ -57,22 +61,26 @@ pub record AreGood (w : Cochain) (k : ℕ) (blocks : List Block) : Type 0 where
   pub matched : IsMatched w.group blocks
   pub good : (c : ℕ) → c < length (representatives w.group) → IsGood (class_twist w c) (class_table k blocks c)
 
--- the rows that a document gives are of the conductor that is needed, which it states; there are no more than this many simples; and the
--- rows are good tables
+-- the rows that a document gives are of the conductor that is needed, which it states; there are no more simples than this;
+-- and the rows are good tables
 pub record IsVerified (most : ℕ) (w : Cochain) (given : Given) : Type 0 where
   pub conductor : least_conductor (root_order w) ≡ Some (conductor_of w)
   pub stated : given.conductor ≡ conductor_of w
   pub few : sum (class_ranks w) ≤ most
   pub rows : AreGood w (conductor_of w) given.blocks
 
--- the input is a document of the form that the command reads; its table is a group, and its exponents are a normalised 3-cocycle of it; for
--- a command with rows, those that it gives are good tables
+-- a fact about the cocycle and the rows of a document, for a command with rows
+abbrev pub OfRows : Command → Document → (RowReport → Cochain → Given → Type 0) → Type 0
+OfRows command document P =
+    (report : RowReport) → command.rows ≡ Some report → P report (exponents_of document) (given_in document)
+
+-- the input is a document of the form that the command reads; its table is a group, and its exponents are a normalised
+-- 3-cocycle of it; for a command with rows, those that it gives are good tables
 pub record IsAccepted (command : Command) (bytes : List ℕ) : Type 0 where
   pub document : stop_of (form_of command) bytes ≡ None
   pub group : IsGroup (table_of (document_in command bytes))
   pub cocycle : IsCocycle (exponents_of (document_in command bytes))
-  pub verified : (report : RowReport) → command.rows ≡ Some report
-      → IsVerified report.most_simples (exponents_of (document_in command bytes)) (given_in (document_in command bytes))
+  pub verified : OfRows command (document_in command bytes) (λ report w given. IsVerified report.most_simples w given)
 
 -- what holds where the program has this to say. Want of memory says nothing
 abbrev pub MeansSo : List (List ℕ) → Option (List ℕ) → Type 0 → Outcome → Type 0
@@ -83,15 +91,18 @@ MeansSo words left failed Memory = ⊤
 -- what holds where an answer comes: what it means; or what there was to say means, which the sink cut
 abbrev pub Comes : List (List ℕ) → Option (List ℕ) → Type 0 → Said → Type 0
 Comes words left failed (Whole outcome) = MeansSo words left failed outcome
-Comes words left failed (Cut planned) = (outcome : Outcome) × (status_of outcome ≡ planned) × MeansSo words left failed outcome
+Comes words left failed (Cut planned) =
+    (outcome : Outcome) × (status_of outcome ≡ planned) × MeansSo words left failed outcome
 
--- for each class, the rows give orthogonal central idempotents of its twisted group algebra that add up to one, as many as its rank
+-- for each class, the rows give orthogonal central idempotents of its twisted group algebra that add up to one, as many as
+-- its rank
 pub record GiveIdempotents (w : Cochain) (k : ℕ) (blocks : List Block) : Type 0 where
   pub conductor : is_conductor k ≡ true
-  pub idempotents : (c : ℕ) → c < length (representatives w.group) → AreIdempotents (class_twist w c) (class_table k blocks c) conductor
+  pub idempotents : (c : ℕ) → c < length (representatives w.group)
+      → AreIdempotents (class_twist w c) (class_table k blocks c) conductor
 
--- The program is done: the words are a command, the input is accepted, the rows of a command that has rows give the idempotents, and the
--- sink has exactly the report of that.
+-- The program is done: the words are a command, the input is accepted, the rows of a command that has rows give the
+-- idempotents, and the sink has exactly the report of that.
 pub record IsDone (words : List (List ℕ)) (left before after : Option (List ℕ)) : Type 0 where
   pub command : Command
   pub asked : command_of words ≡ Some command
@@ -99,6 +110,5 @@ pub record IsDone (words : List (List ℕ)) (left before after : Option (List �
   pub input : Agrees (read_of words left) bytes
   pub short : length bytes ≤ INPUT_LIMIT
   pub accepted : IsAccepted command bytes
-  pub idempotents : (report : RowReport) → command.rows ≡ Some report
-      → GiveIdempotents (exponents_of (document_in command bytes)) (conductor_of (exponents_of (document_in command bytes))) (given_in (document_in command bytes)).blocks
+  pub idempotents : OfRows command (document_in command bytes) (λ report w given. GiveIdempotents w (conductor_of w) given.blocks)
   pub report : Appends before after (report_in command bytes)

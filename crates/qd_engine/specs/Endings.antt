@@ -1,5 +1,5 @@
 -- What the program has to say, and how it ends by writing that.
-use Rattle.std.specs.Prelude.{◌≡◌, ℕ, ◌<◌, List, length, Option, Some, None, Result, Ok, Err, ⊤, ◌⊎◌}
+use Rattle.std.specs.Prelude.{◌≡◌, ℕ, ◌<◌, List, length, Option, None, Result, Ok, Err, ⊤, ◌⊎◌}
 use Rattle.std.specs.Global.{Vec}
 use Rattle.std.specs.Io.KnownBytes.{Appends}
 use Rattle.qd_io.specs.Stream.{AppendsFront, HasRoom, TakesUpTo, TakesOver}
@@ -54,7 +54,8 @@ abbrev pub Ends : Writing → Type 0 → Said → Outcome → List ℕ → Type 
 Ends writing failed said outcome text = IsWhole writing said outcome text ⊎ IsCut writing failed said outcome text
 
 -- how the program ends: there was something to say, and it ends by writing that
-pub record EndsSaying (words : List (List ℕ)) (left : Option (List ℕ)) (source_failed : Type 0) (writing : Writing) (sink_failed : Type 0) (said : Said) : Type 0 where
+pub record EndsSaying (words : List (List ℕ)) (left : Option (List ℕ)) (source_failed : Type 0)
+    (writing : Writing) (sink_failed : Type 0) (said : Said) : Type 0 where
   pub outcome : Outcome
   pub text : List ℕ
   pub says : Says words left source_failed outcome text
@@ -81,7 +82,8 @@ Takes before after prepared = TakesUpTo INPUT_LIMIT before after
 abbrev pub TakesFor : Option (List ℕ) → Option (List ℕ) → Said → Type 0
 TakesFor before after (Whole (Refused TooLong)) = TakesOver INPUT_LIMIT before after
 TakesFor before after (Whole Memory) = TakesUpTo INPUT_LIMIT before after ⊎ TakesOver INPUT_LIMIT before after
-TakesFor before after (Cut planned) = TakesUpTo INPUT_LIMIT before after ⊎ (((planned ≡ 6) ⊎ (planned ≡ 14)) × TakesOver INPUT_LIMIT before after)
+TakesFor before after (Cut planned) =
+    TakesUpTo INPUT_LIMIT before after ⊎ (((planned ≡ 6) ⊎ (planned ≡ 14)) × TakesOver INPUT_LIMIT before after)
 TakesFor before after said = TakesUpTo INPUT_LIMIT before after
 
 -- what comes of all steps before the writing
@@ -93,10 +95,12 @@ Prepares words left failed (Err stops.Memory) = ⊤
 -- what was prepared is said: the report, the line of the refusal, or that there was no memory
 abbrev pub SaysPrepared : Result (Vec ℕ) Stop → Writing → Type 0 → Said → Type 0
 SaysPrepared (Ok text) writing failed said = Ends writing failed said Report text.items
-SaysPrepared (Err (stops.Refused cause)) writing failed said = Ends writing failed said (Refused cause) (line_of cause) ⊎ Ends writing failed said Memory memory_line
+SaysPrepared (Err (stops.Refused cause)) writing failed said =
+    Ends writing failed said (Refused cause) (line_of cause) ⊎ Ends writing failed said Memory memory_line
 SaysPrepared (Err stops.Memory) writing failed said = Ends writing failed said Memory memory_line
 
 -- What the plan gives is said, or that there was no memory; in place of a report it may be a refusal that comes late.
 abbrev pub Decides : (Cause → Type 0) → Result (List ℕ) Cause → Said → Type 0
-Decides late (Ok text) said = (said ≡ Whole Report) ⊎ ((said ≡ Whole Memory) ⊎ ((cause : Cause) × (said ≡ Whole (Refused cause)) × late cause))
+Decides late (Ok text) said =
+    (said ≡ Whole Report) ⊎ ((said ≡ Whole Memory) ⊎ ((cause : Cause) × (said ≡ Whole (Refused cause)) × late cause))
 Decides late (Err cause) said = (said ≡ Whole (Refused cause)) ⊎ (said ≡ Whole Memory)

@@ -66,12 +66,14 @@ parts_text text parts = flat_map text parts
 abbrev pub rows_text : Cochain → Option RowReport → Option Given → List ℕ
 rows_text w None given = []
 rows_text w (Some report) None = []
-rows_text w (Some report) (Some given) = parts_text (row_part_text (conductor_of w) (simples_over w given.blocks)) report.parts
+rows_text w (Some report) (Some given) =
+    parts_text (row_part_text (conductor_of w) (simples_over w given.blocks)) report.parts
 
 -- the report of a command on a document
 abbrev pub report_of : Command → Document → List ℕ
 report_of command document =
-    parts_text (part_text (exponents_of document)) command.parts ++ rows_text (exponents_of document) command.rows document.characters
+    parts_text (part_text (exponents_of document)) command.parts
+    ++ rows_text (exponents_of document) command.rows document.characters
 
 abbrev pub report_in : Command → List ℕ → List ℕ
 report_in command bytes = report_of command (document_in command bytes)

@@ -1,15 +1,17 @@
--- What the program tests, in order: the first test that says something is the cause of its refusal. Each test has a value for every input;
--- where one before it says something, that value is of no account.
-use Rattle.std.specs.Prelude.{◌≡◌, ℕ, ◌<◌, List, [], ◌∷◌, length, nat_le, nat_lt, ◌==◌, sum, slice_get, Option, Some, None, Result, Ok, Err, if◌then◌else◌}
+-- What the program tests, in order: the first test that says something is the cause of its refusal. Each test has a value
+-- for every input; where one before it says something, that value is of no account.
+use Rattle.std.specs.Prelude.{◌≡◌, ℕ, List, [], ◌∷◌, length, nat_le, nat_lt, ◌==◌, sum, slice_get, if◌then◌else◌}
+use Rattle.std.specs.Prelude.{Option, Some, None, Result, Ok, Err}
 use Rattle.std.specs.Option.{option_map}
 use Rattle.scan.specs.First.{option_or}
 use Rattle.qd_io.specs.declared.reading.TheConstants.{INPUT_LIMIT}
 use Rattle.qd_doc.specs.Grammar.{stop_of}
+use Rattle.qd_doc.specs.Blocks.{Block}
 use Rattle.qd_doc.specs.declared.document.Document.{Document}
 use Rattle.qd_doc.specs.declared.document.Given.{Given}
 use Rattle.qd_doc.specs.declared.refusal.DocRefusal.{DocRefusal}
 use Rattle.qd_doc.specs.declared.refusal.DocRefusal.TheVariants as stops
-use Rattle.group_table.specs.Group.{group_fault}
+use Rattle.group_table.specs.Group.{Table, group_fault}
 use Rattle.cochain.specs.Cochain.{Cochain, cocycle_fault}
 use Rattle.cyclotomic.specs.Conductors.{least_conductor}
 use Rattle.modular_st.specs.Numerators.{IsOverflow}
@@ -58,15 +60,16 @@ stated_test stated needed = if stated == needed then None else Some (causes.Cond
 abbrev pub simples_test : ℕ → ℕ → Option Cause
 simples_test ranks most = if nat_le ranks most then None else Some (causes.Simples ranks most)
 
+-- the blocks don't match the classes
+abbrev pub shape_test : Table → List Block → Option Cause
+shape_test t blocks = option_map causes.Shape (shape_fault t blocks)
+
 -- the tests of the rows that are stated, before the tables
 unfoldable pub matching_test : RowReport → Cochain → Given → Option Cause
 matching_test report w given =
-    first_of_all (
-    conductor_test w
-    ∷ stated_test given.conductor (conductor_of w)
-    ∷ simples_test (sum (class_ranks w)) report.most_simples
-    ∷ option_map causes.Shape (shape_fault w.group given.blocks)
-    ∷ [])
+    let stated = stated_test given.conductor (conductor_of w) in
+    let few = simples_test (sum (class_ranks w)) report.most_simples in
+    first_of_all (conductor_test w ∷ stated ∷ few ∷ shape_test w.group given.blocks ∷ [])
 
 -- all tests of these rows
 abbrev pub rows_test : Cochain → Option RowReport → Option Given → Option Cause
@@ -75,18 +78,26 @@ rows_test w (Some report) None = None
 rows_test w (Some report) (Some given) =
     first_of_all (matching_test report w given ∷ tables_cause w (conductor_of w) given.blocks ∷ [])
 
--- the tests of a document: that its table is a group, that its exponents are a normalised 3-cocycle, and those of its rows
+-- the table is no group
+abbrev pub group_test : Document → Option Cause
+group_test document = option_map causes.Group (group_fault (table_of document))
+
+-- the exponents are no normalised 3-cocycle
+abbrev pub cocycle_test : Document → Option Cause
+cocycle_test document = option_map causes.Cocycle (cocycle_fault (exponents_of document))
+
+-- all tests of a document
 unfoldable pub document_test : Command → Document → Option Cause
 document_test command document =
-    first_of_all (
-    option_map causes.Group (group_fault (table_of document))
-    ∷ option_map causes.Cocycle (cocycle_fault (exponents_of document))
-    ∷ rows_test (exponents_of document) command.rows document.characters
-    ∷ [])
+    let w = exponents_of document in
+    first_of_all (group_test document ∷ cocycle_test document ∷ rows_test w command.rows document.characters ∷ [])
 
--- all tests of an input that is short enough
+-- all tests of an input that is short enough, in order
 abbrev pub tests : Command → List ℕ → List (Option Cause)
-tests command bytes = scan_test (stop_of (form_of command) bytes) ∷ document_test command (document_in command bytes) ∷ []
+tests command bytes =
+    scan_test (stop_of (form_of command) bytes)
+    ∷ document_test command (document_in command bytes)
+    ∷ []
 
 unfoldable pub refusal : Command → List ℕ → Option Cause
 refusal command bytes = first_of_all (tests command bytes)
@@ -115,7 +126,8 @@ report_unless (Some cause) text = Err cause
 -- what is said to a command and an input. More than the program reads is refused
 abbrev pub answer_to : Command → List ℕ → Result (List ℕ) Cause
 answer_to command bytes =
-    if nat_lt INPUT_LIMIT (length bytes) then Err causes.TooLong else report_unless (refusal command bytes) (report_in command bytes)
+    if nat_lt INPUT_LIMIT (length bytes) then Err causes.TooLong
+    else report_unless (refusal command bytes) (report_in command bytes)
 
 abbrev pub answer_for : Option Command → List ℕ → Result (List ℕ) Cause
 answer_for None bytes = Err causes.Usage

@@ -25,7 +25,10 @@ classes_command = record { parts = front_parts.Head ∷ front_parts.Classes ∷ 
 abbrev pub verify_command : Command
 verify_command = record {
   parts = front_parts.Head ∷ front_parts.Classes ∷ front_parts.Blank ∷ [];
-  rows = Some (record { most_simples = 256; parts = row_parts.Conductor ∷ row_parts.Simples ∷ row_parts.S ∷ row_parts.End ∷ [] });
+  rows = Some (record {
+    most_simples = 256;
+    parts = row_parts.Conductor ∷ row_parts.Simples ∷ row_parts.S ∷ row_parts.End ∷ [];
+  });
 }
 
 -- the command that the words ask for: `check`, `classes` or `verify`, alone

@@ -1,13 +1,11 @@
 //! The tests of the rows that a document states, before their tables are checked.
 
 ghost use Rattle.std.specs.Prelude.{◌≡◌, ◌≤◌, ◌<◌, ◌^◌, ◌%◌, true, length, sum, All, IfOk};
-ghost use Rattle.std.specs.Option.{option_map};
 ghost use Rattle.cyclotomic.specs.Conductors.{is_conductor};
 ghost use Rattle.qd_steps.specs.Matched.{IsMatched};
 ghost use Rattle.qd_engine.specs.Documents.{conductor_of};
 ghost use Rattle.qd_engine.specs.Report.{class_ranks};
-ghost use Rattle.qd_engine.specs.Shape.{shape_fault};
-ghost use Rattle.qd_engine.specs.Tests.{conductor_test, stated_test, simples_test, matching_test};
+ghost use Rattle.qd_engine.specs.Tests.{conductor_test, stated_test, simples_test, shape_test, matching_test};
 ghost use Rattle.qd_engine.specs.Follows.{Tests};
 
 use crate::command::RowReport;
@@ -70,7 +68,7 @@ fn few_simples(ranks: &Nats, most: u32) -> Result<(), Stop>
 
 /// Whether the blocks match the classes.
 fn matching(classes: &Classes, blocks: &Blocks) -> Result<(), Stop>
-    ensures tested { Tests (option_map Cause.Shape (shape_fault classes.now blocks.now)) (λ done. IsMatched classes.now blocks.now) result }
+    ensures tested { Tests (shape_test classes.now blocks.now) (λ done. IsMatched classes.now blocks.now) result }
 {
     match shape_fault(classes, blocks) {
         None => Ok(()),

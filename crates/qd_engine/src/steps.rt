@@ -2,10 +2,9 @@
 
 ghost use Rattle.std.specs.Prelude.{◌≡◌, ◌≤◌, length, ◌++◌, ℕ, All, None, Some, vec_len, OnOk, IfOk, IfSome};
 ghost use Rattle.std.specs.Global.{Vec};
-ghost use Rattle.std.specs.Option.{option_map};
 ghost use Rattle.classes.specs.Conjugacy.{representatives};
-ghost use Rattle.group_table.specs.Group.{Table, group_fault};
-ghost use Rattle.cochain.specs.Cochain.{Cochain, cocycle_fault};
+ghost use Rattle.group_table.specs.Group.{Table};
+ghost use Rattle.cochain.specs.Cochain.{Cochain};
 ghost use Rattle.qd_text.specs.Tokens.{tokens};
 ghost use Rattle.qd_doc.specs.Grammar.{stop_of};
 ghost use Rattle.qd_doc.specs.Contents.{IsInRange, IsGivenInRange, document_of};
@@ -14,7 +13,7 @@ ghost use Rattle.qd_io.specs.declared.reading.TheConstants.{INPUT_LIMIT};
 ghost use Rattle.qd_engine.specs.Words.{form_of};
 ghost use Rattle.qd_engine.specs.Documents.{document_in, table_of, exponents_of};
 ghost use Rattle.qd_engine.specs.Report.{class_ranks, part_text, parts_text, rows_text, report_of};
-ghost use Rattle.qd_engine.specs.Tests.{scan_test, rows_test, document_test, refusal, LateRows, Late};
+ghost use Rattle.qd_engine.specs.Tests.{scan_test, group_test, cocycle_test, rows_test, document_test, refusal, LateRows, Late};
 ghost use Rattle.qd_engine.specs.Follows.{Tests, Follows};
 ghost use Rattle.qd_engine.specs.Endings.{Reports};
 
@@ -54,7 +53,7 @@ fn document(alloc: Global, bytes: &Vec<u8>, form: Form) -> Result<Document, Stop
 /// The group that the table of a document is.
 fn group(alloc: Global, document: &Document) -> Result<Group, Stop>
     requires shaped { IsInRange document.now }
-    ensures tested { Tests (option_map Cause.Group (group_fault (table_of document.now))) (λ (g : Table). g ≡ table_of document.now) result }
+    ensures tested { Tests (group_test document.now) (λ (g : Table). g ≡ table_of document.now) result }
 {
     match Group::from_table(alloc, document.order, &document.table) {
         Ok(group) => Ok(group),
@@ -67,7 +66,7 @@ fn group(alloc: Global, document: &Document) -> Result<Group, Stop>
 fn cocycle(alloc: Global, group: Group, document: &Document) -> Result<Cocycle, Stop>
     requires shaped { IsInRange document.now }
     requires group { group ≡ table_of document.now }
-    ensures tested { Tests (option_map Cause.Cocycle (cocycle_fault (exponents_of document.now))) (λ (w : Cochain). w ≡ exponents_of document.now) result }
+    ensures tested { Tests (cocycle_test document.now) (λ (w : Cochain). w ≡ exponents_of document.now) result }
 {
     match Cocycle::from_exponents(alloc, group, document.roots, &document.exponents) {
         Ok(cocycle) => Ok(cocycle),
@@ -132,7 +131,8 @@ fn append_stated(
     requires ranks { ranks.now ≡ class_ranks w }
     requires few { length ranks.now ≤ 60 }
     requires small { All (λ rank. rank ≤ 60) ranks.now }
-    ensures follows { Follows (rows_test w (Some report.now) (Some given.now)) (LateRows w (Some report.now) (Some given.now))
+    ensures follows { Follows (rows_test w (Some report.now) (Some given.now))
+        (LateRows w (Some report.now) (Some given.now))
         (λ done. out.new.items ≡ out.old.items ++ rows_text w (Some report.now) (Some given.now)) result }
 {
     let k = matched_conductor(&w, &classes, ranks, given, report)?;
@@ -174,7 +174,8 @@ fn report(
 ) -> Result<Vec<u8>, Stop>
     requires shaped { IsInRange document.now }
     requires cocycle { w ≡ exponents_of document.now }
-    ensures follows { Follows (rows_test (exponents_of document.now) command.now.rows document.now.characters) (Late command.now document.now)
+    ensures follows { Follows (rows_test (exponents_of document.now) command.now.rows document.now.characters)
+        (Late command.now document.now)
         (λ (text : Vec ℕ). text.items ≡ report_of command.now document.now) result }
 {
     let classes = Classes::of(alloc, w.group())?;

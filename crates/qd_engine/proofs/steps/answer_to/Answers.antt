@@ -1,4 +1,3 @@
-use Rattle.std.proofs.Common.{◌≡◌}
 use Rattle.qd_engine.proofs.Following.{document_follows}
 use Rattle.qd_engine.proofs.steps.answer_to.Goals as goal
 
