@@ -10,6 +10,8 @@ mod ratios;
 mod refusal;
 mod root_powers;
 mod tabulate;
+#[cfg(test)]
+mod tests;
 mod value;
 
 pub use lifting::lift;
