@@ -1,1 +1,5 @@
 pub mod Lists
+pub mod Residues
+pub mod Layers
+pub mod PushedParts
+pub mod Multiples
