@@ -37,7 +37,7 @@ use Rattle.splitting_theory.proofs.Characters.{scale_equal, values_character, ch
 use Rattle.splitting_theory.proofs.Counting.{splitting_counts}
 use Rattle.centre_algebra.specs.CentralCharacters.{IsCentralCharacter, IsCharacterList, IsBefore, regular_sum, linear_value}
 use Rattle.centre_algebra.specs.Laws.{AreCentralCharacters, CentreSplits}
-use Rattle.centre_algebra.proofs.CentreRing.{spread, spread_at, spread_below, Centre, centre_ring, centre_basis, basis_at, basis_product, centre_fixed}
+use Rattle.centre_algebra.proofs.CentreRing.{spread, spread_at, spread_below, Centre, centre_ring, centre_basis, basis_at, basis_product, product_at, scales, centre_fixed}
 use Rattle.centre_algebra.proofs.Numbers.{tabled, length-tabled, tabled_at, lists_equal, before_at, Zipped, zipped_each, zipped_pairwise, zipped_length}
 
 -- ---- the field
@@ -242,3 +242,32 @@ module _ (ring : ModRing) (s : TwistedSubgroup) (twist : IsTwist s) (over : size
 
 pub centre_splits : (ring : ModRing) → CentreSplits ring
 centre_splits ring s twist over period = splits ring s twist over period
+
+-- ---- the centre by numbers
+
+module _ (ring : ModRing) (s : TwistedSubgroup) (twist : IsTwist s) (over : size s < ring.q) (period : ring.conductor % unit_period s ≡ 0) where
+  abbrev F : CommRing (Below ring.q)
+  F = R ring s twist over period
+
+  abbrev D : CommRing (Centre F (U ring s twist over period) s twist (divides ring s twist over period))
+  D = C ring s twist over period
+
+  abbrev B : HasBasis F D (rank s)
+  B = E ring s twist over period
+
+  -- a number of the centre multiplies each number
+  pub number_at : (v : ℕ) (x : Centre F (U ring s twist over period) s twist (divides ring s twist over period)) (k : Below (rank s)) → D.mul (number D v) x k ≡ F.mul (field_residue ring.q ring.listed v) (x k)
+  number_at v x k =
+      ap (λ y. D.mul y x k) (sym (of_number F D (rank s) B v) ∙ ap B.of (number_residue ring.q ring.listed v))
+      ∙ ap (λ (z : Centre F (U ring s twist over period) s twist (divides ring s twist over period)). z k) (scales F (U ring s twist over period) s twist (divides ring s twist over period) (field_residue ring.q ring.listed v) x)
+
+  -- a class sum times the element with the numbers e, by the products of class sums at the representatives
+  pub image_at : (t : ℕ) → t < rank s → (e : List ℕ) (k : Below (rank s)) → D.mul (B.at t) (λ j. field_residue ring.q ring.listed (get_or e j.value 0)) k
+      ≡ sum_below F (rank s) (λ j. F.mul (field_residue ring.q ring.listed (get_or e j 0))
+      (twisted_product F (U ring s twist over period) s (regular_sum F (U ring s twist over period) s t) (regular_sum F (U ring s twist over period) s j) (get_or (regular_representatives s) k.value 0)))
+  image_at t below e k =
+      product_at F (U ring s twist over period) s twist (divides ring s twist over period) t (λ j. field_residue ring.q ring.listed (get_or e j.value 0)) k
+      ∙ sum_ext F (rank s) (λ j. F.mul (spread F (rank s) (λ i. field_residue ring.q ring.listed (get_or e i.value 0)) j) (D.mul (B.at t) (B.at j) k))
+      (λ j. F.mul (field_residue ring.q ring.listed (get_or e j 0))
+      (twisted_product F (U ring s twist over period) s (regular_sum F (U ring s twist over period) s t) (regular_sum F (U ring s twist over period) s j) (get_or (regular_representatives s) k.value 0)))
+      (λ j h. ap₂ F.mul (spread_below F (rank s) (λ i. field_residue ring.q ring.listed (get_or e i.value 0)) j h) (basis_product F (U ring s twist over period) s twist (divides ring s twist over period) t j below h k))
