@@ -3,3 +3,4 @@ pub mod Residues
 pub mod Layers
 pub mod PushedParts
 pub mod Multiples
+pub mod Refining

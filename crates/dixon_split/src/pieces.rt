@@ -1,12 +1,14 @@
 //! The pieces of an idempotent under an element of the basis.
 
-ghost use Rattle.std.specs.Prelude.{◌≡◌, ◌≢◌, ◌*◌, ◌%◌, ◌<◌, ◌==◌, ◌++◌, Some, None, if◌then◌else◌, All, map, slice_index, IfOk, IfSome, IfNone, OnOk};
+ghost use Rattle.std.specs.Prelude.{◌≡◌, ◌≢◌, ℕ, ◌*◌, ◌/◌, ◌%◌, ◌<◌, ◌≤◌, ◌==◌, ◌++◌, length, flat_map, slice_index_or, Some, None, if◌then◌else◌, All, map, slice_index, IfOk, IfSome, IfNone, OnOk};
 ghost use Rattle.scan.specs.First.{all_below, first};
 ghost use Rattle.algebra.specs.Structures.{CommRing};
-ghost use Rattle.splitting_theory.specs.Splitting.{IsFixed, ZeroTest, number, Acts, parts_below};
+ghost use Rattle.prime_field.specs.ResidueLists.{IsTabulated};
+ghost use Rattle.splitting_theory.specs.Splitting.{IsFixed, ZeroTest, number, Acts, parts_below, pieces};
 ghost use Rattle.dixon_split.specs.Elements.{Element, IsElement};
 ghost use Rattle.dixon_split.specs.Structures.{residues, HasStructure};
 
+use crate::arithmetic::tabulate;
 use crate::images::{image, is_multiple};
 use crate::parts::push_all_parts;
 use crate::structure::Structure;
@@ -62,5 +64,53 @@ fn push_parts(
             Ok(())
         }
         None => push_all_parts(alloc, algebra, pieces, t, e),
+    }
+}
+
+// The parts of each piece that aren't nought, under the `t`-th element of the basis.
+fn refined(alloc: Global, algebra: &Structure, t: u32, pieces: &[Vec<u32>]) -> Result<Vec<Vec<u32>>, Memory>
+    requires t_below { t < algebra.now.rank }
+    requires elements { All (λ piece. IsElement algebra.now.q algebra.now.rank piece.items) pieces.now }
+    ensures elements { IfOk result (λ next. All (λ piece. IsElement algebra.now.q algebra.now.rank piece.items) next.items) }
+    ensures parts { (Z : CommRing (Element algebra.now.q algebra.now.rank)) (T : ZeroTest Z) (H : HasStructure algebra.now Z) → IsFixed Z algebra.now.q → All (λ piece. (residues algebra.now piece.items ≢ Z.nought) × (Z.mul (residues algebra.now piece.items) (residues algebra.now piece.items) ≡ residues algebra.now piece.items)) pieces.now → IfOk result (λ next. map (λ piece. residues algebra.now piece.items) next.items ≡ flat_map (λ e. parts_below Z T algebra.now.q (H.basis t) e algebra.now.q) (map (λ piece. residues algebra.now piece.items) pieces.now)) }
+{
+    let mut next = Vec::new(alloc);
+    for piece in pieces {
+        push_parts(alloc, algebra, &mut next, t, piece.as_slice())?;
+    }
+    Ok(next)
+}
+
+// The numbers of the first element of the basis.
+fn first_element(alloc: Global, algebra: &Structure) -> Result<Vec<u32>, Memory>
+    ensures values { IfOk result (λ e. IsTabulated algebra.now.rank (λ k. if k == 0 then 1 else 0) e.items) }
+{
+    tabulate(alloc, algebra.rank, |k| u32::from(k == 0))
+}
+
+// The pieces of one under the whole basis, in the order of the numbers by which it multiplies them.
+pub(crate) fn all_pieces(alloc: Global, algebra: &Structure) -> Result<Vec<Vec<u32>>, Memory>
+    ensures elements { IfOk result (λ pieces. All (λ piece. IsElement algebra.now.q algebra.now.rank piece.items) pieces.items) }
+    ensures pieces { (Z : CommRing (Element algebra.now.q algebra.now.rank)) (T : ZeroTest Z) (H : HasStructure algebra.now Z) → IsFixed Z algebra.now.q → IfOk result (λ found. map (λ piece. residues algebra.now piece.items) found.items ≡ pieces Z T algebra.now.q H.basis algebra.now.rank) }
+{
+    let first = first_element(alloc, algebra)?;
+    let mut found = Vec::new(alloc);
+    found.push(first)?;
+    for t in 0..algebra.rank {
+        found = refined(alloc, algebra, t, found.as_slice())?;
+    }
+    Ok(found)
+}
+
+// The number by which the `t`-th element of the basis multiplies the element, or 0.
+fn value_of(alloc: Global, algebra: &Structure, t: u32, e: &[u32]) -> Result<u32, Memory>
+    requires t_below { t < algebra.now.rank }
+    requires element { IsElement algebra.now.q algebra.now.rank e.now }
+    ensures below { IfOk result (λ v. v < algebra.now.q) }
+    ensures acts { (Z : CommRing (Element algebra.now.q algebra.now.rank)) (H : HasStructure algebra.now Z) → Acts Z algebra.now.q (H.basis t) (residues algebra.now e.now) → IfOk result (λ v. Z.mul (H.basis t) (residues algebra.now e.now) ≡ Z.mul (number Z v) (residues algebra.now e.now)) }
+{
+    match multiplier(alloc, algebra, t, e)? {
+        Some(v) => Ok(v),
+        None => Ok(0),
     }
 }
