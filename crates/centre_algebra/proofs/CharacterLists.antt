@@ -1,9 +1,8 @@
 -- The lists of the values at the pieces of the centre are those of all central characters.
-use Rattle.std.proofs.Common.{◌≡◌, ◌≢◌, ℕ, zero, suc, ◌+◌, ◌*◌, ◌/◌, ◌%◌, ◌<◌, ◌≤◌, Bool, true, false, List, [], ◌∷◌, length, get_or, refl, sym, ◌∙◌, ap, subst, arith, inl, inr, ◌⊎◌, eqb-true}
-use Rattle.std.specs.Prelude.{Contains, nat_eq}
+use Rattle.std.proofs.Common.{◌≡◌, ◌≢◌, ℕ, suc, ◌+◌, ◌*◌, ◌/◌, ◌%◌, ◌<◌, ◌≤◌, true, false, List, [], ◌∷◌, length, get_or, sym, ◌∙◌, ap, subst, arith, inl, inr, ◌⊎◌, eqb-true}
 use Rattle.std.proofs.Math.Dec.{eqb}
 use Rattle.std.proofs.Math.Nat.{div-add-mod, mod-eq_of_lt, mul-mod_right, mul_assoc, mul-one}
-use Rattle.std.proofs.lemmas.Bool.{cases_lt, cases_eq, eq-eqb, ne_eqb}
+use Rattle.std.proofs.lemmas.Bool.{cases_lt, cases_eq, eq-eqb}
 use mathlib.Core.Path.{fun_ext, ap₂}
 use Rattle.scan.specs.First.{all_below}
 use Rattle.scan.proofs.Places.{all_below-at, all_below-all}
@@ -11,7 +10,7 @@ use Rattle.algebra.specs.Structures.{CommRing}
 use Rattle.algebra.specs.Sums.{sum_below, multiple}
 use Rattle.algebra.specs.Below.{Below, below_equal}
 use Rattle.algebra.specs.Roots.{RootOfUnity}
-use Rattle.algebra.proofs.SumLaws.{sum_ext, multiple_zero, multiple_suc}
+use Rattle.algebra.proofs.SumLaws.{sum_ext}
 use Rattle.orders.specs.Order.{exponent_of}
 use Rattle.group_table.specs.Group.{product, identity_of}
 use Rattle.prime_field.specs.declared.mod_ring.ModRing.{ModRing}
@@ -27,10 +26,9 @@ use Rattle.twisted.specs.Algebra.{twisted_product}
 use Rattle.power_theory.specs.Traces.{HasCharacteristic}
 use Rattle.centre_powers.specs.CentralPowers.{unit_period}
 use Rattle.centre_powers.proofs.FixedPowers.{residues_central_powers}
-use Rattle.splitting_theory.specs.Lists.{Each, Pairwise}
-use Rattle.splitting_theory.specs.Splitting.{IsFixed, ZeroTest, number, Acts, IsPiece, Precedes, IsSplitting, pieces}
+use Rattle.splitting_theory.specs.Lists.{Each}
+use Rattle.splitting_theory.specs.Splitting.{IsFixed, ZeroTest, number, IsPiece, Precedes, IsSplitting, pieces}
 use Rattle.splitting_theory.specs.Algebras.{IsField, HasBasis, evaluate, IsCharacter, HasValues, Among}
-use Rattle.splitting_theory.proofs.Parts.{apart}
 use Rattle.splitting_theory.proofs.Pieces.{pieces_split}
 use Rattle.splitting_theory.proofs.Coordinates.{of_number, evaluate_is}
 use Rattle.splitting_theory.proofs.Characters.{scale_equal, values_character, character_listed}
@@ -193,8 +191,8 @@ module _ (ring : ModRing) (s : TwistedSubgroup) (twist : IsTwist s) (over : size
     count = sym (zipped_length AreNumbers es lists z) ∙ splitting_counts R (residue_field ring.q ring.listed) C (rank s) E ring.q es S;
   }
     where
-    in_order_of : (e f : Centre R U s twist divides) (xs ys : List ℕ) → IsPiece C ring.q E.at (rank s) e → IsPiece C ring.q E.at (rank s) f → Precedes C ring.q E.at (rank s) e f → AreNumbers e xs → AreNumbers f ys → IsBefore xs ys
-    in_order_of e f xs ys left right pair h k = in_order e f xs ys left right pair h k
+      in_order_of : (e f : Centre R U s twist divides) (xs ys : List ℕ) → IsPiece C ring.q E.at (rank s) e → IsPiece C ring.q E.at (rank s) f → Precedes C ring.q E.at (rank s) e f → AreNumbers e xs → AreNumbers f ys → IsBefore xs ys
+      in_order_of e f xs ys left right pair h k = in_order e f xs ys left right pair h k
 
   -- ---- such lists there are
 
