@@ -1,5 +1,5 @@
 -- Powers, Horner's sums and parts, number by number.
-use Rattle.std.proofs.Common.{◌≡◌, ℕ, zero, suc, ◌+◌, ◌-◌, ◌*◌, ◌<◌, ◌≤◌, Bool, true, false, List, [], ◌∷◌, ◌++◌, map, length, length-append, get_or, refl, sym, ◌∙◌, ap, subst, arith, inl, inr, ◌⊎◌}
+use Rattle.std.proofs.Common.{◌≡◌, ℕ, zero, suc, ◌+◌, ◌-◌, ◌*◌, ◌<◌, ◌≤◌, List, [], ◌++◌, length, length-append, get_or, refl, sym, ◌∙◌, ap, subst, arith, inl, inr, ◌⊎◌}
 use Rattle.std.proofs.Math.Nat.{zero-mod, suc-mul}
 use Rattle.std.proofs.Math.Numerals.{add-one}
 use Rattle.std.proofs.lemmas.Nat.{mul-le}
@@ -8,12 +8,12 @@ use Rattle.std.proofs.lemmas.Bool.{cases_lt}
 use Rattle.std.proofs.lemmas.List.{get_or_append_left, get_or-append-add, get_or-append_right}
 use mathlib.Core.Path.{fun_ext, ap₂}
 use Rattle.algebra.specs.Structures.{CommRing}
-use Rattle.algebra.specs.Below.{Below, below_equal}
+use Rattle.algebra.specs.Below.{Below}
 use Rattle.algebra.specs.Sums.{power}
 use Rattle.algebra.proofs.RingLaws.{one_mul}
 use Rattle.algebra.proofs.SumLaws.{power_zero, power_suc}
 use Rattle.prime_field.specs.Field.{field, field_residue}
-use Rattle.prime_field.specs.ResidueLists.{AreBelow, IsTabulated}
+use Rattle.prime_field.specs.ResidueLists.{IsTabulated}
 use Rattle.prime_field.proofs.ResidueSums.{residue_of_value}
 use Rattle.splitting_theory.specs.Splitting.{number, horner, part}
 use Rattle.splitting_theory.proofs.Parts.{horner_zero, horner_suc, part_is}
@@ -36,20 +36,20 @@ module _ (a : Structure) (t : ℕ) (e : List ℕ) where
     each = λ Z H i h k. ap (λ zs. field_residue a.q a.listed (get_or zs (i * a.rank + k.value) 0)) is ∙ at Z H i k h (cases_lt i j);
   }
     where
-    low : (k : ℕ) → k < length (xs ++ p) → (k < length xs) ⊎ (length xs ≤ k) → get_or (xs ++ p) k 0 < a.q
-    low k h (inl l) = subst (λ v. v < a.q) (sym (get_or_append_left xs p 0 k l)) (before.below k l)
-    low k h (inr l) = subst (λ v. v < a.q) (sym (get_or-append_right xs p (length xs) k 0 refl l)) (element.below (k - length xs) (omega (arith, length-append xs p)))
+      low : (k : ℕ) → k < length (xs ++ p) → (k < length xs) ⊎ (length xs ≤ k) → get_or (xs ++ p) k 0 < a.q
+      low k h (inl l) = subst (λ v. v < a.q) (sym (get_or_append_left xs p 0 k l)) (before.below k l)
+      low k h (inr l) = subst (λ v. v < a.q) (sym (get_or-append_right xs p (length xs) k 0 refl l)) (element.below (k - length xs) (omega (arith, length-append xs p)))
 
-    by : (i j k r n : ℕ) → i ≡ j → n ≡ j * r → i * r + k ≡ n + k
-    by i j k r n e c = ap (λ m. m * r + k) e ∙ ap (λ m. m + k) (sym c)
+      by : (i j k r n : ℕ) → i ≡ j → n ≡ j * r → i * r + k ≡ n + k
+      by i j k r n e c = ap (λ m. m * r + k) e ∙ ap (λ m. m + k) (sym c)
 
-    at : (Z : CommRing (Element a.q a.rank)) (H : HasStructure a Z) (i : ℕ) (k : Below a.rank) → i < j + 1 → (i < j) ⊎ (j ≤ i)
-        → field_residue a.q a.listed (get_or (xs ++ p) (i * a.rank + k.value) 0) ≡ Z.mul (power Z (H.basis t) i) (residues a e) k
-    at Z H i k h (inl l) =
-        ap (field_residue a.q a.listed) (get_or_append_left xs p 0 (i * a.rank + k.value) (let row = rows_below i j a.rank l in let b = k.below in let c = before.count in omega arith)) ∙ before.each Z H i l k
-    at Z H i k h (inr l) =
-        let same : i ≡ j = omega arith in
-        ap (field_residue a.q a.listed) (ap (λ n. get_or (xs ++ p) n 0) (by i j k.value a.rank (length xs) same before.count) ∙ get_or-append-add xs p k.value 0) ∙ ap (λ (z : Element a.q a.rank). z k) (here Z H) ∙ ap (λ n. Z.mul (power Z (H.basis t) n) (residues a e) k) (sym same)
+      at : (Z : CommRing (Element a.q a.rank)) (H : HasStructure a Z) (i : ℕ) (k : Below a.rank) → i < j + 1 → (i < j) ⊎ (j ≤ i)
+          → field_residue a.q a.listed (get_or (xs ++ p) (i * a.rank + k.value) 0) ≡ Z.mul (power Z (H.basis t) i) (residues a e) k
+      at Z H i k h (inl l) =
+          ap (field_residue a.q a.listed) (get_or_append_left xs p 0 (i * a.rank + k.value) (let row = rows_below i j a.rank l in let b = k.below in let c = before.count in omega arith)) ∙ before.each Z H i l k
+      at Z H i k h (inr l) =
+          let same : i ≡ j = omega arith in
+          ap (field_residue a.q a.listed) (ap (λ n. get_or (xs ++ p) n 0) (by i j k.value a.rank (length xs) same before.count) ∙ get_or-append-add xs p k.value 0) ∙ ap (λ (z : Element a.q a.rank). z k) (here Z H) ∙ ap (λ n. Z.mul (power Z (H.basis t) n) (residues a e) k) (sym same)
 
   pub power_none : (Z : CommRing (Element a.q a.rank)) (H : HasStructure a Z) → residues a e ≡ Z.mul (power Z (H.basis t) 0) (residues a e)
   power_none Z H = sym (ap (λ x. Z.mul x (residues a e)) (power_zero Z (H.basis t)) ∙ one_mul Z (residues a e))

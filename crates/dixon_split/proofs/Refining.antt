@@ -59,16 +59,16 @@ module _ (a : Structure) (Z : CommRing (Element a.q a.rank)) (T : ZeroTest Z) (H
   pub first_one : (numbers : List ℕ) → IsTabulated a.rank (λ k. cond (eqb k 0) 1 0) numbers → residues a numbers ≡ Z.one
   first_one numbers h = fun_ext (λ k. ap (field_residue a.q a.listed) (h.each k.value k.below) ∙ by (eqb k.value 0) ∙ sym (H.one_at k))
     where
-    by : (b : Bool) → field_residue a.q a.listed (cond b 1 0) ≡ pick (field a.q a.listed) b (field a.q a.listed).one
-    by true = sym (pick_true (field a.q a.listed) (field a.q a.listed).one)
-    by false = sym (pick_false (field a.q a.listed) (field a.q a.listed).one)
+      by : (b : Bool) → field_residue a.q a.listed (cond b 1 0) ≡ pick (field a.q a.listed) b (field a.q a.listed).one
+      by true = sym (pick_true (field a.q a.listed) (field a.q a.listed).one)
+      by false = sym (pick_false (field a.q a.listed) (field a.q a.listed).one)
 
 pub first_is_element : (a : Structure) (numbers : List ℕ) → IsTabulated a.rank (λ k. cond (eqb k 0) 1 0) numbers → IsElement a.q a.rank numbers
 first_is_element a numbers h = record { count = h.count; below = λ k below. subst (λ v. v < a.q) (sym (h.each k (let c = h.count in omega arith))) (small (eqb k 0)) }
   where
-  small : (b : Bool) → cond b 1 0 < a.q
-  small true = modulus_over_one a.q a.listed
-  small false = modulus_positive a.q a.listed
+    small : (b : Bool) → cond b 1 0 < a.q
+    small true = modulus_over_one a.q a.listed
+    small false = modulus_positive a.q a.listed
 
 -- what holds of all holds of the one at an index
 pub good_here : (a : Structure) (Z : CommRing (Element a.q a.rank)) {V : Type 0} (f : V → Element a.q a.rank) (ps : List V) (i : ℕ) (p : V) (x : Element a.q a.rank) → i < length ps → p ≡ get_or ps i p → x ≡ f p

@@ -1,14 +1,12 @@
 -- Lists of residues as elements of an algebra with a structure.
-use Rattle.std.proofs.Common.{◌≡◌, ℕ, zero, suc, ◌+◌, ◌*◌, ◌<◌, ◌≤◌, Result, Ok, Err, IfOk, List, get_or, refl, sym, ◌∙◌, ap, subst, arith}
+use Rattle.std.proofs.Common.{◌≡◌, ℕ, suc, ◌+◌, ◌*◌, ◌<◌, ◌≤◌, Result, Ok, Err, IfOk, List, get_or, sym, ◌∙◌, ap, subst, arith}
 use Rattle.std.proofs.Math.Nat.{suc-mul, mul-le-mul_right}
 use mathlib.Core.Path.{fun_ext}
 use Rattle.algebra.specs.Structures.{CommRing}
-use Rattle.algebra.specs.Below.{Below, below_equal}
 use Rattle.algebra.specs.Sums.{sum_below}
 use Rattle.prime_field.specs.Field.{field, field_residue}
-use Rattle.prime_field.specs.ResidueLists.{IsTabulated, AreBelow}
-use Rattle.prime_field.proofs.ResidueSums.{residue_of_value}
-use Rattle.dixon_split.specs.Elements.{Element, element_of, IsElement}
+use Rattle.prime_field.specs.ResidueLists.{IsTabulated}
+use Rattle.dixon_split.specs.Elements.{Element, IsElement}
 use Rattle.dixon_split.specs.Structures.{constant, image_value, residues, HasStructure}
 use Rattle.dixon_split.specs.declared.structure.Structure.{Structure}
 

@@ -1,6 +1,5 @@
 -- Lists of r residues, as elements of an algebra with r elements in its basis.
-use Rattle.std.specs.Prelude.{◌≡◌, ℕ, ◌<◌, true, List, map, length, slice_index}
-use Rattle.std.specs.Prelude.{Vec}
+use Rattle.std.specs.Prelude.{◌≡◌, ℕ, true, List, length, slice_index}
 use Rattle.algebra.specs.Below.{Below}
 use Rattle.prime_field.specs.Moduli.{is_modulus}
 use Rattle.prime_field.specs.Field.{field_residue}

@@ -1,11 +1,11 @@
 -- Powers of an element of the basis on an element, and the parts that they add up to.
-use Rattle.std.specs.Prelude.{◌≡◌, ℕ, zero, suc, ◌+◌, ◌*◌, ◌<◌, List, map, All, length, slice_index}
+use Rattle.std.specs.Prelude.{◌≡◌, ℕ, zero, suc, ◌+◌, ◌*◌, ◌<◌, List, map, length, slice_index}
 use Rattle.algebra.specs.Structures.{CommRing}
 use Rattle.algebra.specs.Below.{Below}
 use Rattle.algebra.specs.Sums.{power}
 use Rattle.prime_field.specs.Field.{field, field_residue}
 use Rattle.prime_field.specs.ResidueLists.{AreBelow}
-use Rattle.dixon_split.specs.Elements.{Element, IsElement}
+use Rattle.dixon_split.specs.Elements.{Element}
 use Rattle.dixon_split.specs.Structures.{residues, HasStructure}
 use Rattle.dixon_split.specs.declared.structure.Structure.{Structure}
 

@@ -1,7 +1,5 @@
 -- Algebras modulo q by the numbers by which the elements of a basis multiply (textbook).
-use Rattle.std.specs.Prelude.{◌≡◌, ℕ, ◌+◌, ◌*◌, ◌<◌, ◌==◌, Bool, List, map, slice_index}
-use Rattle.std.specs.Prelude.{Vec}
-use Rattle.scan.specs.First.{all_below}
+use Rattle.std.specs.Prelude.{◌≡◌, ℕ, ◌+◌, ◌*◌, ◌<◌, ◌==◌, List, slice_index}
 use Rattle.algebra.specs.Structures.{CommRing}
 use Rattle.algebra.specs.Below.{Below}
 use Rattle.algebra.specs.Sums.{sum_below, pick}

@@ -49,15 +49,16 @@ fn image_numbers(alloc: Global, algebra: &Structure, t: u32, e: &[u32]) -> Resul
     requires element { IsElement algebra.now.q algebra.now.rank e.now }
     ensures values { IfOk result (λ next. IsTabulated algebra.now.rank (image_value algebra.now t e.now) next.items) }
 {
-    tabulate(
-        alloc,
-        algebra.rank,
-        |k| image_at(algebra, t, e, k),
-    )
+    tabulate(alloc, algebra.rank, |k| image_at(algebra, t, e, k))
 }
 
 // The product of the `t`-th element of the basis and the element with these numbers.
-pub(crate) fn image(alloc: Global, algebra: &Structure, t: u32, e: &[u32]) -> Result<Vec<u32>, Memory>
+pub(crate) fn image(
+    alloc: Global,
+    algebra: &Structure,
+    t: u32,
+    e: &[u32],
+) -> Result<Vec<u32>, Memory>
     requires t_below { t < algebra.now.rank }
     requires element { IsElement algebra.now.q algebra.now.rank e.now }
     ensures element { IfOk result (λ next. IsElement algebra.now.q algebra.now.rank next.items) }

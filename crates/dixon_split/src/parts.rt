@@ -50,17 +50,18 @@ fn part_at(algebra: &Structure, powers: &[u32], v: u32, k: u32) -> u32
 }
 
 // The numbers of the part at `v`.
-fn part_numbers(alloc: Global, algebra: &Structure, powers: &[u32], v: u32) -> Result<Vec<u32>, Memory>
+fn part_numbers(
+    alloc: Global,
+    algebra: &Structure,
+    powers: &[u32],
+    v: u32,
+) -> Result<Vec<u32>, Memory>
     requires count { length powers.now ≡ algebra.now.q * algebra.now.rank }
     requires below { AreBelow algebra.now.q powers.now }
     requires v_below { v < algebra.now.q }
     ensures values { IfOk result (λ part. IsTabulated algebra.now.rank (part_value algebra.now powers.now v) part.items) }
 {
-    tabulate(
-        alloc,
-        algebra.rank,
-        |k| part_at(algebra, powers, v, k),
-    )
+    tabulate(alloc, algebra.rank, |k| part_at(algebra, powers, v, k))
 }
 
 // The part at `v` of the element whose powers these are.

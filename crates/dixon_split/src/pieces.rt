@@ -32,7 +32,12 @@ fn multiple_of(algebra: &Structure, image: &[u32], e: &[u32]) -> Option<u32>
 }
 
 // The number by which the `t`-th element of the basis multiplies the element, if it does so by one.
-pub(crate) fn multiplier(alloc: Global, algebra: &Structure, t: u32, e: &[u32]) -> Result<Option<u32>, Memory>
+pub(crate) fn multiplier(
+    alloc: Global,
+    algebra: &Structure,
+    t: u32,
+    e: &[u32],
+) -> Result<Option<u32>, Memory>
     requires t_below { t < algebra.now.rank }
     requires element { IsElement algebra.now.q algebra.now.rank e.now }
     ensures below { IfOk result (λ found. IfSome found (λ v. v < algebra.now.q)) }
@@ -68,7 +73,12 @@ fn push_parts(
 }
 
 // The parts of each piece that aren't nought, under the `t`-th element of the basis.
-fn refined(alloc: Global, algebra: &Structure, t: u32, pieces: &[Vec<u32>]) -> Result<Vec<Vec<u32>>, Memory>
+fn refined(
+    alloc: Global,
+    algebra: &Structure,
+    t: u32,
+    pieces: &[Vec<u32>],
+) -> Result<Vec<Vec<u32>>, Memory>
     requires t_below { t < algebra.now.rank }
     requires elements { All (λ piece. IsElement algebra.now.q algebra.now.rank piece.items) pieces.now }
     ensures elements { IfOk result (λ next. All (λ piece. IsElement algebra.now.q algebra.now.rank piece.items) next.items) }

@@ -1,6 +1,5 @@
-use Rattle.std.proofs.Common.{◌≡◌, ◌+◌, ◌*◌, ◌<◌, length, get_or, sym, ap, ◌∙◌, arith, refl}
+use Rattle.std.proofs.Common.{get_or, sym, ap, ◌∙◌, refl}
 use Rattle.std.proofs.Math.Nat.{zero-mod}
-use Rattle.algebra.specs.Sums.{sum_below}
 use Rattle.algebra.proofs.SumLaws.{sum_zero}
 use Rattle.prime_field.specs.Field.{field, field_residue}
 use Rattle.prime_field.specs.Laws.Moduli.{modulus_positive}
@@ -27,4 +26,3 @@ loop-j-preserved c = record {
       c.loop-j.invariant.so_far refl
       (c.plus_product-sum.ensures.residue c.args.algebra.now.listed ∙ ap (λ f. ((field c.args.algebra.now.q c.args.algebra.now.listed).add (field_residue c.args.algebra.now.q c.args.algebra.now.listed c.loop-j.sum) ((field c.args.algebra.now.q c.args.algebra.now.listed).mul (field_residue c.args.algebra.now.q c.args.algebra.now.listed (get_or c.args.e.now c.loop-j.j 0)) (field_residue c.args.algebra.now.q c.args.algebra.now.listed f))).value) c.constant-factor.ensures.constant);
 }
-

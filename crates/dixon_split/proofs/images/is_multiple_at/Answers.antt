@@ -1,4 +1,4 @@
-use Rattle.std.proofs.Common.{length, arith, get_or}
+use Rattle.std.proofs.Common.{arith, get_or}
 use Rattle.prime_field.proofs.Inverses.{residues_fit}
 use Rattle.dixon_split.proofs.images.is_multiple_at.Goals as goal
 

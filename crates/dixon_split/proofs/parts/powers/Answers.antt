@@ -1,6 +1,4 @@
 use Rattle.std.proofs.Common.{◌≡◌, ◌∙◌, ◌++◌, ap, sym, subst, arith}
-use Rattle.std.proofs.Math.Numerals.{add-one}
-use Rattle.algebra.specs.Sums.{power}
 use Rattle.dixon_split.specs.Elements.{IsElement}
 use Rattle.dixon_split.specs.Structures.{residues}
 use Rattle.dixon_split.specs.Layers.{ArePowers}

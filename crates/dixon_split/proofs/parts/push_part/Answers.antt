@@ -1,4 +1,4 @@
-use Rattle.std.proofs.Common.{◌≡◌, ◌∙◌, ap, sym, subst, true, false, map, get_or}
+use Rattle.std.proofs.Common.{◌∙◌, ap, sym, map, get_or}
 use Rattle.std.proofs.Math.Dec.{eqb}
 use Rattle.scan.specs.First.{all_below}
 use Rattle.dixon_split.specs.Structures.{residues}

@@ -1,7 +1,6 @@
 use Rattle.std.proofs.Common.{◌≡◌, ◌≢◌, ◌∙◌, ◌∷◌, [], map, ap, sym, subst, arith, All}
 use Rattle.std.specs.Prelude.{flat_map}
 use Rattle.std.proofs.Math.Numerals.{add-one}
-use Rattle.std.proofs.lemmas.List.Elements.{All-nil, All-cons}
 use Rattle.splitting_theory.specs.Splitting.{pieces, parts_below}
 use Rattle.splitting_theory.proofs.Pieces.{pieces_zero, pieces_suc}
 use Rattle.dixon_split.specs.Elements.{IsElement}

@@ -1,6 +1,5 @@
-use Rattle.std.proofs.Common.{◌∙◌, ap, sym, get_or}
+use Rattle.std.proofs.Common.{◌∙◌, ap}
 use Rattle.scan.specs.First.{first}
-use Rattle.dixon_split.specs.Structures.{residues}
 use Rattle.dixon_split.proofs.Multiples.{found_multiple, found_acts, not_found, found_below}
 use Rattle.dixon_split.proofs.pieces.multiplier.Goals as goal
 

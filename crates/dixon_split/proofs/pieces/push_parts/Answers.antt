@@ -1,4 +1,4 @@
-use Rattle.std.proofs.Common.{◌≡◌, ◌∙◌, ◌++◌, ◌∷◌, [], ◌<◌, map, ap, sym, subst}
+use Rattle.std.proofs.Common.{◌≡◌, ◌∙◌, ◌++◌, ◌∷◌, [], ◌<◌, map, ap, sym}
 use Rattle.splitting_theory.specs.Splitting.{number}
 use Rattle.splitting_theory.proofs.Pieces.{parts_single}
 use Rattle.dixon_split.specs.Structures.{residues}

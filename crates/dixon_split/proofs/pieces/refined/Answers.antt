@@ -1,4 +1,4 @@
-use Rattle.std.proofs.Common.{◌≡◌, ◌≢◌, ◌∙◌, ◌++◌, map, take, length, ap, sym, subst, arith}
+use Rattle.std.proofs.Common.{◌∙◌, ◌++◌, map, take, ap, sym, arith}
 use Rattle.std.specs.Prelude.{flat_map}
 use Rattle.splitting_theory.specs.Splitting.{parts_below}
 use Rattle.dixon_split.specs.Structures.{residues}
