@@ -5,13 +5,13 @@ use Rattle.std.specs.Option.{option_map_or}
 use Rattle.std.proofs.lemmas.Bool.{cases_lt, lt-ltb, ltb-false, ne_eqb}
 use Rattle.std.proofs.lemmas.Nat.{div-mul-add, mod-mul-add, div-add-mod', row_fits}
 use mathlib.Core.Path.{ap₂}
-use Rattle.fusion_web.specs.Entries.{Entry, WebEntries, IsEntry, IsWeb, entry_at, count_of, kept_from, row_from, row_of, into_from, into_of}
+use Rattle.fusion_web.specs.Entries.{WebEntries, IsWeb, entry_at, count_of, kept_from, row_from, row_of, into_from, into_of}
 use Rattle.fusion_web.specs.Rings.{IsNext, IsFirst, IsEmpty}
-use Rattle.fusion_web.specs.Links.{pair_number, ring_of, key_of, Follows, IsHead}
+use Rattle.fusion_web.specs.Links.{pair_number, Follows, IsHead}
 use Rattle.fusion_web.specs.Walks.{row_rest, into_rest, LeadsTo}
 use Rattle.fusion_web.specs.declared.side.Side.{Side}
 use Rattle.fusion_web.specs.declared.side.Side.TheVariants.{Row, Into}
-use Rattle.fusion_web.proofs.EntryLaws.{cases, IsOf, count_of-entry, count_of-none}
+use Rattle.fusion_web.proofs.EntryLaws.{cases, count_of-entry, count_of-none}
 use Rattle.fusion_web.proofs.WebLaws.{pair_apart}
 
 module _ {A : Type 0} (keep : A → Bool) (item : ℕ → A) (n : ℕ) where

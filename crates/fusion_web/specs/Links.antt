@@ -1,5 +1,5 @@
 -- The two rings in which each entry of a web stands: that of its pair, by k, and that of its result, by i, then j.
-use Rattle.std.specs.Prelude.{◌≡◌, ℕ, ◌*◌, ◌+◌, ◌<◌, Option, MatchOption, List, length, map, slice_index_or}
+use Rattle.std.specs.Prelude.{◌≡◌, ℕ, ◌*◌, ◌+◌, Option, MatchOption, List, length, map, slice_index_or}
 use Rattle.fusion_web.specs.Entries.{Entry, WebEntries, IsWeb, entry_at}
 use Rattle.fusion_web.specs.Rings.{IsNext, IsFirst, IsEmpty, IsRinged}
 use Rattle.fusion_web.specs.declared.node.Node.{Node}

@@ -1,4 +1,4 @@
-use Rattle.std.proofs.Common.{◌<◌, ℕ, length, map, arith, subst, sym}
+use Rattle.std.proofs.Common.{ℕ, length, subst, sym}
 use Rattle.std.proofs.lemmas.List.{length-map}
 use Rattle.fusion_web.specs.Links.{entry_of, ring_at, key_at, next_at}
 use Rattle.fusion_web.specs.Rings.{IsFirst}

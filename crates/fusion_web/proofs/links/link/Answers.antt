@@ -1,7 +1,7 @@
-use Rattle.std.proofs.Common.{◌≡◌, ◌<◌, ◌∙◌, ℕ, List, length, sym, ap, subst, arith, get_or, set, None, Some, map}
+use Rattle.std.proofs.Common.{◌<◌, ◌∙◌, ℕ, List, length, sym, ap, subst, arith, get_or, set, None, Some, map}
 use Rattle.fusion_web.specs.declared.node.Node.{Node}
-use Rattle.fusion_web.specs.Links.{entry_of, node_at, ring_at, key_at, next_at, ring_of, key_of, AreLinked}
-use Rattle.fusion_web.proofs.NodeLaws.{ring_seen, key_seen, entries_kept, relinked, linked_alone, linked_last, linked_between, with_last, twice, twice_is, twice_entries}
+use Rattle.fusion_web.specs.Links.{entry_of, ring_at, AreLinked}
+use Rattle.fusion_web.proofs.NodeLaws.{ring_seen, key_seen, entries_kept, linked_alone, linked_last, linked_between, with_last, twice_is}
 use Rattle.fusion_web.proofs.links.link.Goals as goal
 
 pub returns-in_default-clause-entries : goal.returns-in_default-clause-entries

@@ -1,4 +1,4 @@
-use Rattle.std.proofs.Common.{◌≡◌, ◌∙◌, ◌*◌, ◌%◌, ◌+◌, ◌-◌, ap}
+use Rattle.std.proofs.Common.{◌∙◌, ◌*◌, ◌%◌, ◌+◌, ◌-◌, ap}
 use Rattle.std.proofs.lemmas.Nat.{mul-mod_second}
 use mathlib.Core.Path.{ap₂}
 use Rattle.indicators.proofs.numerator.quotient_exponent.Goals as goal

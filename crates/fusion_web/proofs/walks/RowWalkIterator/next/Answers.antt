@@ -1,4 +1,4 @@
-use Rattle.std.proofs.Common.{◌≡◌, ◌∙◌, ◌∷◌, Some, length, sym, ap, arith, rules}
+use Rattle.std.proofs.Common.{◌≡◌, ◌∙◌, ◌∷◌, Some, length, sym, ap, rules}
 use Rattle.fusion_web.specs.Entries.{Entry}
 use Rattle.fusion_web.specs.Walks.{row_rest}
 use Rattle.fusion_web.proofs.WalkLaws.{row_step}

@@ -1,7 +1,7 @@
-use Rattle.std.proofs.Common.{◌≡◌, ◌<◌, ℕ, ◌∙◌, List, ◌++◌, ◌∷◌, [], length, map, sym, ap, subst, arith}
+use Rattle.std.proofs.Common.{◌≡◌, ◌<◌, ◌∙◌, length, sym, ap, arith}
 use Rattle.std.proofs.lemmas.List.{length-map}
 use Rattle.fusion_web.specs.Entries.{WebEntries, IsEntry, count_of, most_nodes}
-use Rattle.fusion_web.specs.Links.{entry_of, web_of, IsLinkedWeb}
+use Rattle.fusion_web.specs.Links.{entry_of, web_of}
 use Rattle.fusion_web.specs.declared.node.Node.{Node}
 use Rattle.fusion_web.specs.declared.side.Side.TheVariants.{Row, Into}
 use Rattle.fusion_web.proofs.WebLaws.{written, web_pushed, still_linked, linked_as_written}

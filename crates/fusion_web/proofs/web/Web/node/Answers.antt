@@ -1,4 +1,4 @@
-use Rattle.std.proofs.Common.{◌≡◌, ◌<◌, ℕ, ◌∙◌, sym, ap, subst, arith, length, get_or}
+use Rattle.std.proofs.Common.{◌≡◌, ◌<◌, ℕ, ◌∙◌, sym, ap, subst, arith, length}
 use Rattle.std.proofs.lemmas.List.{length-map, get_or_default}
 use Rattle.fusion_web.specs.Entries.{WebEntries}
 use Rattle.fusion_web.specs.Links.{entry_of, no_node, next_at, ring_at, key_at, web_of, Follows}
