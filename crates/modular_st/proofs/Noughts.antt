@@ -12,8 +12,8 @@ use Rattle.cyclotomic.proofs.Images.{image-sum}
 use Rattle.cyclotomic.proofs.Sizes.{size-zeros}
 use Rattle.qd_ring.proofs.SpreadLaws.{product-nought}
 use Rattle.table_check.specs.Formed.{Formed, conjugated, multiplied, where_so}
-use Rattle.table_check.specs.Totals.{IsTotal}
-use Rattle.table_check.proofs.Totals.{total_more}
+use Rattle.qd_ring.specs.Totals.{IsTotal}
+use Rattle.qd_ring.proofs.TotalLaws.{total_more}
 
 -- it fits, and is 0
 pub record IsNought {k : ℕ} (u : Formed k) : Type 0 where

@@ -8,7 +8,7 @@ use Rattle.classes.specs.Conjugacy.{class_of}
 use Rattle.qd_ring.specs.declared.cyc.Cyc.{Cyc}
 use Rattle.qd_ring.specs.declared.site.Site.{Site}
 use Rattle.table_check.specs.Formed.{Forms, conjugated, where_so}
-use Rattle.table_check.proofs.Totals.{total_misses}
+use Rattle.qd_ring.proofs.TotalLaws.{total_misses}
 use Rattle.transport.specs.Simples.{SimplesOver, count, class_at}
 use Rattle.transport.specs.FullCharacters.{full_character}
 use Rattle.transport.specs.SSums.{commute, pair_term, s_sum}

@@ -5,7 +5,7 @@ ghost use Rattle.group_table.specs.Group.{product};
 ghost use Rattle.classes.specs.Conjugacy.{class_of};
 ghost use Rattle.cyclotomic.specs.CyclotomicRing.{cyclotomic_value};
 ghost use Rattle.table_check.specs.Formed.{Forms};
-ghost use Rattle.table_check.specs.Totals.{IsTotal};
+ghost use Rattle.qd_ring.specs.Totals.{IsTotal};
 ghost use Rattle.transport.specs.Simples.{count, class_at};
 ghost use Rattle.transport.specs.SSums.{commute, pair_term, s_sum};
 ghost use Rattle.modular_st.specs.Numerators.{s_term};

@@ -1,7 +1,6 @@
 -- Sizes of arrays and of the values that they stand for, and the special images.
-use Rattle.qd_ring.specs.ArrayLaws.{array_length, size-padded, size-value}
-use Rattle.std.proofs.Common.{◌≡◌, ℕ, ◌-◌, ◌*◌, ◌^◌, ◌%◌, ◌≤◌, ◌<◌, true, false, List, length, sym, ap, ◌∙◌, subst, arith, nat_le, nat_lt}
-use Rattle.std.proofs.Math.Nat.{mul-le-mul}
+use Rattle.qd_ring.specs.ArrayLaws.{array_length, size-padded}
+use Rattle.std.proofs.Common.{◌≡◌, ℕ, ◌-◌, ◌*◌, ◌^◌, ◌%◌, ◌≤◌, ◌<◌, true, false, List, length, sym, ap, ◌∙◌, subst, arith, nat_le}
 use Rattle.std.specs.Prelude.{ℤ}
 use borrow.Author.Tests.{leb-true, le-leb, lt-leb, lt-ltb, le-ltb}
 use mathlib.Core.Path.{ap₂}
@@ -9,7 +8,7 @@ use Rattle.cyclotomic.specs.Cyclotomic.{cyclotomic}
 use Rattle.cyclotomic.specs.Conductors.{is_conductor}
 use Rattle.cyclotomic.specs.Fit.{size_of, value_size, value_fits, product_fits, greatest_magnitude}
 use Rattle.cyclotomic.specs.Ring.{Value, value_product}
-use Rattle.cyclotomic.specs.CyclotomicRing.{CyclotomicValue, cyclotomic_value, galois_image, root, remainder_ring}
+use Rattle.cyclotomic.specs.CyclotomicRing.{CyclotomicValue, galois_image, root, remainder_ring}
 use Rattle.algebra.proofs.RingLaws.{one_mul}
 use Rattle.cyclotomic.proofs.Images.{root-zero, image-one_power}
 use Rattle.cyclotomic.proofs.Inverses.{galois_modulo}
@@ -36,15 +35,6 @@ module _ (k : ℕ) (entry : is_conductor k ≡ true) where
 
   pub small_total : (xs : List ℤ) → is_array k xs ≡ true → is_small xs ≡ true → total_of xs < 2 ^ 126
   small_total xs array small = omega (arith, total_bound xs array, small_means xs small)
-
-  pub product_room : (xs ys : List ℤ) → is_array k xs ≡ true → is_array k ys ≡ true → size_of xs * size_of ys < 2 ^ 108 → total_of xs * total_of ys < 2 ^ 126
-  product_room xs ys a b h =
-      let both : total_of xs * total_of ys ≤ (42 * size_of xs) * (42 * size_of ys) = mul-le-mul (total_bound xs a) (total_bound ys b) in
-      omega (arith, both, h)
-
-  pub product_fits-sizes : (xs ys : List ℤ) → is_array k xs ≡ true → is_array k ys ≡ true → product_fits (cyclotomic_value k xs) (cyclotomic_value k ys) ≡ nat_lt (size_of xs * size_of ys) (2 ^ 108)
-  unfolding product_fits
-  product_fits-sizes xs ys a b = ap₂ (λ x y. nat_lt (x * y) (2 ^ 108)) (size-value k entry xs a) (size-value k entry ys b)
 
   -- the images that the calls use
   pub image_alone : (t : ℕ) (u : CyclotomicValue k) → value_product (cyclotomic k) (root k 0) (galois_image k t u) ≡ galois_image k t u
@@ -73,14 +63,11 @@ pub fits-product : (k : ℕ) → is_conductor k ≡ true → (u v : CyclotomicVa
 fits-product k entry u v xs e fits = ap is_small e ∙ small-array_of (value_product (cyclotomic k) u v) ∙ product_that_fits k entry u v fits
 
 -- ---- the test of a product
-module _ (k : ℕ) (entry : is_conductor k ≡ true) (xs ys : List ℤ) (a : is_array k xs ≡ true) (b : is_array k ys ≡ true) (s t : ℕ) (s_is : s ≡ size_of xs) (t_is : t ≡ size_of ys) where
-  pub product_small : (n : ℕ) → n ≡ s * t → n < 2 ^ 108 → size_of xs * size_of ys < 2 ^ 108
-  product_small n e h = subst (λ z. z < 2 ^ 108) (e ∙ ap₂ (λ x y. x * y) s_is t_is) h
+module _ (k : ℕ) (u v : CyclotomicValue k) (s t : ℕ) (s_is : s ≡ value_size u) (t_is : t ≡ value_size v) where
+  pub fits_by_sizes : s * t < 2 ^ 108 → product_fits u v ≡ true
+  unfolding product_fits
+  fits_by_sizes h = lt-ltb (value_size u * value_size v) (2 ^ 108) (subst (λ z. z < 2 ^ 108) (ap₂ (λ x y. x * y) s_is t_is) h)
 
-  pub product_yes : (n : ℕ) → n ≡ s * t → n < 2 ^ 108 → product_fits (cyclotomic_value k xs) (cyclotomic_value k ys) ≡ true
-  product_yes n e h = product_fits-sizes k entry xs ys a b ∙ lt-ltb (size_of xs * size_of ys) (2 ^ 108) (product_small n e h)
-
-  pub product_no : 2 ^ 108 ≤ s * t → product_fits (cyclotomic_value k xs) (cyclotomic_value k ys) ≡ false
-  product_no h =
-      product_fits-sizes k entry xs ys a b
-      ∙ le-ltb (size_of xs * size_of ys) (2 ^ 108) (subst (λ z. 2 ^ 108 ≤ z) (ap₂ (λ x y. x * y) s_is t_is) h)
+  pub unfit_by_sizes : 2 ^ 108 ≤ s * t → product_fits u v ≡ false
+  unfolding product_fits
+  unfit_by_sizes h = le-ltb (value_size u * value_size v) (2 ^ 108) (subst (λ z. 2 ^ 108 ≤ z) (ap₂ (λ x y. x * y) s_is t_is) h)

@@ -16,3 +16,8 @@ pub mod SpreadLaws
 pub mod ProductLaws
 pub mod CycLaws
 pub mod CycSums
+pub mod RootSumLaws
+pub mod SizeLaws
+pub mod TotalLaws
+pub mod SparseLaws
+pub mod FoldingLaws

@@ -1,9 +1,9 @@
 -- Adding a polynomial at x^t, times a power of x, place by place modulo K.
-use Rattle.std.proofs.Common.{◌≡◌, ℕ, zero, suc, ◌+◌, ◌*◌, ◌^◌, ◌%◌, ◌≤◌, ◌<◌, true, List, [], ◌∷◌, length, get_or, take, refl, sym, ap, ◌∙◌, arith, mul-zero}
+use Rattle.std.proofs.Common.{◌≡◌, ℕ, zero, suc, ◌+◌, ◌*◌, ◌%◌, ◌≤◌, ◌<◌, true, List, [], ◌∷◌, length, get_or, take, refl, sym, ap, ◌∙◌, arith, mul-zero}
 use Rattle.std.proofs.Math.Nat.{mod-add-mod, mod-eq_of_lt, add-zero}
 use Rattle.std.proofs.Math.Seq.{take-length}
 use Rattle.std.proofs.Math.Numerals.{add-one}
-use Rattle.std.specs.Prelude.{ℤ, pos, ◌*ℤ◌, nat_abs}
+use Rattle.std.specs.Prelude.{ℤ, pos, nat_abs}
 use mathlib.Core.Path.{ap₂}
 use Rattle.cyclotomic.specs.Polynomial.{at_power}
 use Rattle.cyclotomic.specs.Division.{degree}
@@ -11,16 +11,12 @@ use Rattle.cyclotomic.specs.Cyclotomic.{cyclotomic}
 use Rattle.cyclotomic.specs.Conductors.{is_conductor}
 use Rattle.cyclotomic.specs.Ring.{Value, value_sum, value_multiple, value_nought, value_of, value_one, value_product, value_root}
 use Rattle.cyclotomic.specs.CyclotomicRing.{CyclotomicValue, cyclotomic_value, root}
-use Rattle.cyclotomic.specs.Laws.Action.{map_power, iterate, act, act-nil, act-scale, act-at_power, iterate-power, act-nought, act-cons, scale_nought}
+use Rattle.cyclotomic.specs.Laws.Action.{map_power, act-scale, act-at_power, iterate-power, act-nought}
 use Rattle.cyclotomic.specs.Laws.Values.{times_x, value_of-act, value_of-nil, product-act, product_sum, sum_assoc}
 use Rattle.cyclotomic.proofs.Images.{root_steps, root-sum}
 use Rattle.cyclotomic.proofs.Inverses.{root_modulo}
-use Rattle.cyclotomic.proofs.Sizes.{total_of, magnitude-product}
-use Rattle.std.proofs.lemmas.Int.{to_z-of_z}
-use Rattle.std.proofs.Math.Nat.{mul-le-mul_left}
-use mir.Syntax.{w128}
-use mir.Val.{SFits, to_z, of_z}
-use Rattle.qd_ring.proofs.BufferLaws.{act-take_suc, read_128}
+use Rattle.cyclotomic.proofs.Sizes.{total_of}
+use Rattle.qd_ring.proofs.BufferLaws.{act-take_suc}
 
 pub product-multiple : (m : List ℤ) (c : ℤ) (u v : Value (degree m)) → value_product m u (value_multiple c v) ≡ value_multiple c (value_product m u v)
 product-multiple m c u v =
@@ -99,62 +95,3 @@ module _ (k : ℕ) (entry : is_conductor k ≡ true) (start t : ℕ) (xs : List 
 
   pub spread_all : spread_by (length xs) ≡ value_product (cyclotomic k) (root k start) (cyclotomic_value k (at_power t xs))
   spread_all = ap (λ p. value_product (cyclotomic k) (root k start) (cyclotomic_value k (at_power t p))) (take-length xs)
-
--- ---- at x^1 a polynomial is itself
-pub value-at_power_one : (m p : List ℤ) → value_of m (at_power 1 p) ≡ value_of m p
-unfolding iterate
-value-at_power_one m p =
-    value_of-act m (at_power 1 p) ∙ act-at_power (times_x m) 1 p (value_one m) ∙ same p
-    ∙ sym (value_of-act m p)
-  where
-    same : (q : List ℤ) → act (map_power (times_x m) 1) q (value_one m) ≡ act (times_x m) q (value_one m)
-    same [] = act-nil (map_power (times_x m) 1) (value_one m) ∙ sym (act-nil (times_x m) (value_one m))
-    same (a ∷ q) =
-        act-cons (map_power (times_x m) 1) a q (value_one m)
-        ∙ ap (λ z. value_sum (value_multiple a (value_one m)) ((times_x m).map z)) (same q)
-        ∙ sym (act-cons (times_x m) a q (value_one m))
-
--- ---- a multiple of a polynomial, times a power of x
-module _ (k : ℕ) (entry : is_conductor k ≡ true) (start : ℕ) (c : ℤ) (xs : List ℤ) where
-  abbrev pub multiple_by : ℕ → CyclotomicValue k
-  multiple_by i = value_multiple c (spread_by k entry start 1 xs i)
-
-  pub multiple_none : multiple_by 0 ≡ value_nought
-  multiple_none =
-      ap (value_multiple c) (spread_none k entry start 1 xs) ∙ scale_nought (times_x (cyclotomic k)) c
-
-  pub multiple_step : (old now next : CyclotomicValue k) (i place : ℕ) → i < length xs → place ≡ (start + 1 * i) % k → now ≡ value_sum old (multiple_by i) → next ≡ value_sum now (value_multiple (c *ℤ get_or xs i (pos 0)) (root k place)) → next ≡ value_sum old (multiple_by (i + 1))
-  multiple_step old now next i place h e before is =
-      let M = times_x (cyclotomic k) in
-      let a = get_or xs i (pos 0) in
-      is ∙ ap₂ value_sum before (M.scale_product c a (root k place))
-      ∙ sum_assoc (cyclotomic k) old (multiple_by i) (value_multiple c (value_multiple a (root k place)))
-      ∙ ap (value_sum old)
-      (sym (M.scale_add c (spread_by k entry start 1 xs i) (value_multiple a (root k place)))
-      ∙ ap (value_multiple c) (sym (spread_more k entry start 1 xs i place h e)))
-
-  pub multiple_all : multiple_by (length xs) ≡ value_multiple c (value_product (cyclotomic k) (root k start) (cyclotomic_value k xs))
-  multiple_all =
-      ap (value_multiple c)
-      (spread_all k entry start 1 xs ∙ ap (value_product (cyclotomic k) (root k start)) (value-at_power_one (cyclotomic k) xs))
-
--- ---- the product of a factor and a coefficient
-module _ (f : ℤ) (xs : List ℤ) (i : ℕ) (here : i < length xs) (x_fits : SFits w128 (get_or xs i (pos 0))) where
-  pub factor_read : f *ℤ to_z w128 (of_z w128 (get_or xs i (pos 0))) ≡ f *ℤ get_or xs i (pos 0)
-  factor_read = ap (λ y. f *ℤ y) (to_z-of_z w128 (get_or xs i (pos 0)) x_fits)
-
-  pub factor_total : nat_abs f * total_of (take (suc i) xs) ≡ nat_abs f * total_of (take i xs) + nat_abs (f *ℤ get_or xs i (pos 0))
-  factor_total =
-      omega
-      (arith, ap (λ n. nat_abs f * n) (total-take_suc xs i here), magnitude-product f (get_or xs i (pos 0)))
-
-  pub factor_most : nat_abs f * total_of (take (suc i) xs) ≤ nat_abs f * total_of xs
-  factor_most = mul-le-mul_left (nat_abs f) (total-take xs (suc i))
-
-  module _ (room : nat_abs f * total_of xs < 2 ^ 126) where
-    pub factor_bound : nat_abs (f *ℤ get_or xs i (pos 0)) < 2 ^ 126
-    factor_bound = omega (arith, factor_total, factor_most, room)
-
-    pub factor_written : to_z w128 (of_z w128 (f *ℤ to_z w128 (of_z w128 (get_or xs i (pos 0))))) ≡ f *ℤ get_or xs i (pos 0)
-    factor_written =
-        ap (λ z. to_z w128 (of_z w128 z)) factor_read ∙ read_128 (f *ℤ get_or xs i (pos 0)) (omega (arith, factor_bound))

@@ -1,4 +1,9 @@
 pub mod Fit
+pub mod RootSums
+pub mod Formed
+pub mod Totals
+pub mod SparseValues
+pub mod Folding
 pub mod CycArrays
 pub mod CyclotomicFit
 pub mod ReductionSigns

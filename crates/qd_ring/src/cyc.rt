@@ -8,16 +8,14 @@ ghost use Rattle.cyclotomic.specs.CyclotomicRing.{CyclotomicValue, cyclotomic_va
 ghost use Rattle.cyclotomic.specs.Fit.{value_size, value_fits, product_fits, greatest_magnitude};
 ghost use Rattle.qd_ring.specs.CycArrays.{array_of, is_array, is_small};
 
-use crate::cyc_buffer::{all_zero, combine, image, is_padded, product, size};
+use crate::cyc_buffer::{all_zero, combine, image, is_padded, size};
 use crate::plain::Plain;
 use crate::reduction::reduction;
 use crate::root::Root;
+use crate::terms::Terms;
 
 /// The largest magnitude of a coefficient.
 const GREATEST: u128 = (1 << 120) - 1;
-
-/// A product of two values fits where the product of their sizes is below this number.
-const PRODUCT_LIMIT: u128 = 1 << 108;
 
 /// A value of the cyclotomic ring of conductor K that fits: a polynomial in x modulo the cyclotomic polynomial.
 ///
@@ -189,12 +187,7 @@ impl<const K: u32> Cyc<K> {
         ensures fits { is_some result ≡ product_fits (cyclotomic_value K self.now.coefficients) (cyclotomic_value K b.now.coefficients) }
         ensures value { IfSome result (λ value. cyclotomic_value K value.coefficients ≡ value_product (cyclotomic K) (cyclotomic_value K self.now.coefficients) (cyclotomic_value K b.now.coefficients)) }
     {
-        match size(&self.coefficients).checked_mul(size(&b.coefficients)) {
-            Some(sizes) if sizes < PRODUCT_LIMIT => Some(Cyc {
-                coefficients: product(K, &self.coefficients, &b.coefficients),
-            }),
-            _ => None,
-        }
+        Terms::of(self).try_mul(&Terms::of(b))
     }
 }
 

@@ -31,7 +31,7 @@ fn less_signed(a: i128, c: i128, sign: i8) -> i128
 }
 
 // Adds c at the place v: the multiple c x^v.
-fn add_at(buffer: &mut [i128], v: usize, c: i128)
+pub(crate) fn add_at(buffer: &mut [i128], v: usize, c: i128)
     requires place { v < length buffer.old }
     requires room { total_of buffer.old + nat_abs c < 2 ^ 126 }
     ensures value { (m : List ℤ) → value_of m buffer.new ≡ value_sum (value_of m buffer.old) (value_multiple c (value_root m v)) }
@@ -89,40 +89,6 @@ fn spread(k: u32, buffer: &mut [i128], coefficients: &[i128], start: u32, stride
     }
 }
 
-// Adds a multiple of the polynomial, times x^start, with exponents modulo k.
-fn add_multiple(k: u32, buffer: &mut [i128], factor: i128, coefficients: &[i128], start: u32)
-    requires conductor { is_conductor k ≡ true }
-    requires size { length buffer.old ≡ k }
-    requires start { start < k }
-    requires room { total_of buffer.old + nat_abs factor * total_of coefficients.now < 2 ^ 126 }
-    ensures value { cyclotomic_value k buffer.new ≡ value_sum (cyclotomic_value k buffer.old) (value_multiple factor (value_product (cyclotomic k) (root k start) (cyclotomic_value k coefficients.now))) }
-    ensures total { total_of buffer.new ≤ total_of buffer.old + nat_abs factor * total_of coefficients.now }
-{
-    let mut place = start;
-    for a in coefficients {
-        add_at(buffer, place as usize, factor * *a);
-        place = (place + 1) % k;
-    }
-}
-
-// Adds the product of two polynomials, with exponents modulo k.
-fn add_product(k: u32, buffer: &mut [i128], a: &[i128], b: &[i128])
-    requires conductor { is_conductor k ≡ true }
-    requires size { length buffer.old ≡ k }
-    requires factor { length a.now ≤ k }
-    requires room { total_of buffer.old + total_of a.now * total_of b.now < 2 ^ 126 }
-    ensures value { cyclotomic_value k buffer.new ≡ value_sum (cyclotomic_value k buffer.old) (value_product (cyclotomic k) (cyclotomic_value k a.now) (cyclotomic_value k b.now)) }
-    ensures total { total_of buffer.new ≤ total_of buffer.old + total_of a.now * total_of b.now }
-{
-    let mut power = 0;
-    for factor in a {
-        if *factor != 0 {
-            add_multiple(k, buffer, *factor, b, power);
-        }
-        power += 1;
-    }
-}
-
 // The first phi places of the buffer, then zeros.
 fn first_places(buffer: &[i128], phi: usize) -> [i128; 42]
     requires within { phi ≤ length buffer.now }
@@ -145,6 +111,17 @@ pub(crate) fn size(coefficients: &[i128]) -> u128
     largest
 }
 
+/// The value of the buffer, as an array; the buffer is used up.
+pub(crate) fn reduced(k: u32, buffer: &mut [i128]) -> [i128; 42]
+    requires conductor { is_conductor k ≡ true }
+    requires size { length buffer.old ≡ k }
+    requires room { total_of buffer.old < 2 ^ 126 }
+    ensures { result ≡ array_of (cyclotomic_value k buffer.old) }
+{
+    reduce(k, buffer);
+    first_places(buffer, reduction(k).len())
+}
+
 // The polynomial at x^stride, times x^start, reduced; the buffer is used up.
 fn reduced_image(k: u32, buffer: &mut [i128], a: &[i128], start: u32, stride: u32) -> [i128; 42]
     requires conductor { is_conductor k ≡ true }
@@ -155,21 +132,7 @@ fn reduced_image(k: u32, buffer: &mut [i128], a: &[i128], start: u32, stride: u3
     ensures { result ≡ array_of (value_product (cyclotomic k) (root k start) (cyclotomic_value k (at_power stride a.now))) }
 {
     spread(k, buffer, a, start, stride);
-    reduce(k, buffer);
-    first_places(buffer, reduction(k).len())
-}
-
-// The product of two polynomials, reduced; the buffer is used up.
-fn reduced_product(k: u32, buffer: &mut [i128], a: &[i128], b: &[i128]) -> [i128; 42]
-    requires conductor { is_conductor k ≡ true }
-    requires empty { buffer.old ≡ zeros k }
-    requires factor { length a.now ≤ k }
-    requires room { total_of a.now * total_of b.now < 2 ^ 126 }
-    ensures { result ≡ array_of (value_product (cyclotomic k) (cyclotomic_value k a.now) (cyclotomic_value k b.now)) }
-{
-    add_product(k, buffer, a, b);
-    reduce(k, buffer);
-    first_places(buffer, reduction(k).len())
+    reduced(k, buffer)
 }
 
 /// The image of a value under x to x^stride, times x^start.
@@ -184,19 +147,6 @@ pub(crate) fn image(k: u32, a: &[i128; 42], start: u32, stride: u32) -> [i128; 4
     let phi = reduction(k).len();
     let mut buffer = [0i128; 120];
     reduced_image(k, &mut buffer[..k as usize], &a[..phi], start, stride)
-}
-
-/// The product of two values.
-pub(crate) fn product(k: u32, a: &[i128; 42], b: &[i128; 42]) -> [i128; 42]
-    requires conductor { is_conductor k ≡ true }
-    requires a_array { is_array k a.now ≡ true }
-    requires b_array { is_array k b.now ≡ true }
-    requires room { total_of a.now * total_of b.now < 2 ^ 126 }
-    ensures { result ≡ array_of (value_product (cyclotomic k) (cyclotomic_value k a.now) (cyclotomic_value k b.now)) }
-{
-    let phi = reduction(k).len();
-    let mut buffer = [0i128; 120];
-    reduced_product(k, &mut buffer[..k as usize], &a[..phi], &b[..phi])
 }
 
 /// Changes a to a - sign b, number by number.

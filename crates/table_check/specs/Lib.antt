@@ -1,6 +1,5 @@
 pub mod Characters
 pub mod Formed
-pub mod Totals
 pub mod Sides
 pub mod Good
 pub mod Idempotents

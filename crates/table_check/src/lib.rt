@@ -17,13 +17,12 @@ mod sides;
 mod table;
 #[cfg(test)]
 mod tests;
-mod total;
 
 pub use identity_name::IdentityName;
 pub use miss::{Clause, Miss};
 pub use refusal::TableRefusal;
 pub use table::Table;
-pub use total::Total;
+pub use qd_ring::Total;
 
 /// The elements of the conjugates of a good table's rows are, up to whole factors, orthogonal central idempotents of the twisted group
 /// algebra that add up to one; there are as many as the rank of its centre.

@@ -10,8 +10,7 @@ ghost use Rattle.table_check.specs.Sides.{degree_value, own_place, right_quotien
 
 use crate::candidate::Candidate;
 use crate::conjugated::Conjugated;
-use crate::total::Total;
-use qd_ring::{Cyc, Root};
+use qd_ring::{Cyc, Root, Total};
 use twisted::{Twist, conjugate, kappa};
 
 /// The place of `y^-1 x`.

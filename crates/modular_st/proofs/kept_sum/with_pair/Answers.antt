@@ -1,7 +1,7 @@
 use Rattle.std.proofs.Common.{◌+◌, ◌*◌, arith, sym, subst, IfSome}
 use Rattle.cyclotomic.specs.CyclotomicRing.{cyclotomic_value}
 use Rattle.scan.proofs.Places.{and_true}
-use Rattle.table_check.specs.Totals.{IsTotal}
+use Rattle.qd_ring.specs.Totals.{IsTotal}
 use Rattle.table_check.specs.declared.total.Total.{Total}
 use Rattle.modular_st.specs.Numerators.{s_term}
 use Rattle.modular_st.proofs.Noughts.{total_nought}

@@ -1,6 +1,6 @@
 use Rattle.std.proofs.Common.{◌+◌, ◌*◌}
 use Rattle.cyclotomic.specs.CyclotomicRing.{cyclotomic_value}
-use Rattle.table_check.specs.Totals.{IsTotal}
+use Rattle.qd_ring.specs.Totals.{IsTotal}
 use Rattle.modular_st.specs.Numerators.{s_term}
 use Rattle.modular_st.proofs.kept_sum.with_row.Given as goal
 

@@ -1,5 +1,5 @@
 use Rattle.cyclotomic.specs.CyclotomicRing.{cyclotomic_value}
-use Rattle.table_check.specs.Totals.{IsTotal}
+use Rattle.qd_ring.specs.Totals.{IsTotal}
 use Rattle.modular_st.specs.Numerators.{s_term}
 use Rattle.modular_st.proofs.numerator.sum.Given as goal
 

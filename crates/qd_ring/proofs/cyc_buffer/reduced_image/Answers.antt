@@ -1,17 +1,14 @@
--- From an empty buffer the value is what is added, and its remainder is copied.
-use Rattle.qd_ring.specs.ArrayLaws.{value_of-zeros}
-use Rattle.std.proofs.Common.{◌≡◌, ◌-◌, ◌++◌, length, take, ap, ◌∙◌, arith}
-use Rattle.cyclotomic.specs.Polynomial.{at_power, zeros}
+-- From an empty buffer the value is what is added.
+use Rattle.std.proofs.Common.{ap, ◌∙◌, arith, length}
+use Rattle.cyclotomic.specs.Polynomial.{at_power}
 use Rattle.cyclotomic.specs.Cyclotomic.{cyclotomic}
-use Rattle.cyclotomic.specs.Conductors.{phi_of}
 use Rattle.cyclotomic.specs.Ring.{value_sum, value_product}
 use Rattle.cyclotomic.specs.CyclotomicRing.{cyclotomic_value, root}
 use Rattle.cyclotomic.specs.Laws.Polynomials.{length-zeros}
-use Rattle.cyclotomic.proofs.Checks.{reduction_length}
 use Rattle.cyclotomic.proofs.Sizes.{total_of}
+use Rattle.qd_ring.specs.ArrayLaws.{value_of-zeros}
 use Rattle.qd_ring.specs.CycArrays.{array_of}
-use Rattle.qd_ring.specs.ReductionSigns.{conductor_bounds}
-use Rattle.qd_ring.proofs.ProductLaws.{total-zeros, nought_sum, array_of_remainder}
+use Rattle.qd_ring.proofs.ProductLaws.{total-zeros, nought_sum}
 use Rattle.qd_ring.proofs.cyc_buffer.reduced_image.Goals as goal
 
 pub spread-requires-clause-size : goal.spread-requires-clause-size
@@ -20,34 +17,19 @@ spread-requires-clause-size c = ap length c.requires.empty ∙ length-zeros c.ar
 pub spread-requires-clause-room : goal.spread-requires-clause-room
 spread-requires-clause-room c = omega (arith, ap total_of c.requires.empty, total-zeros c.args.k, c.requires.room)
 
-pub reduce-requires-clause-size : goal.reduce-requires-clause-size
-reduce-requires-clause-size c =
-    omega (arith, c.spread.auto.buffer, ap length c.requires.empty, length-zeros c.args.k, (conductor_bounds c.args.k c.requires.conductor).1)
+pub reduced-requires-clause-size : goal.reduced-requires-clause-size
+reduced-requires-clause-size c = omega (arith, c.spread.auto.buffer, ap length c.requires.empty, length-zeros c.args.k)
 
-pub reduce-requires-clause-room : goal.reduce-requires-clause-room
-reduce-requires-clause-room c =
+pub reduced-requires-clause-room : goal.reduced-requires-clause-room
+reduced-requires-clause-room c =
     omega (arith, c.spread.ensures.total, ap total_of c.requires.empty, total-zeros c.args.k, c.requires.room)
-
-pub first_places-requires-clause-within : goal.first_places-requires-clause-within
-first_places-requires-clause-within c =
-    omega
-    (arith, c.reduce.auto.buffer, c.spread.auto.buffer, ap length c.requires.empty, length-zeros c.args.k, (conductor_bounds c.args.k c.requires.conductor).1, ap length c.reduction.ensures, reduction_length c.args.k c.requires.conductor)
-
-pub first_places-requires-clause-most : goal.first_places-requires-clause-most
-first_places-requires-clause-most c =
-    omega
-    (arith, (conductor_bounds c.args.k c.requires.conductor).2, ap length c.reduction.ensures, reduction_length c.args.k c.requires.conductor)
 
 pub returns : goal.returns
 returns c =
     let k = c.args.k in
-    let count = ap length c.reduction.ensures ∙ reduction_length k c.requires.conductor in
     let added = value_product (cyclotomic k) (root k c.args.start) (cyclotomic_value k (at_power c.args.stride c.args.a.now)) in
-    let value : cyclotomic_value k c.spread.new.buffer ≡ added =
-    c.spread.ensures.value
+    c.reduced.ensures
+    ∙ ap array_of
+    (c.spread.ensures.value
     ∙ ap (λ z. value_sum z added) (ap (cyclotomic_value k) c.requires.empty ∙ value_of-zeros (cyclotomic k) k)
-    ∙ nought_sum (cyclotomic k) added in
-    c.first_places.ensures
-    ∙ ap (λ n. take n c.reduce.new.buffer ++ zeros (42 - n)) count
-    ∙ array_of_remainder k c.requires.conductor c.spread.new.buffer (take (phi_of k) c.reduce.new.buffer) c.reduce.ensures
-    ∙ ap array_of value
+    ∙ nought_sum (cyclotomic k) added)

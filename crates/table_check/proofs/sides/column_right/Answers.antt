@@ -2,7 +2,7 @@ use Rattle.std.proofs.Common.{subst, arith, ap}
 use Rattle.cyclotomic.specs.CyclotomicRing.{cyclotomic_value}
 use Rattle.twisted.specs.Twist.{size}
 use Rattle.table_check.specs.Sides.{column_term}
-use Rattle.table_check.specs.Totals.{IsTotal}
+use Rattle.qd_ring.specs.Totals.{IsTotal}
 use Rattle.table_check.proofs.sides.column_right.Goals as goal
 
 pub loop-c-init : goal.loop-c-init

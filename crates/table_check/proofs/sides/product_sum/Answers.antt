@@ -3,7 +3,7 @@ use Rattle.cyclotomic.specs.CyclotomicRing.{cyclotomic_value}
 use Rattle.twisted.specs.Twist.{size}
 use Rattle.table_check.specs.Characters.{characters_of}
 use Rattle.table_check.specs.Sides.{product_term}
-use Rattle.table_check.specs.Totals.{IsTotal}
+use Rattle.qd_ring.specs.Totals.{IsTotal}
 use Rattle.table_check.proofs.sides.product_sum.Goals as goal
 
 pub loop-y-init : goal.loop-y-init

@@ -1,7 +1,7 @@
 use Rattle.cyclotomic.specs.CyclotomicRing.{cyclotomic_value}
 use Rattle.table_check.specs.Characters.{characters_of}
 use Rattle.table_check.specs.Sides.{product_term}
-use Rattle.table_check.specs.Totals.{IsTotal}
+use Rattle.qd_ring.specs.Totals.{IsTotal}
 use Rattle.table_check.proofs.sides.product_sum.Given as goal
 
 -- the terms before y

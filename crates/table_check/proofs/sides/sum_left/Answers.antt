@@ -2,7 +2,7 @@ use Rattle.std.proofs.Common.{subst, arith, ap, length}
 use Rattle.cyclotomic.specs.CyclotomicRing.{cyclotomic_value}
 use Rattle.table_check.specs.Characters.{characters_of}
 use Rattle.table_check.specs.Sides.{sum_term}
-use Rattle.table_check.specs.Totals.{IsTotal}
+use Rattle.qd_ring.specs.Totals.{IsTotal}
 use Rattle.table_check.proofs.sides.sum_left.Goals as goal
 
 pub loop-i-init : goal.loop-i-init

@@ -1,7 +1,7 @@
 use Rattle.cyclotomic.specs.CyclotomicRing.{cyclotomic_value}
 use Rattle.table_check.specs.Characters.{characters_of}
 use Rattle.table_check.specs.Sides.{sum_term}
-use Rattle.table_check.specs.Totals.{IsTotal}
+use Rattle.qd_ring.specs.Totals.{IsTotal}
 use Rattle.table_check.proofs.sides.sum_left.Given as goal
 
 -- the terms before i

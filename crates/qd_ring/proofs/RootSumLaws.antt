@@ -1,0 +1,196 @@
+-- Sums of roots of unity: what is made of them, and how great they are.
+use Rattle.std.proofs.Common.{◌≡◌, ℕ, zero, suc, ◌+◌, ◌-◌, ◌*◌, ◌^◌, ◌<◌, ◌≤◌, true, List, [], ◌∷◌, ◌++◌, length, map, refl, sym, ap, ◌∙◌, arith, length-append, sum_by, add-one, zero-add}
+use Rattle.std.specs.Prelude.{pos}
+use Rattle.std.specs.List.{range_with_len}
+use Rattle.std.specs.Int.{IsGcd}
+use Rattle.std.proofs.Math.Nat.{mul-le-mul}
+use Rattle.std.proofs.lemmas.List.{map-append, length-map}
+use Rattle.std.proofs.lemmas.List.Sums.{sum_by-cons}
+use Rattle.std.proofs.lemmas.List.FromFn.{sum_by-map-range_with_len_more}
+use borrow.Author.Tests.{le-leb, lt-ltb}
+use mathlib.Core.Path.{ap₂}
+use Rattle.algebra.specs.Sums.{sum_list, sum_below, multiple}
+use Rattle.algebra.proofs.RingLaws.{nought_mul, add_mul, mul_nought, mul_add}
+use Rattle.algebra.proofs.SumLaws.{sum_list_nil, sum_list_cons, sum_list_append, sum_list_single, sum_zero, sum_suc, multiple_zero, multiple_suc, nought_map}
+use Rattle.cyclotomic.specs.Conductors.{is_conductor}
+use Rattle.cyclotomic.specs.Cyclotomic.{cyclotomic}
+use Rattle.cyclotomic.specs.Polynomial.{plus, x_to}
+use Rattle.cyclotomic.specs.Division.{degree}
+use Rattle.cyclotomic.specs.Laws.Values.{value_of-plus}
+use Rattle.cyclotomic.specs.Ring.{value_sum, value_nought, value_product}
+use Rattle.cyclotomic.specs.CyclotomicRing.{CyclotomicValue, cyclotomic_ring, cyclotomic_value, root, conjugate, galois_image}
+use Rattle.cyclotomic.specs.Fit.{value_size, value_fits, product_fits, greatest_magnitude}
+use Rattle.cyclotomic.proofs.Images.{root-sum, image-sum}
+use Rattle.cyclotomic.proofs.Inverses.{galois_root, conjugation_prime}
+use Rattle.cyclotomic.proofs.Sizes.{size-plus, size-zeros}
+use Rattle.cyclotomic.proofs.Bounds.{root_size}
+use Rattle.qd_ring.specs.ArrayLaws.{value_of-zeros}
+use Rattle.qd_ring.specs.RootSums.{sum_of_roots, IsSumOfRoots}
+
+-- one more number in a sum of numbers
+counts_listed : (count : ℕ → ℕ) (xs : List ℕ) → sum_by (λ c. c) (map count xs) ≡ sum_by count xs
+counts_listed count [] = refl
+counts_listed count (x ∷ xs) =
+    sum_by-cons (λ c. c) (count x) (map count xs) ∙ ap (λ c. count x + c) (counts_listed count xs) ∙ sym (sum_by-cons count x xs)
+
+counts_more : (n : ℕ) (count : ℕ → ℕ) → sum_by count (range_with_len 0 n) + count n ≡ sum_by count (range_with_len 0 (suc n))
+counts_more n count =
+    ap (λ c. c + count n) (sym (counts_listed count (range_with_len 0 n)))
+    ∙ sym (sum_by-map-range_with_len_more (λ c. c) count 0 n n (zero-add n))
+    ∙ counts_listed count (range_with_len 0 (n + 1))
+    ∙ ap (λ j. sum_by count (range_with_len 0 j)) (add-one n)
+
+module _ (k : ℕ) where
+  no_roots : sum_of_roots k [] ≡ value_nought
+  unfolding sum_of_roots
+  no_roots = sum_list_nil (cyclotomic_ring k)
+
+  more_roots : (e : ℕ) (es : List ℕ) → sum_of_roots k (e ∷ es) ≡ value_sum (root k e) (sum_of_roots k es)
+  unfolding sum_of_roots
+  more_roots e es = sum_list_cons (cyclotomic_ring k) (root k e) (map (λ v. root k v) es)
+
+  roots-append : (es fs : List ℕ) → sum_of_roots k (es ++ fs) ≡ value_sum (sum_of_roots k es) (sum_of_roots k fs)
+  unfolding sum_of_roots
+  roots-append es fs =
+      ap (sum_list (cyclotomic_ring k)) (map-append (λ v. root k v) es fs)
+      ∙ sum_list_append (cyclotomic_ring k) (map (λ v. root k v) es) (map (λ v. root k v) fs)
+
+  -- a root times a sum of roots
+  roots-turned : (e : ℕ) (es : List ℕ) → value_product (cyclotomic k) (root k e) (sum_of_roots k es) ≡ sum_of_roots k (map (λ v. e + v) es)
+  roots-turned e [] =
+      ap (value_product (cyclotomic k) (root k e)) no_roots ∙ mul_nought (cyclotomic_ring k) (root k e) ∙ sym no_roots
+  roots-turned e (v ∷ es) =
+      ap (value_product (cyclotomic k) (root k e)) (more_roots v es)
+      ∙ mul_add (cyclotomic_ring k) (root k e) (root k v) (sum_of_roots k es)
+      ∙ ap₂ value_sum (sym (root-sum (cyclotomic k) e v)) (roots-turned e es)
+      ∙ sym (more_roots (e + v) (map (λ w. e + w) es))
+
+  -- the exponents of a product
+  abbrev pub exponent_sums : List ℕ → List ℕ → List ℕ
+  exponent_sums [] fs = []
+  exponent_sums (e ∷ es) fs = map (λ v. e + v) fs ++ exponent_sums es fs
+
+  roots-product : (es fs : List ℕ) → value_product (cyclotomic k) (sum_of_roots k es) (sum_of_roots k fs) ≡ sum_of_roots k (exponent_sums es fs)
+  roots-product [] fs =
+      ap (λ u. value_product (cyclotomic k) u (sum_of_roots k fs)) no_roots
+      ∙ nought_mul (cyclotomic_ring k) (sum_of_roots k fs) ∙ sym no_roots
+  roots-product (e ∷ es) fs =
+      ap (λ u. value_product (cyclotomic k) u (sum_of_roots k fs)) (more_roots e es)
+      ∙ add_mul (cyclotomic_ring k) (root k e) (sum_of_roots k es) (sum_of_roots k fs)
+      ∙ ap₂ value_sum (roots-turned e fs) (roots-product es fs)
+      ∙ sym (roots-append (map (λ v. e + v) fs) (exponent_sums es fs))
+
+  length-exponent_sums : (es fs : List ℕ) → length (exponent_sums es fs) ≡ length es * length fs
+  length-exponent_sums [] fs = omega arith
+  length-exponent_sums (e ∷ es) fs =
+      omega (arith, length-append (map (λ v. e + v) fs) (exponent_sums es fs), length-map fs (λ v. e + v), length-exponent_sums es fs)
+
+  pub no_root : IsSumOfRoots k 0 value_nought
+  no_root = record { exponents = []; count = refl; adds = sym no_roots }
+
+  pub one_root : (e : ℕ) → IsSumOfRoots k 1 (root k e)
+  unfolding sum_of_roots
+  one_root e = record { exponents = e ∷ []; count = refl; adds = sym (sum_list_single (cyclotomic_ring k) (root k e)) }
+
+  module _ (r s : ℕ) (u v : CyclotomicValue k) (of_u : IsSumOfRoots k r u) (of_v : IsSumOfRoots k s v) where
+    pub roots_together : IsSumOfRoots k (r + s) (value_sum u v)
+    roots_together = record {
+      exponents = of_u.exponents ++ of_v.exponents;
+      count = omega (arith, length-append of_u.exponents of_v.exponents, of_u.count, of_v.count);
+      adds = ap₂ value_sum of_u.adds of_v.adds ∙ sym (roots-append of_u.exponents of_v.exponents);
+    }
+
+    pub roots_multiplied : IsSumOfRoots k (r * s) (value_product (cyclotomic k) u v)
+    roots_multiplied = record {
+      exponents = exponent_sums of_u.exponents of_v.exponents;
+      count = length-exponent_sums of_u.exponents of_v.exponents ∙ ap₂ (λ a b. a * b) of_u.count of_v.count;
+      adds = ap₂ (value_product (cyclotomic k)) of_u.adds of_v.adds ∙ roots-product of_u.exponents of_v.exponents;
+    }
+
+  -- the same value, and as many roots
+  pub roots_same : (r s : ℕ) (u v : CyclotomicValue k) → r ≡ s → u ≡ v → IsSumOfRoots k r u → IsSumOfRoots k s v
+  roots_same r s u v count same of_u = record {
+    exponents = of_u.exponents;
+    count = of_u.count ∙ count;
+    adds = sym same ∙ of_u.adds;
+  }
+
+  pub roots_turned : (e r : ℕ) (u : CyclotomicValue k) → IsSumOfRoots k r u → IsSumOfRoots k r (value_product (cyclotomic k) (root k e) u)
+  roots_turned e r u of_u = record {
+    exponents = map (λ v. e + v) of_u.exponents;
+    count = length-map of_u.exponents (λ v. e + v) ∙ of_u.count;
+    adds = ap (value_product (cyclotomic k) (root k e)) of_u.adds ∙ roots-turned e of_u.exponents;
+  }
+
+  pub roots_copied : (n r : ℕ) (u : CyclotomicValue k) → IsSumOfRoots k r u → IsSumOfRoots k (n * r) (multiple (cyclotomic_ring k) n u)
+  roots_copied zero r u of_u =
+      roots_same 0 (0 * r) value_nought (multiple (cyclotomic_ring k) zero u) (omega arith) (sym (multiple_zero (cyclotomic_ring k) u)) no_root
+  roots_copied (suc n) r u of_u =
+      roots_same (n * r + r) (suc n * r) (value_sum (multiple (cyclotomic_ring k) n u) u) (multiple (cyclotomic_ring k) (suc n) u) (omega arith)
+      (sym (multiple_suc (cyclotomic_ring k) n u))
+      (roots_together (n * r) r (multiple (cyclotomic_ring k) n u) u (roots_copied n r u of_u) of_u)
+
+  pub roots_below : (n : ℕ) (count : ℕ → ℕ) (value : ℕ → CyclotomicValue k) → ((i : ℕ) → i < n → IsSumOfRoots k (count i) (value i))
+      → IsSumOfRoots k (sum_by count (range_with_len 0 n)) (sum_below (cyclotomic_ring k) n value)
+  roots_below zero count value of_each =
+      roots_same 0 (sum_by count (range_with_len 0 zero)) value_nought (sum_below (cyclotomic_ring k) zero value) refl
+      (sym (sum_zero (cyclotomic_ring k) value)) no_root
+  roots_below (suc n) count value of_each =
+      roots_same (sum_by count (range_with_len 0 n) + count n) (sum_by count (range_with_len 0 (suc n)))
+      (value_sum (sum_below (cyclotomic_ring k) n value) (value n)) (sum_below (cyclotomic_ring k) (suc n) value) (counts_more n count)
+      (sym (sum_suc (cyclotomic_ring k) n value))
+      (roots_together (sum_by count (range_with_len 0 n)) (count n) (sum_below (cyclotomic_ring k) n value) (value n)
+      (roots_below n count value (λ i h. of_each i (omega arith))) (of_each n (omega arith)))
+
+-- a whole number is that many times the root 1
+whole_more : (k n : ℕ) → value_sum (cyclotomic_value k (pos n ∷ [])) (root k 0) ≡ cyclotomic_value k (pos (suc n) ∷ [])
+unfolding plus x_to
+whole_more k n =
+    sym (value_of-plus (cyclotomic k) (pos n ∷ []) (x_to 0)) ∙ ap (λ c. cyclotomic_value k (pos c ∷ [])) (add-one n)
+
+pub roots_whole : (k n : ℕ) → IsSumOfRoots k n (cyclotomic_value k (pos n ∷ []))
+roots_whole k zero = roots_same k 0 0 value_nought (cyclotomic_value k (pos 0 ∷ [])) refl (sym (value_of-zeros (cyclotomic k) 1)) (no_root k)
+roots_whole k (suc n) =
+    roots_same k (n + 1) (suc n) (value_sum (cyclotomic_value k (pos n ∷ [])) (root k 0)) (cyclotomic_value k (pos (suc n) ∷ [])) (omega arith)
+    (whole_more k n) (roots_together k n 1 (cyclotomic_value k (pos n ∷ [])) (root k 0) (roots_whole k n) (one_root k 0))
+
+module _ (k : ℕ) (entry : is_conductor k ≡ true) where
+  roots-image : (t : ℕ) → IsGcd t k 1 → (es : List ℕ) → galois_image k t (sum_of_roots k es) ≡ sum_of_roots k (map (λ e. t * e) es)
+  roots-image t prime [] =
+      ap (galois_image k t) (no_roots k)
+      ∙ nought_map (cyclotomic_ring k) (cyclotomic_ring k) (galois_image k t) (image-sum (cyclotomic k) t)
+      ∙ sym (no_roots k)
+  roots-image t prime (e ∷ es) =
+      ap (galois_image k t) (more_roots k e es)
+      ∙ image-sum (cyclotomic k) t (root k e) (sum_of_roots k es)
+      ∙ ap₂ value_sum (galois_root k entry t prime e) (roots-image t prime es)
+      ∙ sym (more_roots k (t * e) (map (λ v. t * v) es))
+
+  pub roots_imaged : (t : ℕ) → IsGcd t k 1 → (r : ℕ) (u : CyclotomicValue k) → IsSumOfRoots k r u → IsSumOfRoots k r (galois_image k t u)
+  roots_imaged t prime r u of_u = record {
+    exponents = map (λ e. t * e) of_u.exponents;
+    count = length-map of_u.exponents (λ e. t * e) ∙ of_u.count;
+    adds = ap (galois_image k t) of_u.adds ∙ roots-image t prime of_u.exponents;
+  }
+
+  pub roots_conjugated : (r : ℕ) (u : CyclotomicValue k) → IsSumOfRoots k r u → IsSumOfRoots k r (conjugate k u)
+  roots_conjugated = roots_imaged (k - 1) (conjugation_prime k entry)
+
+  size-roots : (es : List ℕ) → value_size (sum_of_roots k es) ≤ length es
+  unfolding value_sum value_nought
+  size-roots [] = omega (arith, ap (λ u. value_size u) (no_roots k), size-zeros (degree (cyclotomic k)))
+  size-roots (e ∷ es) =
+      omega
+      (arith, ap (λ u. value_size u) (more_roots k e es), size-plus (root k e).coefficients (sum_of_roots k es).coefficients, root_size k entry e, size-roots es)
+
+  pub roots_size : (r : ℕ) (u : CyclotomicValue k) → IsSumOfRoots k r u → value_size u ≤ r
+  roots_size r u of_u = omega (arith, ap (λ v. value_size v) of_u.adds, size-roots of_u.exponents, of_u.count)
+
+  pub roots_fit : (r : ℕ) (u : CyclotomicValue k) → IsSumOfRoots k r u → r ≤ greatest_magnitude → value_fits u ≡ true
+  unfolding value_fits
+  roots_fit r u of_u small = le-leb (value_size u) greatest_magnitude (omega (arith, roots_size r u of_u, small))
+
+  pub roots_fit_together : (r s : ℕ) (u v : CyclotomicValue k) → IsSumOfRoots k r u → IsSumOfRoots k s v → r * s < 2 ^ 108 → product_fits u v ≡ true
+  unfolding product_fits
+  roots_fit_together r s u v of_u of_v small =
+      lt-ltb (value_size u * value_size v) (2 ^ 108) (omega (arith, mul-le-mul (roots_size r u of_u) (roots_size s v of_v), small))

@@ -1,0 +1,87 @@
+-- Steps of adding up a listed sum.
+use Rattle.std.proofs.Common.{◌≡◌, ◌+◌, ◌<◌, ◌≤◌, ℕ, Bool, true, false, not, ◌||◌, Some, None, ◌++◌, map, drop, refl, sym, ◌∙◌, ap, arith, zero-add, nat_lt}
+use Rattle.std.specs.Prelude.{sum_by}
+use Rattle.std.specs.List.{range_with_len}
+use Rattle.std.proofs.lemmas.Bool.{or_right, ltb-false, le-ltb}
+use Rattle.std.proofs.lemmas.List.{take-append-drop}
+use Rattle.std.proofs.lemmas.List.FromFn.{take-map-range_with_len, sum_by-map-range_with_len_more}
+use mathlib.Core.Path.{ap₂}
+use Rattle.scan.specs.First.{all_below}
+use Rattle.scan.proofs.Places.{all_below-zero, all_below-step}
+use Rattle.algebra.proofs.SumLaws.{sum_zero}
+use Rattle.cyclotomic.specs.Ring.{value_sum, value_nought}
+use Rattle.cyclotomic.specs.CyclotomicRing.{CyclotomicValue, cyclotomic_ring, cyclotomic_value}
+use Rattle.cyclotomic.specs.Fit.{value_size, value_fits, greatest_magnitude, sizes_overflow}
+use Rattle.cyclotomic.proofs.Bounds.{sizes_overflow-front}
+use Rattle.qd_ring.specs.Fit.{sum_overflows}
+use Rattle.qd_ring.specs.CyclotomicFit.{cyclotomic_fit}
+use Rattle.qd_ring.specs.declared.cyc.Cyc.{Cyc}
+use Rattle.qd_ring.proofs.ListedSums.{overflow_by_step, overflow_by_size, sum_below_more}
+use Rattle.qd_ring.specs.Formed.{Formed, Forms, listed}
+use Rattle.qd_ring.specs.Totals.{IsTotal}
+
+module _ {k : ℕ} (term : ℕ → Formed k) where
+  -- no terms
+  pub total_none : IsTotal term 0 value_nought 0
+  total_none = record {
+    fit = all_below-zero (λ i. (term i).fits);
+    adds = sym (sum_zero (cyclotomic_ring k) (λ i. (term i).value));
+    sizes_add = refl;
+    small = omega arith;
+  }
+
+  -- one more term
+  pub total_more : (i : ℕ) (sum : CyclotomicValue k) (sizes : ℕ) (u : CyclotomicValue k) → IsTotal term i sum sizes
+      → (term i).fits ≡ true → u ≡ (term i).value → sizes + value_size u ≤ greatest_magnitude → IsTotal term (i + 1) (value_sum sum u) (sizes + value_size u)
+  total_more i sum sizes u t fit same small = record {
+    fit = all_below-step i (λ j. (term j).fits) t.fit fit;
+    adds = sum_below_more (cyclotomic_ring k) (λ j. (term j).value) i sum u t.adds same;
+    sizes_add = ap₂ (λ a b. a + b) t.sizes_add (ap (λ v. value_size v) same) ∙ sym (sum_by-map-range_with_len_more (λ v. value_size v) (λ j. (term j).value) 0 i i (zero-add i));
+    small = small;
+  }
+
+  -- the sum of all terms
+  pub total_all : (n : ℕ) (sum : CyclotomicValue k) (sizes : ℕ) (c : Cyc k) → IsTotal term n sum sizes → cyclotomic_value k c.coefficients ≡ sum → Forms (listed k n term) (Some c)
+  unfolding sum_overflows sizes_overflow
+  total_all n sum sizes c t same = record {
+    there = sym (ap₂ (λ a b. not (not a || b)) t.fit (ap (λ s. nat_lt greatest_magnitude s) (sym t.sizes_add) ∙ le-ltb greatest_magnitude sizes t.small));
+    stands = same ∙ t.adds;
+  }
+
+  overflowing : (n : ℕ) → sum_overflows (cyclotomic_ring k) (cyclotomic_fit k) n (λ j. (term j).fits) (λ j. (term j).value) ≡ true → Forms (listed k n term) None
+  overflowing n o = record { there = sym (ap not o); stands = tt }
+
+  -- a term with a step that doesn't fit
+  pub total_misses : (i n : ℕ) → i < n → (term i).fits ≡ false → Forms (listed k n term) None
+  total_misses i n inside unfit =
+      overflowing n (overflow_by_step (cyclotomic_ring k) (cyclotomic_fit k) n (λ j. (term j).fits) (λ j. (term j).value) i inside unfit)
+
+  -- a sum that doesn't fit
+  pub total_unfit : (i n : ℕ) (sum : CyclotomicValue k) (sizes : ℕ) (u : CyclotomicValue k) → i < n → IsTotal term i sum sizes → u ≡ (term i).value
+      → value_fits (value_sum sum u) ≡ false → Forms (listed k n term) None
+  total_unfit i n sum sizes u inside t same unfit =
+      overflowing n (overflow_by_size (cyclotomic_ring k) (cyclotomic_fit k) n (λ j. (term j).fits) (λ j. (term j).value) i inside sum u t.adds same unfit)
+
+  -- what would follow if they didn't
+  too_great : (i n : ℕ) (sum : CyclotomicValue k) (sizes : ℕ) (u : CyclotomicValue k) → i < n → IsTotal term i sum sizes → u ≡ (term i).value
+      → greatest_magnitude < sizes + value_size u → sizes_overflow (map (λ j. (term j).value) (range_with_len 0 n)) ≡ false → ⊥
+  unfolding sizes_overflow
+  too_great i n sum sizes u inside t same great o =
+      let terms = map (λ j. (term j).value) (range_with_len 0 n) in
+      let parts : terms ≡ map (λ j. (term j).value) (range_with_len 0 (i + 1)) ++ drop (i + 1) terms =
+      sym (take-append-drop (i + 1) terms) ∙ ap (λ xs. xs ++ drop (i + 1) terms) (take-map-range_with_len (λ j. (term j).value) 0 n (i + 1) (omega arith)) in
+      let front = sizes_overflow-front (map (λ j. (term j).value) (range_with_len 0 (i + 1))) (drop (i + 1) terms) (ap sizes_overflow (sym parts) ∙ o) in
+      let below = ltb-false greatest_magnitude (sum_by (λ v. value_size v) (map (λ j. (term j).value) (range_with_len 0 (i + 1)))) front in
+      let sizes_are = ap₂ (λ a b. a + b) t.sizes_add (ap (λ v. value_size v) same) ∙ sym (sum_by-map-range_with_len_more (λ v. value_size v) (λ j. (term j).value) 0 i i (zero-add i)) in
+      omega (arith, sizes_are, below, great)
+
+  -- sizes that add up to too much
+  pub total_great : (i n : ℕ) (sum : CyclotomicValue k) (sizes : ℕ) (u : CyclotomicValue k) → i < n → IsTotal term i sum sizes → u ≡ (term i).value
+      → greatest_magnitude < sizes + value_size u → Forms (listed k n term) None
+  unfolding sum_overflows
+  total_great i n sum sizes u inside t same great = overflowing n (shown (sizes_overflow (map (λ j. (term j).value) (range_with_len 0 n))) refl)
+    where
+      shown : (b : Bool) → sizes_overflow (map (λ j. (term j).value) (range_with_len 0 n)) ≡ b
+          → (not (all_below n (λ j. (term j).fits)) || sizes_overflow (map (λ j. (term j).value) (range_with_len 0 n))) ≡ true
+      shown true o = or_right (not (all_below n (λ j. (term j).fits))) (sizes_overflow (map (λ j. (term j).value) (range_with_len 0 n))) o
+      shown false o = absurd (too_great i n sum sizes u inside t same great o)

@@ -1,0 +1,44 @@
+-- The remainder of the buffer, which is within the bound.
+use Rattle.std.proofs.Common.{ap, ◌∙◌, ◌<◌, ◌^◌, subst, sym, arith, take}
+use Rattle.cyclotomic.specs.CyclotomicRing.{cyclotomic_value}
+use Rattle.qd_ring.specs.ReductionSigns.{conductor_bounds}
+use Rattle.qd_ring.proofs.ProductLaws.{value-array_of}
+use Rattle.qd_ring.proofs.CycLaws.{array-is}
+use Rattle.qd_ring.proofs.FoldingLaws.{folded_all, buffer_front, reduced_small}
+use Rattle.qd_ring.proofs.folded.Folded.finish.Goals as goal
+
+pub slice_bounds-coefficients-end : goal.slice_bounds-coefficients-end
+slice_bounds-coefficients-end g c = omega (arith, c.self.invariant.size, (conductor_bounds g.row.K c.self.invariant.conductor).0)
+
+pub slice_bounds-reduced-end : goal.slice_bounds-reduced-end
+slice_bounds-reduced-end g c = sym (buffer_front g.row.K c.self.invariant.conductor c.self.inside.coefficients c.self.invariant.size)
+
+pub reduced-requires-clause-size : goal.reduced-requires-clause-size
+reduced-requires-clause-size g c = buffer_front g.row.K c.self.invariant.conductor c.self.inside.coefficients c.self.invariant.size
+
+pub invariant_of-result : goal.invariant_of-result
+invariant_of-result g c =
+    let k = g.row.K in
+    let entry = c.self.invariant.conductor in
+    let u = cyclotomic_value k (take k c.self.inside.coefficients) in
+    record {
+      conductor = entry;
+      array = array-is k entry u c.reduced.result c.reduced.ensures;
+      small = reduced_small k entry (take k c.self.inside.coefficients) c.reduced.result c.reduced.ensures (omega (arith, c.self.invariant.within, c.self.invariant.small));
+    }
+
+pub returns-clause-value : goal.returns-clause-value
+returns-clause-value g c =
+    let k = g.row.K in
+    ap (cyclotomic_value k) c.reduced.ensures
+    ∙ value-array_of k c.self.invariant.conductor (cyclotomic_value k (take k c.self.inside.coefficients))
+    ∙ ap (λ f. cyclotomic_value k (take k f.coefficients)) c.self.view_is
+
+pub returns-clause-listed : goal.returns-clause-listed
+returns-clause-listed g c = λ term n folded.
+    let k = g.row.K in
+    folded_all k term n (cyclotomic_value k (take k c.args.self.now.coefficients)) c.args.self.now.bound _
+    (subst (λ f. f.bound < 2 ^ 108) c.self.view_is c.self.invariant.small) folded
+    (ap (cyclotomic_value k) c.reduced.ensures
+    ∙ value-array_of k c.self.invariant.conductor (cyclotomic_value k (take k c.self.inside.coefficients))
+    ∙ ap (λ f. cyclotomic_value k (take k f.coefficients)) c.self.view_is)

@@ -1,0 +1,14 @@
+-- What the terms so far have added.
+use Rattle.std.proofs.Common.{◌≡◌, ◌+◌, ◌*◌, ◌≤◌, take}
+use Rattle.cyclotomic.specs.Cyclotomic.{cyclotomic}
+use Rattle.cyclotomic.specs.Ring.{value_sum, value_product}
+use Rattle.cyclotomic.specs.CyclotomicRing.{cyclotomic_value, root}
+use Rattle.cyclotomic.proofs.Sizes.{total_of}
+use Rattle.qd_ring.specs.SparseValues.{value_of_terms, total_of_terms}
+use Rattle.qd_ring.proofs.sparse_buffer.add_product.Given as goal
+
+abbrev pub invariant-loop-term : goal.invariant-loop-term
+invariant-loop-term l = record {
+  value : cyclotomic_value l.k l.buffer ≡ value_sum (cyclotomic_value l.k l.initial.buffer) (value_product (cyclotomic l.k) (root l.k l.start) (value_product (cyclotomic l.k) (value_of_terms l.k (take l.term-index l.a)) (value_of_terms l.k l.b)));
+  total : total_of l.buffer ≤ total_of l.initial.buffer + total_of_terms (take l.term-index l.a) * total_of_terms l.b;
+}

@@ -1,0 +1,15 @@
+-- The coefficients so far.
+use Rattle.std.proofs.Common.{◌≡◌, ◌≤◌, ◌<◌, All, take, length}
+use Rattle.cyclotomic.specs.CyclotomicRing.{cyclotomic_value}
+use Rattle.cyclotomic.proofs.Sizes.{total_of}
+use Rattle.qd_ring.specs.SparseValues.{value_of_terms, total_of_terms}
+use Rattle.qd_ring.proofs.terms.Terms.of.Given as goal
+
+abbrev pub invariant-loop-power : goal.invariant-loop-power
+invariant-loop-power g l = record {
+  few : length l.terms.items ≤ l.power;
+  powers : All (λ term. term.power < g.row.K) l.terms.items;
+  value : value_of_terms g.row.K l.terms.items ≡ cyclotomic_value g.row.K (take l.power l.v.coefficients);
+  total : total_of_terms l.terms.items ≡ total_of (take l.power l.v.coefficients);
+  sum : l.total ≡ total_of (take l.power l.v.coefficients);
+}

@@ -1,0 +1,7 @@
+use Rattle.std.proofs.Common.{subst, sym}
+use Rattle.qd_ring.specs.Totals.{IsTotal}
+use Rattle.qd_ring.proofs.TotalLaws.{total_none}
+use Rattle.qd_ring.proofs.total.Total.zero.Goals as goal
+
+pub returns : goal.returns
+returns g c = record { none_added = λ term. subst (λ sum. IsTotal term 0 sum 0) (sym c.zero.ensures) (total_none term) }

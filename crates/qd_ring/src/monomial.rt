@@ -1,0 +1,8 @@
+/// A whole-number coefficient at a power of x.
+#[derive(Clone, Copy, PartialEq, Eq, Default, Debug)]
+pub struct Monomial {
+    /// The power of x.
+    pub power: u32,
+    /// Its coefficient.
+    pub coefficient: i128,
+}

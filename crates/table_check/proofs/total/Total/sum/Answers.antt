@@ -1,9 +1,0 @@
-use Rattle.std.proofs.Common.{refl}
-use Rattle.cyclotomic.specs.CyclotomicRing.{cyclotomic_value}
-use Rattle.table_check.proofs.Totals.{total_all}
-use Rattle.table_check.proofs.total.Total.sum.Goals as goal
-
-pub returns : goal.returns
-returns g c = record {
-  all_added = λ term n total. total_all term n (cyclotomic_value g.row.K c.args.self.sum.coefficients) c.args.self.sizes c.args.self.sum total refl;
-}
