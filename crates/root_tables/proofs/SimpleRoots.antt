@@ -18,13 +18,13 @@ use Rattle.root_tables.proofs.TableRoots.{degree_few}
 module _ (k : ℕ) (s : SimplesOver) (S : AreSimples k s) (roots : HasRootRows k s) where
   element_formed : (i x : ℕ) → i < count k s → FormedOfRoots 7 (given k (element_value k s i x))
   element_formed i x i_below =
-      let row = simple_is_row k s.tables i i_below in
-      let rows = roots (class_at k s i) row.class_below in
-      let twist = over_is_twist k s S (class_at k s i) row.class_below in
-      let place = place_small (over_at k s i) (λ p. element (over_at k s i) p ≡ x) (place_of (over_at k s i) x) (unwrap_or (place_of (over_at k s i) x) 0) twist (place_there (over_at k s i) x (place_of (over_at k s i) x) refl) refl in
-      of_roots k S.conductor (rows.degree (simple_at k s i).row) 7 (element_value k s i x)
-      (degree_few (rows.degree (simple_at k s i).row) (size (over_at k s i)) (rows.square (simple_at k s i).row row.row_below) twist.small.to_sixty)
-      (rows.values (simple_at k s i).row (unwrap_or (place_of (over_at k s i) x) 0) row.row_below place)
+      let at = simple_is_row k s.tables i i_below in
+      let twist = over_is_twist k s S (class_at k s i) at.class_below in
+      let row = (roots (class_at k s i) at.class_below).row (simple_at k s i).row at.row_below in
+      let found = place_of (over_at k s i) x in
+      let place = place_there (over_at k s i) x found refl in
+      of_roots k S.conductor row.degree 7 (element_value k s i x) (degree_few row.degree (size (over_at k s i)) row.square twist.small.to_sixty)
+      (row.roots (unwrap_or found 0) (place_small (over_at k s i) (λ p. element (over_at k s i) p ≡ x) found (unwrap_or found 0) twist place refl))
 
   full_formed : (i g x : ℕ) → i < count k s → FormedOfRoots 7 (full_character k s i g x)
   full_formed i g x i_below =

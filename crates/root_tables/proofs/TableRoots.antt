@@ -51,8 +51,8 @@ module _ (k : ℕ) (entry : is_conductor k ≡ true) (s : TwistedSubgroup) (twis
   -- ---- the values
   value_formed : (i x : ℕ) → i < table.count → x < size s → FormedOfRoots 7 (given k (table.chi i x))
   value_formed i x i_below x_below =
-      of_roots k entry (rows.degree i) 7 (table.chi i x) (degree_few (rows.degree i) (size s) (rows.square i i_below) twist.small.to_sixty)
-      (rows.values i x i_below x_below)
+      let row = rows.row i i_below in
+      of_roots k entry row.degree 7 (table.chi i x) (degree_few row.degree (size s) row.square twist.small.to_sixty) (row.roots x x_below)
 
   degree_formed : (i : ℕ) → i < table.count → FormedOfRoots 7 (degree_value s table i)
   degree_formed i i_below = value_formed i (identity_of s.group) i_below identity_place

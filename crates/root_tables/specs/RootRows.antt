@@ -1,6 +1,7 @@
 -- Tables whose values are sums of roots of unity, as the traces of matrices of finite order are (textbook), and what fits in them.
 use Rattle.std.specs.Prelude.{◌≡◌, ℕ, ◌*◌, ◌<◌, ◌≤◌, true, Some, length}
 use Rattle.cyclotomic.specs.Conductors.{is_conductor}
+use Rattle.cyclotomic.specs.CyclotomicRing.{CyclotomicValue}
 use Rattle.qd_ring.specs.RootSums.{IsSumOfRoots}
 use Rattle.twisted.specs.Twist.{TwistedSubgroup, size, IsTwist}
 use Rattle.table_check.specs.Characters.{Characters, characters_of}
@@ -11,13 +12,16 @@ use Rattle.table_check.specs.declared.miss.Miss.{Miss}
 use Rattle.transport.specs.Simples.{SimplesOver, AreSimples, count, table_at}
 use Rattle.transport.specs.SSums.{s_sum}
 
--- there are at most as many rows as places, and each value of row i is a sum of d_i roots of unity, where d_i d_i is at most the number of
--- places
+-- each value of a row over m places is a sum of d roots of unity, where d d is at most m
+pub record IsRootRow (k m : ℕ) (value : ℕ → CyclotomicValue k) : Type 0 where
+  pub degree : ℕ
+  pub square : degree * degree ≤ m
+  pub roots : (x : ℕ) → x < m → IsSumOfRoots k degree (value x)
+
+-- each row of a table is such, and there are at most as many rows as places
 pub record AreRootRows {k : ℕ} (s : TwistedSubgroup) (table : Characters k) : Type 0 where
-  pub degree : ℕ → ℕ
   pub count : table.count ≤ size s
-  pub square : (i : ℕ) → i < table.count → degree i * degree i ≤ size s
-  pub values : (i x : ℕ) → i < table.count → x < size s → IsSumOfRoots k (degree i) (table.chi i x)
+  pub row : (i : ℕ) → i < table.count → IsRootRow k (size s) (table.chi i)
 
 -- in such a table no side of a clause overflows anywhere
 abbrev pub RootRowsFit : Type 0
