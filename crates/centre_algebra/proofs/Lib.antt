@@ -1,0 +1,3 @@
+pub mod CentreRing
+pub mod Numbers
+pub mod CharacterLists

@@ -1,0 +1,2 @@
+pub mod CentralCharacters
+pub mod Laws
