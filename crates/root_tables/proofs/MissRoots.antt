@@ -1,5 +1,5 @@
--- What a table misses first, where no side overflows: a clause that fails.
-use Rattle.std.proofs.Common.{◌≡◌, ℕ, true, false, Bool, Option, Some, None, refl, subst, ◌==◌, if◌then◌else◌, ◌⊎◌, inl, inr}
+-- What a table misses first, where no side overflows: a clause that fails; and not that of the count, where the count is right.
+use Rattle.std.proofs.Common.{◌≡◌, ◌≢◌, ap, sym, ◌∙◌, eq-eqb, ℕ, true, false, Bool, Option, Some, None, refl, subst, ◌==◌, if◌then◌else◌, ◌⊎◌, inl, inr}
 use Rattle.scan.specs.First.{option_or}
 use Rattle.group_table.specs.Group.{identity_of}
 use Rattle.twisted.specs.Twist.{TwistedSubgroup, element}
@@ -19,47 +19,59 @@ found_by : {A : Type 0} (front last : Option A) (x : A) → option_or front last
 found_by None last x found = inr found
 found_by (Some y) last x found = inl found
 
+some_is_not_none : {A : Type 0} (x : A) → Some x ≡ None → ⊥
+some_is_not_none x e = absurd cc
+
 module _ {k : ℕ} (s : TwistedSubgroup) (table : Characters k) (fits : SidesFit s table) (miss : Miss) where
-  count_fits : count_miss s table ≡ Some miss → fit_at s table miss ≡ true
-  count_fits found = subst (λ m. fit_at s table m ≡ true) (unless_some (table.count == rank s) Count 0 0 0 miss found) refl
+  -- no side overflows there; and where there are as many rows as the rank, it is not their number that is missed
+  abbrev IsClause : Miss → Type 0
+  IsClause m = (fit_at s table m ≡ true) × (table.count ≡ rank s → m.clause ≢ Count)
 
-  degree_fits : degree_miss s table ≡ Some miss → fit_at s table miss ≡ true
-  degree_fits found = subst (λ m. fit_at s table m ≡ true) (degree_found s table miss found).1 refl
+  counted : table.count ≡ rank s → count_miss s table ≡ Some miss → ⊥
+  counted right found =
+      let none : count_miss s table ≡ None = ap (λ b. unless_holds b Count 0 0 0) (eq-eqb table.count (rank s) right) in
+      some_is_not_none miss (sym found ∙ none)
 
-  unitary_fits : unitary_miss s table ≡ Some miss → fit_at s table miss ≡ true
+  count_fits : count_miss s table ≡ Some miss → IsClause miss
+  count_fits found = subst IsClause (unless_some (table.count == rank s) Count 0 0 0 miss found) (refl, λ right e. counted right found)
+
+  degree_fits : degree_miss s table ≡ Some miss → IsClause miss
+  degree_fits found = subst IsClause (degree_found s table miss found).1 (refl, λ right e. absurd cc)
+
+  unitary_fits : unitary_miss s table ≡ Some miss → IsClause miss
   unitary_fits found =
       let at = unitary_found s table miss found in
-      subst (λ m. fit_at s table m ≡ true) at.2 (fits.unitary miss.i miss.x at.0 at.1)
+      subst IsClause at.2 (fits.unitary miss.i miss.x at.0 at.1, λ right e. absurd cc)
 
-  twist_fits : twist_miss s table ≡ Some miss → fit_at s table miss ≡ true
-  twist_fits found = let at = twist_found s table miss found in subst (λ m. fit_at s table m ≡ true) at.1 (fits.twist miss.i at.0)
+  twist_fits : twist_miss s table ≡ Some miss → IsClause miss
+  twist_fits found = let at = twist_found s table miss found in subst IsClause at.1 (fits.twist miss.i at.0, λ right e. absurd cc)
 
-  central_fits : central_miss s table ≡ Some miss → fit_at s table miss ≡ true
+  central_fits : central_miss s table ≡ Some miss → IsClause miss
   central_fits found =
       let at = central_found s table miss found in
-      subst (λ m. fit_at s table m ≡ true) at.3 (fits.central miss.i miss.j miss.x at.0 at.1 at.2)
+      subst IsClause at.3 (fits.central miss.i miss.j miss.x at.0 at.1 at.2, λ right e. absurd cc)
 
-  product_fits : product_miss s table ≡ Some miss → fit_at s table miss ≡ true
+  product_fits : product_miss s table ≡ Some miss → IsClause miss
   product_fits found =
       let at = product_found s table miss found in
-      subst (λ m. fit_at s table m ≡ true) at.3 (fits.product miss.i miss.j miss.x at.0 at.1 at.2)
+      subst IsClause at.3 (fits.product miss.i miss.j miss.x at.0 at.1 at.2, λ right e. absurd cc)
 
-  sum_fits : sum_miss s table ≡ Some miss → fit_at s table miss ≡ true
-  sum_fits found = let at = sum_found s table miss found in subst (λ m. fit_at s table m ≡ true) at.1 (fits.sum miss.x at.0)
+  sum_fits : sum_miss s table ≡ Some miss → IsClause miss
+  sum_fits found = let at = sum_found s table miss found in subst IsClause at.1 (fits.sum miss.x at.0, λ right e. absurd cc)
 
-  column_fits : column_miss s table ≡ Some miss → fit_at s table miss ≡ true
+  column_fits : column_miss s table ≡ Some miss → IsClause miss
   column_fits found =
       let at = column_found s table miss found in
-      subst (λ m. fit_at s table m ≡ true) at.2 (fits.column miss.x miss.j at.0 at.1)
+      subst IsClause at.2 (fits.column miss.x miss.j at.0 at.1, λ right e. absurd cc)
 
-  vacuum_fits : vacuum_miss s table ≡ Some miss → fit_at s table miss ≡ true
+  vacuum_fits : vacuum_miss s table ≡ Some miss → IsClause miss
   vacuum_fits found = asked (element s (identity_of s.group) == s.at) found
     where
-      asked : (own : Bool) → (if own then unless_holds (has_vacuum s table) Vacuum 0 0 0 else None) ≡ Some miss → fit_at s table miss ≡ true
-      asked true e = subst (λ m. fit_at s table m ≡ true) (unless_some (has_vacuum s table) Vacuum 0 0 0 miss e) refl
+      asked : (own : Bool) → (if own then unless_holds (has_vacuum s table) Vacuum 0 0 0 else None) ≡ Some miss → IsClause miss
+      asked true e = subst IsClause (unless_some (has_vacuum s table) Vacuum 0 0 0 miss e) (refl, λ right same. absurd cc)
       asked false e = absurd cc
 
-  row_fits : row_miss s table ≡ Some miss → fit_at s table miss ≡ true
+  row_fits : row_miss s table ≡ Some miss → IsClause miss
   row_fits found =
       elim (found_by (count_miss s table) (option_or (degree_miss s table) (option_or (unitary_miss s table) (twist_miss s table))) miss found) [
         | inl count ↦ count_fits count
@@ -74,7 +86,7 @@ module _ {k : ℕ} (s : TwistedSubgroup) (table : Characters k) (fits : SidesFit
             ]
       ]
 
-  sums_fit : option_or (sum_miss s table) (option_or (column_miss s table) (vacuum_miss s table)) ≡ Some miss → fit_at s table miss ≡ true
+  sums_fit : option_or (sum_miss s table) (option_or (column_miss s table) (vacuum_miss s table)) ≡ Some miss → IsClause miss
   sums_fit found =
       elim (found_by (sum_miss s table) (option_or (column_miss s table) (vacuum_miss s table)) miss found) [
         | inl sum ↦ sum_fits sum
@@ -85,7 +97,7 @@ module _ {k : ℕ} (s : TwistedSubgroup) (table : Characters k) (fits : SidesFit
             ]
       ]
 
-  algebra_fits : algebra_miss s table ≡ Some miss → fit_at s table miss ≡ true
+  algebra_fits : algebra_miss s table ≡ Some miss → IsClause miss
   algebra_fits found =
       let sums = option_or (sum_miss s table) (option_or (column_miss s table) (vacuum_miss s table)) in
       elim (found_by (central_miss s table) (option_or (product_miss s table) sums) miss found) [
@@ -97,7 +109,7 @@ module _ {k : ℕ} (s : TwistedSubgroup) (table : Characters k) (fits : SidesFit
             ]
       ]
 
-  miss_fits : table_miss s table ≡ Some miss → fit_at s table miss ≡ true
+  miss_fits : table_miss s table ≡ Some miss → IsClause miss
   unfolding table_miss
   miss_fits found =
       elim (found_by (row_miss s table) (algebra_miss s table) miss found) [

@@ -1,13 +1,15 @@
 -- Tables whose values are sums of roots of unity, as the traces of matrices of finite order are (textbook), and what fits in them.
-use Rattle.std.specs.Prelude.{◌≡◌, ℕ, ◌*◌, ◌<◌, ◌≤◌, true, Some, length}
+use Rattle.std.specs.Prelude.{◌≡◌, ◌≢◌, ℕ, ◌*◌, ◌<◌, ◌≤◌, true, Some, length}
 use Rattle.cyclotomic.specs.Conductors.{is_conductor}
 use Rattle.cyclotomic.specs.CyclotomicRing.{CyclotomicValue}
 use Rattle.qd_ring.specs.RootSums.{IsSumOfRoots}
 use Rattle.twisted.specs.Twist.{TwistedSubgroup, size, IsTwist}
+use Rattle.twisted.specs.Regular.{rank}
 use Rattle.table_check.specs.Characters.{Characters, characters_of}
 use Rattle.table_check.specs.Fitting.{SidesFit}
 use Rattle.table_check.specs.Check.{table_miss}
 use Rattle.table_check.specs.Answers.{fit_at}
+use Rattle.table_check.specs.declared.miss.Clause.TheVariants.{Count}
 use Rattle.table_check.specs.declared.miss.Miss.{Miss}
 use Rattle.transport.specs.Simples.{SimplesOver, AreSimples, count, table_at}
 use Rattle.transport.specs.SSums.{s_sum}
@@ -28,11 +30,12 @@ abbrev pub RootRowsFit : Type 0
 RootRowsFit =
     (k : ℕ) → is_conductor k ≡ true → (s : TwistedSubgroup) → IsTwist s → (table : Characters k) → AreRootRows s table → SidesFit s table
 
--- so that what it misses first is a clause that fails, and no side that overflows
+-- so that what it misses first is a clause that fails, and no side that overflows; and not their number, where there are as many rows as the
+-- rank
 abbrev pub RootRowsMissClauses : Type 0
 RootRowsMissClauses =
     (k : ℕ) → is_conductor k ≡ true → (s : TwistedSubgroup) → IsTwist s → (table : Characters k) → AreRootRows s table →
-    (miss : Miss) → table_miss s table ≡ Some miss → fit_at s table miss ≡ true
+    (miss : Miss) → table_miss s table ≡ Some miss → (fit_at s table miss ≡ true) × (table.count ≡ rank s → miss.clause ≢ Count)
 
 -- the tables of all classes are such
 abbrev pub HasRootRows : ℕ → SimplesOver → Type 0
