@@ -1,13 +1,12 @@
 pub mod MatrixLines
-pub mod VerifySteps
 pub mod Inputs
 pub mod RankLaws
-pub mod Chains
+pub mod Parts
+pub mod Following
 pub mod Documents
 pub mod Shapes
 pub mod ConductorLaws
-pub mod Verified
-pub mod Complete
-pub mod Planned
+pub mod Tests
+pub mod Passing
 pub mod Meaning
 pub mod Taken

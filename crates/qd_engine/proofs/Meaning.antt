@@ -1,364 +1,197 @@
 -- What the program's answer means, from what it had to say and how it ended.
-use Rattle.std.proofs.Common.{◌≡◌, ℕ, ◌≤◌, List, length, Option, Some, None, Result, Ok, Err, refl, sym, subst, ◌∙◌, arith, ◌⊎◌, inl, inr, length-append}
+use Rattle.std.proofs.Common.{◌≡◌, ℕ, ◌<◌, ◌≤◌, List, length, Option, Some, None, Result, Ok, Err, refl, sym, ap, subst, ◌∙◌, ◌⊎◌, inl, inr}
 use Rattle.std.specs.Prelude.{IsSome}
 use Rattle.std.specs.Io.KnownBytes.{Appends}
+use Rattle.std.proofs.lemmas.Bool.{le-ltb, lt-ltb}
 use Rattle.qd_io.specs.Stream.{HasRoom}
-use Rattle.cochain.specs.Cochain.{Cochain}
-use Rattle.qd_engine.specs.Words.{command_of}
-use Rattle.qd_doc.specs.declared.document.Document.{Document}
-use Rattle.qd_engine.specs.Documents.{exponents_of}
-use Rattle.qd_engine.specs.Plan.{plan}
-use Rattle.qd_doc.specs.declared.document.Given.{Given}
-use Rattle.qd_ring.specs.declared.site.Site.{Site}
-use Rattle.qd_engine.specs.Report.{characters_report, report_of}
+use Rattle.qd_io.specs.declared.reading.TheConstants.{INPUT_LIMIT}
 use Rattle.data_print.specs.Lines.{memory_line}
-use Rattle.qd_engine.specs.Answers.{why_of_cause, why_of, status_of}
-use Rattle.qd_engine.specs.Causes.{Agrees, OfInput, OverflowsIn, document_in, IsLawful, IsVerified, Means, Plans, Comes, IsDone}
-use Rattle.std.specs.Prelude.{IsOk}
-use Rattle.std.specs.Global.{Vec}
-use Rattle.qd_engine.specs.declared.stop.Stop.{Stop}
-use Rattle.qd_engine.specs.declared.stop.Stop.TheVariants as stops
-use Rattle.data_print.specs.Lines.{line_of}
-use Rattle.qd_engine.specs.Endings.{Overflows, RefusedSo, IsCause, Says, Writing, Ends, EndsSaying, Decides, Prepares, SaysPrepared}
-use Rattle.qd_engine.proofs.Documents.{document_group, document_cocycle}
+use Rattle.data_print.specs.declared.cause.Cause.{Cause}
+use Rattle.data_print.specs.declared.cause.Cause.TheVariants.{Usage, Read, TooLong}
+use Rattle.qd_engine.specs.Words.{command_of, read_of}
+use Rattle.qd_engine.specs.Documents.{document_in, exponents_of}
+use Rattle.qd_engine.specs.Report.{report_in}
+use Rattle.qd_engine.specs.Tests.{refusal, report_unless, answer_for, plan, LateFor, ComesLate}
+use Rattle.qd_engine.specs.Answers.{Said, Whole, Cut, said_by}
+use Rattle.qd_engine.specs.Causes.{Agrees, OfInput, OfCommand, Refuses, Means, MeansSo, Comes, IsDone}
 use Rattle.qd_engine.specs.Acceptable.{IsAcceptable}
-use Rattle.qd_engine.proofs.Complete.{acceptable_plan}
-use Rattle.qd_engine.proofs.Verified.{verify_given, rows_verified}
-use Rattle.qd_engine.proofs.Planned.{Passes, refusal_means, report_passes}
+use Rattle.qd_engine.specs.Endings.{Reports, Says, Writing, IsWhole, IsCut, Ends, EndsSaying, IsRoomy, Decides}
 use Rattle.qd_engine.specs.declared.command.Command.{Command}
-use Rattle.qd_engine.specs.declared.command.Command.TheVariants.{Check, Classes, Verify}
 use Rattle.qd_engine.specs.declared.answer.Why.{Why}
 use Rattle.qd_engine.specs.declared.answer.Why.TheVariants as whys
 use Rattle.qd_engine.specs.declared.answer.Outcome.{Outcome}
 use Rattle.qd_engine.specs.declared.answer.Outcome.TheVariants.{Report, Refused, Memory}
-use Rattle.data_print.specs.declared.cause.Cause.{Cause}
-use Rattle.data_print.specs.declared.cause.Cause.TheVariants.{Usage, Read, TooLong, Syntax, Wide, Section, Order, Roots, Group, Cocycle, NoConductor, Conductor, Simples, Shape, Count, Identity, NoTwist, NoVacuum, Overflow}
+use Rattle.qd_engine.proofs.Tests.{input_accepted}
+use Rattle.qd_engine.proofs.Passing.{rows_give, accepted_passes}
 
--- ---- how it ended
+module _ (words : List (List ℕ)) (left : Option (List ℕ)) (failed : Type 0) where
+  -- ---- what it had to say means
 
--- either the writing failed, or all was written
-pub record Failed (writing : Writing) (failed : Type 0) (why : Why) (outcome : Outcome) (text : List ℕ) : Type 0 where
-  pub planned : ℕ
-  pub is : why ≡ whys.Write planned
-  pub plans : planned ≡ status_of (why_of outcome)
-  pub rose : failed
-  pub no_room : HasRoom writing.room text → ⊥
+  outcome_means : (outcome : Outcome) (text : List ℕ) → Says words left failed outcome text → MeansSo words left failed outcome
+  outcome_means Report text (command, asks, (bytes, agrees, (short, reports))) =
+      (command, asks, (bytes, agrees, (short, input_accepted command bytes reports.document reports.passes)))
+  outcome_means (Refused cause) text h = h.0
+  outcome_means Memory text h = tt
 
-pub record Written (writing : Writing) (why : Why) (outcome : Outcome) (text : List ℕ) : Type 0 where
-  pub is : why ≡ why_of outcome
-  pub added : Appends writing.before writing.after text
+  pub answer_comes : (writing : Writing) (sink_failed : Type 0) (said : Said) → EndsSaying words left failed writing sink_failed said → Comes words left failed said
+  answer_comes writing sink_failed said e = by e.ends
+    where
+      by : Ends writing sink_failed said e.outcome e.text → Comes words left failed said
+      by (inl whole) = subst (Comes words left failed) (sym whole.is) (outcome_means e.outcome e.text e.says)
+      by (inr cut) = subst (Comes words left failed) (sym cut.is) (e.outcome, refl, outcome_means e.outcome e.text e.says)
 
-pub ending : (writing : Writing) (failed : Type 0) (why : Why) (outcome : Outcome) (text : List ℕ) → Ends writing failed why outcome text
-    → Failed writing failed why outcome text ⊎ Written writing why outcome text
-ending writing failed (whys.Write planned) outcome text e = inl (record { planned = planned; is = refl; plans = e.0; rose = e.1; no_room = e.3 })
-ending writing failed whys.Done outcome text e = inr (record { is = e.0; added = e.1 })
-ending writing failed whys.Usage outcome text e = inr (record { is = e.0; added = e.1 })
-ending writing failed whys.Read outcome text e = inr (record { is = e.0; added = e.1 })
-ending writing failed whys.TooLong outcome text e = inr (record { is = e.0; added = e.1 })
-ending writing failed (whys.Syntax offset wanted) outcome text e = inr (record { is = e.0; added = e.1 })
-ending writing failed (whys.Wide offset) outcome text e = inr (record { is = e.0; added = e.1 })
-ending writing failed (whys.Section offset) outcome text e = inr (record { is = e.0; added = e.1 })
-ending writing failed (whys.Order number) outcome text e = inr (record { is = e.0; added = e.1 })
-ending writing failed (whys.Roots number) outcome text e = inr (record { is = e.0; added = e.1 })
-ending writing failed (whys.Group fault) outcome text e = inr (record { is = e.0; added = e.1 })
-ending writing failed (whys.Cocycle fault) outcome text e = inr (record { is = e.0; added = e.1 })
-ending writing failed (whys.NoConductor multiple) outcome text e = inr (record { is = e.0; added = e.1 })
-ending writing failed (whys.Conductor stated needed) outcome text e = inr (record { is = e.0; added = e.1 })
-ending writing failed (whys.Simples ranks most) outcome text e = inr (record { is = e.0; added = e.1 })
-ending writing failed (whys.Shape fault) outcome text e = inr (record { is = e.0; added = e.1 })
-ending writing failed (whys.Count at rows rank) outcome text e = inr (record { is = e.0; added = e.1 })
-ending writing failed (whys.Identity name at i j x left_side right_side) outcome text e = inr (record { is = e.0; added = e.1 })
-ending writing failed (whys.NoTwist at row value) outcome text e = inr (record { is = e.0; added = e.1 })
-ending writing failed (whys.NoVacuum rows) outcome text e = inr (record { is = e.0; added = e.1 })
-ending writing failed (whys.Overflow site) outcome text e = inr (record { is = e.0; added = e.1 })
-ending writing failed whys.Memory outcome text e = inr (record { is = e.0; added = e.1 })
+  -- ---- Done
 
--- ---- what it had to say
+  report_done : (writing : Writing) (text : List ℕ) → OfCommand words left (Reports text) → Appends writing.before writing.after text
+      → IsDone words left writing.before writing.after
+  report_done writing text (command, asks, (bytes, agrees, (short, reports))) added =
+      let accepted = input_accepted command bytes reports.document reports.passes in
+      record {
+        command = command;
+        asked = asks;
+        bytes = bytes;
+        input = agrees;
+        short = short;
+        accepted = accepted;
+        idempotents = λ report is. rows_give (exponents_of (document_in command bytes)) report.most_simples _ accepted.cocycle (accepted.verified report is);
+        report = subst (Appends writing.before writing.after) reports.text_is added;
+      }
 
--- a cause is the source's failure, or the plan's refusal of some input
-cause_kind : (words : List (List ℕ)) (left : Option (List ℕ)) (failed : Type 0) (cause : Cause) → IsCause words left failed cause
-    → (failed × IsSome (command_of words) × (cause ≡ Read)) ⊎ OfInput left (λ bytes. RefusedSo words bytes cause)
-cause_kind words left failed Read h = inl (h.1, h.0, refl)
-cause_kind words left failed Usage h = inr h
-cause_kind words left failed TooLong h = inr h
-cause_kind words left failed (Syntax offset wanted) h = inr h
-cause_kind words left failed (Wide offset) h = inr h
-cause_kind words left failed (Section offset) h = inr h
-cause_kind words left failed (Order number) h = inr h
-cause_kind words left failed (Roots number) h = inr h
-cause_kind words left failed (Group fault) h = inr h
-cause_kind words left failed (Cocycle fault) h = inr h
-cause_kind words left failed (NoConductor multiple) h = inr h
-cause_kind words left failed (Conductor stated needed) h = inr h
-cause_kind words left failed (Simples ranks most) h = inr h
-cause_kind words left failed (Shape fault) h = inr h
-cause_kind words left failed (Count at rows rank) h = inr h
-cause_kind words left failed (Identity name at i j x left_side right_side) h = inr h
-cause_kind words left failed (NoTwist at row value) h = inr h
-cause_kind words left failed (NoVacuum rows) h = inr h
-cause_kind words left failed (Overflow site) h = inr h
+  pub done_means : (writing : Writing) (sink_failed : Type 0) (why : Why) → EndsSaying words left failed writing sink_failed (said_by why) → why ≡ whys.Done
+      → IsDone words left writing.before writing.after
+  done_means writing sink_failed why e done = by e.ends
+    where
+      by : Ends writing sink_failed (said_by why) e.outcome e.text → IsDone words left writing.before writing.after
+      by (inl whole) =
+          let same : Whole Report ≡ Whole e.outcome = sym (ap said_by done) ∙ whole.is in
+          let report : e.outcome ≡ Report = cc in
+          report_done writing e.text (subst (λ (o : Outcome). Says words left failed o e.text) report e.says) whole.added
+      by (inr cut) = absurd (let wrong : Whole Report ≡ Cut _ = sym (ap said_by done) ∙ cut.is in cc)
 
--- the table is a group, and the exponents a cocycle
-passes_lawful : (command : Command) (bytes text : List ℕ) → Passes command bytes text → IsLawful (document_in command bytes)
-passes_lawful command bytes text passes = record {
-  group = document_group command bytes passes.document passes.group;
-  cocycle = document_cocycle command bytes passes.document passes.group passes.cocycle;
-}
+-- ---- what the plan gives
 
--- under `verify` the rows are good
-passes_verified : (command : Command) (bytes text : List ℕ) → Passes command bytes text → command ≡ Verify → IsVerified (document_in command bytes)
-passes_verified Check bytes text passes is = absurd cc
-passes_verified Classes bytes text passes is = absurd cc
-passes_verified Verify bytes text passes is =
-    let given = verify_given bytes in
-    rows_verified (document_in Verify bytes) (passes_lawful Verify bytes text passes) (rw given at passes.tested)
+-- the plan refuses so, or gives a report and this comes late
+RefusedSo : List (List ℕ) → List ℕ → Cause → Type 0
+RefusedSo words bytes cause = (plan words bytes ≡ Err cause) ⊎ ((report : List ℕ) × (plan words bytes ≡ Ok report) × ComesLate words bytes cause)
 
--- S overflows for rows that are good
-over_means : (words : List (List ℕ)) (left : Option (List ℕ)) (failed : Type 0) (bytes report : List ℕ) (site : Site) → Agrees left bytes → plan words bytes ≡ Ok report → Overflows words bytes site
-    → Means words left failed (whys.Overflow site)
-over_means words left failed bytes report site agrees e (asks, over) =
-    let (command, found, passes) = report_passes words bytes report e in
-    let same : command ≡ Verify = let one : Some command ≡ Some Verify = sym found ∙ asks in cc in
-    let verifies : Passes Verify bytes report = subst (λ (c : Command). Passes c bytes report) same passes in
-    (asks, (bytes, agrees, (verifies.document, inr (record { lawful = passes_lawful Verify bytes report verifies; verified = passes_verified Verify bytes report verifies refl; overflows = over }))))
+agreed : (read : Option (List ℕ)) (bytes input : List ℕ) → read ≡ Some bytes → Agrees read input → input ≡ bytes
+agreed None bytes input told agrees = absurd cc
+agreed (Some left) bytes input told agrees = let same : left ≡ bytes = cc in agrees ∙ same
 
-cause_means : (words : List (List ℕ)) (left : Option (List ℕ)) (failed : Type 0) (cause : Cause) → IsCause words left failed cause → Means words left failed (why_of_cause cause)
-cause_means words left failed cause h =
-    elim (cause_kind words left failed cause h) [
-      | inl (rose, some, is) ↦ subst (λ (c : Cause). Means words left failed (why_of_cause c)) (sym is) (some, rose)
-      | inr (bytes, agrees, inl e) ↦ refusal_means words left failed bytes cause agrees e
-      | inr (bytes, agrees, inr (report, e, (site, is, over))) ↦
-          subst (λ (c : Cause). Means words left failed (why_of_cause c)) (sym is) (over_means words left failed bytes report site agrees e over)
-    ]
+long_plan : (asked : Option Command) (bytes : List ℕ) → IsSome asked → INPUT_LIMIT < length bytes → answer_for asked bytes ≡ Err TooLong
+long_plan None bytes some long = absurd cc
+long_plan (Some command) bytes some long = rw (lt-ltb INPUT_LIMIT (length bytes) long) refl
 
-report_means : (words : List (List ℕ)) (left : Option (List ℕ)) (failed : Type 0) (text : List ℕ) → OfInput left (λ bytes. plan words bytes ≡ Ok text) → Means words left failed whys.Done
-report_means words left failed text (bytes, agrees, e) =
-    let (command, asks, passes) = report_passes words bytes text e in
-    (command, asks, (bytes, agrees, (passes.document, passes_lawful command bytes text passes, passes_verified command bytes text passes)))
+module _ (words : List (List ℕ)) (bytes : List ℕ) where
+  plan_asked : (command : Command) → command_of words ≡ Some command → length bytes ≤ INPUT_LIMIT → plan words bytes ≡ report_unless (refusal command bytes) (report_in command bytes)
+  plan_asked command asks short = rw (asks, le-ltb INPUT_LIMIT (length bytes) short) refl
 
-outcome_means : (words : List (List ℕ)) (left : Option (List ℕ)) (failed : Type 0) (outcome : Outcome) (text : List ℕ) → Says words left failed outcome text → Means words left failed (why_of outcome)
-outcome_means words left failed Report text h = report_means words left failed text h
-outcome_means words left failed (Refused cause) text h = cause_means words left failed cause h.0
-outcome_means words left failed Memory text h = tt
+  plan_reports : (command : Command) → command_of words ≡ Some command → length bytes ≤ INPUT_LIMIT → refusal command bytes ≡ None → plan words bytes ≡ Ok (report_in command bytes)
+  plan_reports command asks short none = plan_asked command asks short ∙ ap (λ (r : Option Cause). report_unless r (report_in command bytes)) none
 
--- ---- what the answer means
+  input_refused : (command : Command) (cause : Cause) → command_of words ≡ Some command → length bytes ≤ INPUT_LIMIT → Refuses cause command bytes → RefusedSo words bytes cause
+  unfolding RefusedSo
+  input_refused command cause asks short (inl e) = inl (plan_asked command asks short ∙ ap (λ (r : Option Cause). report_unless r (report_in command bytes)) e)
+  input_refused command cause asks short (inr (none, late)) =
+      inr (report_in command bytes, plan_reports command asks short none, subst (λ (o : Option Command). LateFor o bytes cause) (sym asks) late)
 
--- an answer that means something comes
-means_comes : (words : List (List ℕ)) (left : Option (List ℕ)) (failed : Type 0) (why : Why) → Means words left failed why → Comes words left failed why
-means_comes words left failed whys.Usage h = h
-means_comes words left failed whys.Read h = h
-means_comes words left failed whys.TooLong h = h
-means_comes words left failed (whys.Syntax offset wanted) h = h
-means_comes words left failed (whys.Wide offset) h = h
-means_comes words left failed (whys.Section offset) h = h
-means_comes words left failed (whys.Order number) h = h
-means_comes words left failed (whys.Roots number) h = h
-means_comes words left failed (whys.Group fault) h = h
-means_comes words left failed (whys.Cocycle fault) h = h
-means_comes words left failed (whys.NoConductor multiple) h = h
-means_comes words left failed (whys.Conductor stated needed) h = h
-means_comes words left failed (whys.Simples ranks most) h = h
-means_comes words left failed (whys.Shape fault) h = h
-means_comes words left failed (whys.Count at rows rank) h = h
-means_comes words left failed (whys.Identity name at i j x left_side right_side) h = h
-means_comes words left failed (whys.NoTwist at row value) h = h
-means_comes words left failed (whys.NoVacuum rows) h = h
-means_comes words left failed (whys.Overflow site) h = h
-means_comes words left failed whys.Done h = h
-means_comes words left failed whys.Memory h = h
-means_comes words left failed (whys.Write planned) h = absurd h
+  module _ (left : Option (List ℕ)) (told : read_of words left ≡ Some bytes) (failed : Type 0) (sure : failed → ⊥) where
+    command_refused : (cause : Cause) → OfCommand words left (Refuses cause) → RefusedSo words bytes cause
+    command_refused cause (command, asks, (input, agrees, (short, refuses))) =
+        let same = agreed (read_of words left) bytes input told agrees in
+        input_refused command cause asks (subst (λ (b : List ℕ). length b ≤ INPUT_LIMIT) same short) (subst (Refuses cause command) same refuses)
 
--- where an answer comes, what it says holds
-pub answer_comes : (words : List (List ℕ)) (left : Option (List ℕ)) (source_failed : Type 0) (writing : Writing) (sink_failed : Type 0) (why : Why)
-    → EndsSaying words left source_failed writing sink_failed why → Comes words left source_failed why
-answer_comes words left source_failed writing sink_failed why (outcome, text, says, ends) =
-    elim (ending writing sink_failed why outcome text ends) [
-      | inl failed ↦
-          let plans : Plans words left source_failed failed.planned = (why_of outcome, sym failed.plans, outcome_means words left source_failed outcome text says) in
-          subst (Comes words left source_failed) (sym failed.is) plans
-      | inr written ↦
-          subst (Comes words left source_failed) (sym written.is)
-          (means_comes words left source_failed (why_of outcome) (outcome_means words left source_failed outcome text says))
-    ]
+    refused_so : (cause : Cause) → Means words left failed cause → RefusedSo words bytes cause
+    unfolding RefusedSo
+    refused_so Usage none = inl (rw none refl)
+    refused_so Read (some, rose) = absurd (sure rose)
+    refused_so TooLong (some, (input, agrees, long)) =
+        inl (long_plan (command_of words) bytes some (subst (λ (b : List ℕ). INPUT_LIMIT < length b) (agreed (read_of words left) bytes input told agrees) long))
+    refused_so cause h = command_refused cause h
 
--- a report alone is answered by Done
-cause_not_done : (cause : Cause) → why_of_cause cause ≡ whys.Done → ⊥
-cause_not_done Usage e = cc
-cause_not_done Read e = cc
-cause_not_done TooLong e = cc
-cause_not_done (Syntax offset wanted) e = cc
-cause_not_done (Wide offset) e = cc
-cause_not_done (Section offset) e = cc
-cause_not_done (Order number) e = cc
-cause_not_done (Roots number) e = cc
-cause_not_done (Group fault) e = cc
-cause_not_done (Cocycle fault) e = cc
-cause_not_done (NoConductor multiple) e = cc
-cause_not_done (Conductor stated needed) e = cc
-cause_not_done (Simples ranks most) e = cc
-cause_not_done (Shape fault) e = cc
-cause_not_done (Count at rows rank) e = cc
-cause_not_done (Identity name at i j x left_side right_side) e = cc
-cause_not_done (NoTwist at row value) e = cc
-cause_not_done (NoVacuum rows) e = cc
-cause_not_done (Overflow site) e = cc
+    -- a report is that of the plan
+    says_plan : (text : List ℕ) → OfCommand words left (Reports text) → plan words bytes ≡ Ok text
+    says_plan text (command, asks, (input, agrees, (short, reports))) =
+        let same = agreed (read_of words left) bytes input told agrees in
+        plan_reports command asks (subst (λ (b : List ℕ). length b ≤ INPUT_LIMIT) same short) (subst (λ (b : List ℕ). refusal command b ≡ None) same reports.passes)
+        ∙ ap (λ (b : List ℕ). Ok (report_in command b)) (sym same) ∙ ap Ok (sym reports.text_is)
 
-done_is_report : (outcome : Outcome) → why_of outcome ≡ whys.Done → outcome ≡ Report
-done_is_report Report e = refl
-done_is_report (Refused cause) e = absurd (cause_not_done cause e)
-done_is_report Memory e = absurd cc
-
-report_done : (words : List (List ℕ)) (left : Option (List ℕ)) (writing : Writing) (text : List ℕ) → OfInput left (λ bytes. plan words bytes ≡ Ok text) → Appends writing.before writing.after text
-    → IsDone words left writing.before writing.after
-report_done words left writing text (bytes, agrees, e) added =
-    let (command, asks, passes) = report_passes words bytes text e in
-    record {
-      command = command;
-      asked = asks;
-      bytes = bytes;
-      input = agrees;
-      document = passes.document;
-      group = document_group command bytes passes.document passes.group;
-      cocycle = document_cocycle command bytes passes.document passes.group passes.cocycle;
-      verified = passes_verified command bytes text passes;
-      report = subst (Appends writing.before writing.after) passes.report added;
-    }
-
-pub done_means : (words : List (List ℕ)) (left : Option (List ℕ)) (source_failed : Type 0) (writing : Writing) (sink_failed : Type 0) (why : Why)
-    → EndsSaying words left source_failed writing sink_failed why → why ≡ whys.Done → IsDone words left writing.before writing.after
-done_means words left source_failed writing sink_failed why (outcome, text, says, ends) done =
-    elim (ending writing sink_failed why outcome text ends) [
-      | inl failed ↦ absurd (let wrong : whys.Write failed.planned ≡ whys.Done = sym failed.is ∙ done in cc)
-      | inr written ↦
-          let report : outcome ≡ Report = done_is_report outcome (sym written.is ∙ done) in
-          report_done words left writing text (subst (λ (o : Outcome). Says words left source_failed o text) report says) written.added
-    ]
-
--- ---- what the plan gives is what the program answers
-
-same_cause : (words : List (List ℕ)) (bytes : List ℕ) (cause : Cause) → RefusedSo words bytes cause → Decides (Overflows words bytes) (plan words bytes) (why_of_cause cause)
-same_cause words bytes cause (inl e) = rw e (inl refl)
-same_cause words bytes cause (inr (report, e, (site, is, over))) = rw (e, is) (inr (inr (site, refl, over)))
-
-outcome_decides : (words : List (List ℕ)) (bytes : List ℕ) (failed : Type 0) (outcome : Outcome) (text : List ℕ) → (failed → ⊥) → Says words (Some bytes) failed outcome text
-    → Decides (Overflows words bytes) (plan words bytes) (why_of outcome)
-outcome_decides words bytes failed Report text sure (input, agrees, e) = subst (λ (b : List ℕ). Decides (Overflows words b) (plan words b) whys.Done) agrees (rw e (inl refl))
-outcome_decides words bytes failed (Refused cause) text sure says =
-    elim (cause_kind words (Some bytes) failed cause says.0) [
-      | inl (rose, some, is) ↦ absurd (sure rose)
-      | inr (input, agrees, e) ↦ subst (λ (b : List ℕ). Decides (Overflows words b) (plan words b) (why_of_cause cause)) agrees (same_cause words input cause e)
-    ]
-outcome_decides words bytes failed Memory text sure says = decides_memory (plan words bytes)
-  where
-    decides_memory : (planned : Result (List ℕ) Cause) → Decides (Overflows words bytes) planned whys.Memory
+    decides_memory : (planned : Result (List ℕ) Cause) → Decides (ComesLate words bytes) planned (Whole Memory)
     decides_memory (Ok report) = inr (inl refl)
     decides_memory (Err cause) = inr refl
 
-pub plan_decides : (words : List (List ℕ)) (left : Option (List ℕ)) (source_failed : Type 0) (writing : Writing) (sink_failed : Type 0) (why : Why) (bytes : List ℕ)
-    → EndsSaying words left source_failed writing sink_failed why → left ≡ Some bytes → (source_failed → ⊥) → (sink_failed → ⊥) → Decides (Overflows words bytes) (plan words bytes) why
-plan_decides words left source_failed writing sink_failed why bytes (outcome, text, says, ends) told sure_source sure_sink =
-    elim (ending writing sink_failed why outcome text ends) [
-      | inl failed ↦ absurd (sure_sink failed.rose)
-      | inr written ↦
-          subst (Decides (Overflows words bytes) (plan words bytes)) (sym written.is)
-          (outcome_decides words bytes source_failed outcome text sure_source (subst (λ (l : Option (List ℕ)). Says words l source_failed outcome text) told says))
+    refused_decides : (cause : Cause) → RefusedSo words bytes cause → Decides (ComesLate words bytes) (plan words bytes) (Whole (Refused cause))
+    unfolding RefusedSo
+    refused_decides cause (inl e) = subst (λ (p : Result (List ℕ) Cause). Decides (ComesLate words bytes) p (Whole (Refused cause))) (sym e) (inl refl)
+    refused_decides cause (inr (report, e, late)) =
+        subst (λ (p : Result (List ℕ) Cause). Decides (ComesLate words bytes) p (Whole (Refused cause))) (sym e) (inr (inr (cause, refl, late)))
+
+    says_decides : (outcome : Outcome) (text : List ℕ) → Says words left failed outcome text → Decides (ComesLate words bytes) (plan words bytes) (Whole outcome)
+    says_decides Report text says = subst (λ (p : Result (List ℕ) Cause). Decides (ComesLate words bytes) p (Whole Report)) (sym (says_plan text says)) (inl refl)
+    says_decides (Refused cause) text says = refused_decides cause (refused_so cause says.0)
+    says_decides Memory text says = decides_memory (plan words bytes)
+
+    pub plan_decides : (writing : Writing) (sink_failed : Type 0) (said : Said) → EndsSaying words left failed writing sink_failed said → (sink_failed → ⊥)
+        → Decides (ComesLate words bytes) (plan words bytes) said
+    plan_decides writing sink_failed said e sure_sink = by e.ends
+      where
+        by : Ends writing sink_failed said e.outcome e.text → Decides (ComesLate words bytes) (plan words bytes) said
+        by (inl whole) = subst (Decides (ComesLate words bytes) (plan words bytes)) (sym whole.is) (says_decides e.outcome e.text e.says)
+        by (inr cut) = absurd (sure_sink cut.rose)
+
+    -- ---- an acceptable input
+    module _ (accepts : IsAcceptable words bytes) where
+      abbrev report : List ℕ
+      report = report_in accepts.command bytes
+
+      planned : plan words bytes ≡ Ok report
+      planned = plan_reports accepts.command accepts.asked accepts.short (accepted_passes accepts.command bytes accepts.accepted accepts.fits)
+
+      nothing_late : (cause : Cause) → ComesLate words bytes cause → ⊥
+      nothing_late cause late = accepts.sums cause (subst (λ (o : Option Command). LateFor o bytes cause) accepts.asked late)
+
+      not_refused : (cause : Cause) → RefusedSo words bytes cause → ⊥
+      unfolding RefusedSo
+      not_refused cause (inl e) = let wrong : Ok report ≡ Err cause = sym planned ∙ e in cc
+      not_refused cause (inr (other, e, late)) = nothing_late cause late
+
+      -- a report, or that there was no memory
+      report_or_memory : (said : Said) (outcome : Outcome) (text : List ℕ) → said ≡ Whole outcome → Says words left failed outcome text → (said ≡ Whole Report) ⊎ (said ≡ Whole Memory)
+      report_or_memory said Report text is says = inl is
+      report_or_memory said (Refused cause) text is says = absurd (not_refused cause (refused_so cause says.0))
+      report_or_memory said Memory text is says = inr is
+
+      -- what there was to say has room where the report and the line for want of memory have
+      outcome_room : (room : Option ℕ) (outcome : Outcome) (text : List ℕ) → HasRoom room report → HasRoom room memory_line → Says words left failed outcome text → HasRoom room text
+      outcome_room room Report text has memory says =
+          let both : Ok report ≡ Ok text = sym planned ∙ says_plan text says in
+          let same : report ≡ text = cc in
+          subst (HasRoom room) same has
+      outcome_room room (Refused cause) text has memory says = absurd (not_refused cause (refused_so cause says.0))
+      outcome_room room Memory text has memory says = subst (HasRoom room) (sym says) memory
+
+      accepted_said : (writing : Writing) (sink_failed : Type 0) (said : Said) → EndsSaying words left failed writing sink_failed said → IsRoomy sink_failed writing.room report
+          → (said ≡ Whole Report) ⊎ (said ≡ Whole Memory)
+      accepted_said writing sink_failed said e roomy = by e.ends roomy
+        where
+          by : Ends writing sink_failed said e.outcome e.text → IsRoomy sink_failed writing.room report → (said ≡ Whole Report) ⊎ (said ≡ Whole Memory)
+          by (inl whole) roomy = report_or_memory said e.outcome e.text whole.is e.says
+          by (inr cut) (inl sure_sink) = absurd (sure_sink cut.rose)
+          by (inr cut) (inr (has, memory)) = absurd (cut.no_room (outcome_room writing.room e.outcome e.text has memory e.says))
+
+done_said : (why : Why) → said_by why ≡ Whole Report → why ≡ whys.Done
+done_said whys.Done e = refl
+done_said why e = absurd cc
+
+memory_said : (why : Why) → said_by why ≡ Whole Memory → why ≡ whys.Memory
+memory_said whys.Memory e = refl
+memory_said why e = absurd cc
+
+pub acceptable_done : (words : List (List ℕ)) (left : Option (List ℕ)) (failed : Type 0) (writing : Writing) (sink_failed : Type 0) (why : Why) (bytes : List ℕ)
+    → EndsSaying words left failed writing sink_failed (said_by why) → read_of words left ≡ Some bytes → (failed → ⊥) → (accepts : IsAcceptable words bytes)
+    → IsRoomy sink_failed writing.room (report_in accepts.command bytes) → (why ≡ whys.Done) ⊎ (why ≡ whys.Memory)
+acceptable_done words left failed writing sink_failed why bytes ends told sure accepts roomy =
+    elim (accepted_said words bytes left told failed sure accepts writing sink_failed (said_by why) ends roomy) [
+      | inl report ↦ inl (done_said why report)
+      | inr memory ↦ inr (memory_said why memory)
     ]
-
--- ---- a sink that promises room for the report
-
--- a report is longer than the line for want of memory
-report_long : (command : Command) (document : Document) (w : Cochain) → length memory_line ≤ length (report_of command document w)
-report_long Check document w = simp length-append (omega arith)
-report_long Classes document w = simp length-append (omega arith)
-report_long Verify document w = characters_long document.characters
-  where
-    characters_long : (characters : Option Given) → length memory_line ≤ length (characters_report w characters)
-    characters_long None = simp length-append (omega arith)
-    characters_long (Some given) = simp length-append (omega arith)
-
-room_for_less : (room : Option ℕ) (long short : List ℕ) → length short ≤ length long → HasRoom room long → HasRoom room short
-room_for_less None long short less has = has
-room_for_less (Some room) long short less has = let fits : length long ≤ room = has in omega arith
-
-memory_room : (words : List (List ℕ)) (bytes report : List ℕ) (room : Option ℕ) → plan words bytes ≡ Ok report → HasRoom room report → HasRoom room memory_line
-memory_room words bytes report room e has =
-    let (command, asks, passes) = report_passes words bytes report e in
-    let document = document_in command bytes in
-    room_for_less room (report_of command document (exponents_of document)) memory_line (report_long command document (exponents_of document)) (subst (HasRoom room) passes.report has)
-
--- what there was to say has room where the report has
-outcome_room : (words : List (List ℕ)) (bytes report : List ℕ) (failed : Type 0) (room : Option ℕ) (outcome : Outcome) (text : List ℕ) → (failed → ⊥)
-    → plan words bytes ≡ Ok report → ((site : Site) → Overflows words bytes site → ⊥) → HasRoom room report → Says words (Some bytes) failed outcome text → HasRoom room text
-outcome_room words bytes report failed room Report text sure e none has (input, agrees, planned) =
-    let again : plan words bytes ≡ Ok text = subst (λ (b : List ℕ). plan words b ≡ Ok text) agrees planned in
-    let same : report ≡ text = cc in
-    subst (HasRoom room) same has
-outcome_room words bytes report failed room (Refused cause) text sure e none has says =
-    elim (cause_kind words (Some bytes) failed cause says.0) [
-      | inl (rose, some, is) ↦ absurd (sure rose)
-      | inr (input, agrees, inl planned) ↦
-          let again : plan words bytes ≡ Err cause = subst (λ (b : List ℕ). plan words b ≡ Err cause) agrees planned in
-          absurd cc
-      | inr (input, agrees, inr (other, planned, (site, is, over))) ↦ absurd (none site (subst (λ (b : List ℕ). Overflows words b site) agrees over))
-    ]
-outcome_room words bytes report failed room Memory text sure e none has says = subst (HasRoom room) (sym says) (memory_room words bytes report room e has)
-
--- a report, or the word that there was no memory
-report_or_memory : (words : List (List ℕ)) (bytes report : List ℕ) (why : Why) → plan words bytes ≡ Ok report → ((site : Site) → Overflows words bytes site → ⊥)
-    → Decides (Overflows words bytes) (plan words bytes) why → (why ≡ whys.Done) ⊎ (why ≡ whys.Memory)
-report_or_memory words bytes report why e none decides = by (rw e at decides)
-  where
-    by : Decides (Overflows words bytes) (Ok report) why → (why ≡ whys.Done) ⊎ (why ≡ whys.Memory)
-    by (inl done) = inl done
-    by (inr (inl memory)) = inr memory
-    by (inr (inr (site, is, over))) = absurd (none site over)
-
-pub room_decides : (words : List (List ℕ)) (left : Option (List ℕ)) (source_failed : Type 0) (writing : Writing) (sink_failed : Type 0) (why : Why) (bytes report : List ℕ)
-    → EndsSaying words left source_failed writing sink_failed why → left ≡ Some bytes → (source_failed → ⊥) → plan words bytes ≡ Ok report
-    → ((site : Site) → Overflows words bytes site → ⊥) → HasRoom writing.room report → (why ≡ whys.Done) ⊎ (why ≡ whys.Memory)
-room_decides words left source_failed writing sink_failed why bytes report (outcome, text, says, ends) told sure e none has =
-    let known = subst (λ (l : Option (List ℕ)). Says words l source_failed outcome text) told says in
-    elim (ending writing sink_failed why outcome text ends) [
-      | inl failed ↦ absurd (failed.no_room (outcome_room words bytes report source_failed writing.room outcome text sure e none has known))
-      | inr written ↦
-          report_or_memory words bytes report why e none (subst (Decides (Overflows words bytes) (plan words bytes)) (sym written.is) (outcome_decides words bytes source_failed outcome text sure known))
-    ]
-
--- ---- an acceptable input
-
--- no sum of S overflows
-sums_fit : (words : List (List ℕ)) (bytes : List ℕ) → IsAcceptable words bytes → (site : Site) → Overflows words bytes site → ⊥
-sums_fit words bytes accepts site (asks, over) =
-    let same : accepts.command ≡ Verify = let one : Some accepts.command ≡ Some Verify = sym accepts.asked ∙ asks in cc in
-    accepts.sums same site (subst (λ (c : Command). OverflowsIn (document_in c bytes) site) (sym same) over)
-
-pub acceptable_decides : (words : List (List ℕ)) (left : Option (List ℕ)) (source_failed : Type 0) (writing : Writing) (sink_failed : Type 0) (why : Why) (bytes : List ℕ)
-    → EndsSaying words left source_failed writing sink_failed why → left ≡ Some bytes → (source_failed → ⊥) → (sink_failed → ⊥) → IsAcceptable words bytes
-    → (why ≡ whys.Done) ⊎ (why ≡ whys.Memory)
-acceptable_decides words left source_failed writing sink_failed why bytes ends told sure_source sure_sink accepts =
-    let (report, planned) = acceptable_plan words bytes accepts in
-    report_or_memory words bytes report why planned (sums_fit words bytes accepts) (plan_decides words left source_failed writing sink_failed why bytes ends told sure_source sure_sink)
-
--- ---- from what was prepared to how the program ends
-
-pub prepared_ends : (words : List (List ℕ)) (left : Option (List ℕ)) (source_failed : Type 0) (writing : Writing) (sink_failed : Type 0) (why : Why) (prepared : Result (Vec ℕ) Stop)
-    → Prepares words left source_failed prepared → SaysPrepared prepared writing sink_failed why → EndsSaying words left source_failed writing sink_failed why
-prepared_ends words left source_failed writing sink_failed why (Ok text) prepares says = (Report, text.items, prepares, says)
-prepared_ends words left source_failed writing sink_failed why (Err (stops.Refused cause)) prepares (inl says) = (Refused cause, line_of cause, (prepares, refl), says)
-prepared_ends words left source_failed writing sink_failed why (Err (stops.Refused cause)) prepares (inr says) = (Memory, memory_line, refl, says)
-prepared_ends words left source_failed writing sink_failed why (Err stops.Memory) prepares says = (Memory, memory_line, refl, says)
-
--- an outcome that is no report is not answered by Done
-not_done : (writing : Writing) (failed : Type 0) (why : Why) (outcome : Outcome) (text : List ℕ) → (why_of outcome ≡ whys.Done → ⊥) → Ends writing failed why outcome text → why ≡ whys.Done → ⊥
-not_done writing failed why outcome text other ends done =
-    elim (ending writing failed why outcome text ends) [
-      | inl fault ↦ let wrong : whys.Write fault.planned ≡ whys.Done = sym fault.is ∙ done in cc
-      | inr written ↦ other (sym written.is ∙ done)
-    ]
-
--- Done comes of a report alone
-pub done_prepared : (writing : Writing) (failed : Type 0) (why : Why) (prepared : Result (Vec ℕ) Stop) → SaysPrepared prepared writing failed why → why ≡ whys.Done → IsOk prepared
-done_prepared writing failed why (Ok text) says done = refl
-done_prepared writing failed why (Err (stops.Refused cause)) (inl says) done = absurd (not_done writing failed why (Refused cause) (line_of cause) (cause_not_done cause) says done)
-done_prepared writing failed why (Err (stops.Refused cause)) (inr says) done = absurd (not_done writing failed why Memory memory_line (λ e. cc) says done)
-done_prepared writing failed why (Err stops.Memory) says done = absurd (not_done writing failed why Memory memory_line (λ e. cc) says done)

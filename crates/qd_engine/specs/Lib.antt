@@ -2,8 +2,8 @@ pub mod Words
 pub mod Documents
 pub mod Shape
 pub mod Report
-pub mod Plan
 pub mod Follows
+pub mod Tests
 pub mod Answers
 pub mod Causes
 pub mod Acceptable

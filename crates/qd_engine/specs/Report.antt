@@ -1,10 +1,11 @@
--- The report of each command.
-use Rattle.std.specs.Prelude.{ℕ, List, length, map, codes, Option, Some, None}
-use Rattle.std.specs.List.{range_with_len}
+-- The report of a command: its parts, one after the other.
+use Rattle.std.specs.Prelude.{ℕ, List, [], ◌++◌, length, map, codes, Option, Some, None}
+use Rattle.std.specs.List.{range_with_len, flat_map}
 use Rattle.std.specs.Fmt.{decimal}
 use Rattle.classes.specs.Conjugacy.{representatives, representative_at}
 use Rattle.cochain.specs.Cochain.{Cochain}
 use Rattle.qd_doc.specs.declared.document.Document.{Document}
+use Rattle.qd_doc.specs.declared.document.Given.{Given}
 use Rattle.twisted.specs.Regular.{rank}
 use Rattle.slant.specs.Twists.{twist_of}
 use Rattle.transport.specs.Simples.{SimplesOver, count}
@@ -14,10 +15,14 @@ use Rattle.data_print.specs.Head.{head_of}
 use Rattle.data_print.specs.ClassLines.{classes_text}
 use Rattle.data_print.specs.SimpleLines.{simples_text}
 use Rattle.data_print.specs.SLines.{s_head, s_line}
-use Rattle.qd_doc.specs.declared.document.Given.{Given}
 use Rattle.qd_steps.specs.Tables.{simples_over}
+use Rattle.qd_engine.specs.Documents.{document_in, exponents_of, conductor_of}
+use Rattle.qd_engine.specs.declared.command.Part.{Part}
+use Rattle.qd_engine.specs.declared.command.Part.TheVariants as front_parts
+use Rattle.qd_engine.specs.declared.command.RowPart.{RowPart}
+use Rattle.qd_engine.specs.declared.command.RowPart.TheVariants as row_parts
+use Rattle.qd_engine.specs.declared.command.RowReport.{RowReport}
 use Rattle.qd_engine.specs.declared.command.Command.{Command}
-use Rattle.qd_engine.specs.declared.command.Command.TheVariants.{Check, Classes, Verify}
 
 -- the rank of the class with the number c: that of the twisted centraliser of its representative
 unfoldable pub class_rank : Cochain → ℕ → ℕ
@@ -39,22 +44,34 @@ conductor_line k = codes "conductor " ⧺ decimal k ⧺ codes "\n"
 unfoldable pub s_lines : (k : ℕ) → SimplesOver → List ℕ
 s_lines k s = first_lines (λ i. s_head s.cocycle.group.order i ⧺ s_line i (s_front k s i (count k s))) (count k s)
 
--- the lines of the simples, and of their matrix S
-abbrev pub numbers_text : (k : ℕ) → SimplesOver → List ℕ
-numbers_text k s = simples_text k s ⧺ s_lines k s
+-- a part of a report that needs no rows
+abbrev pub part_text : Cochain → Part → List ℕ
+part_text w front_parts.Blank = []
+part_text w front_parts.Head = head_of w
+part_text w front_parts.Classes = classes_text w.group (class_ranks w)
+part_text w front_parts.End = end_line
 
--- the report on the rows that a document gives
-abbrev pub rows_report : Cochain → Given → List ℕ
-rows_report w given =
-    head_of w ⧺ classes_text w.group (class_ranks w) ⧺ conductor_line given.conductor
-    ⧺ numbers_text given.conductor (simples_over w given.blocks) ⧺ end_line
+-- a part of a report on the simples that rows give
+abbrev pub row_part_text : (k : ℕ) → SimplesOver → RowPart → List ℕ
+row_part_text k s row_parts.Conductor = conductor_line k
+row_part_text k s row_parts.Simples = simples_text k s
+row_part_text k s row_parts.S = s_lines k s
+row_part_text k s row_parts.End = end_line
 
--- the same of what a document gives. One with characters gives rows, so its first line is never met
-abbrev pub characters_report : Cochain → Option Given → List ℕ
-characters_report w None = head_of w ⧺ end_line
-characters_report w (Some given) = rows_report w given
+-- parts one after the other
+unfoldable pub parts_text : {A : Type 0} → (A → List ℕ) → List A → List ℕ
+parts_text text parts = flat_map text parts
 
-abbrev pub report_of : Command → Document → Cochain → List ℕ
-report_of Check document w = head_of w ⧺ end_line
-report_of Classes document w = head_of w ⧺ classes_text w.group (class_ranks w) ⧺ end_line
-report_of Verify document w = characters_report w document.characters
+-- what a report says of rows, where the command reports on rows and the document gives them
+abbrev pub rows_text : Cochain → Option RowReport → Option Given → List ℕ
+rows_text w None given = []
+rows_text w (Some report) None = []
+rows_text w (Some report) (Some given) = parts_text (row_part_text (conductor_of w) (simples_over w given.blocks)) report.parts
+
+-- the report of a command on a document
+abbrev pub report_of : Command → Document → List ℕ
+report_of command document =
+    parts_text (part_text (exponents_of document)) command.parts ++ rows_text (exponents_of document) command.rows document.characters
+
+abbrev pub report_in : Command → List ℕ → List ℕ
+report_in command bytes = report_of command (document_in command bytes)

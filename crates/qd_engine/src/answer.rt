@@ -1,5 +1,5 @@
 ghost use Rattle.std.specs.Prelude.{◌≡◌};
-ghost use Rattle.qd_engine.specs.Answers.{why_of, why_of_cause, status_of};
+ghost use Rattle.qd_engine.specs.Answers.{said_by, Whole, status_of_cause, status_of};
 
 use cochain::CocycleFault;
 use data_print::{Cause, ShapeFault};
@@ -121,7 +121,7 @@ pub enum Outcome {
 
 /// The answer that stands for a cause.
 fn why_of_cause(cause: Cause) -> Why
-    ensures why { result ≡ why_of_cause cause }
+    ensures said { said_by result ≡ Whole (Outcome.Refused cause) }
 {
     match cause {
         Cause::Usage => Why::Usage,
@@ -166,7 +166,7 @@ fn why_of_cause(cause: Cause) -> Why
 
 /// The status of the answer that stands for a cause.
 fn status_of_cause(cause: &Cause) -> u8
-    ensures status { result ≡ status_of (why_of_cause cause.now) }
+    ensures status { result ≡ status_of_cause cause.now }
 {
     match cause {
         Cause::Usage => 2,
@@ -185,7 +185,7 @@ fn status_of_cause(cause: &Cause) -> u8
 impl Outcome {
     /// How the program ends where this is written whole.
     pub fn why(self) -> Why
-        ensures why { result ≡ why_of self }
+        ensures said { said_by result ≡ Whole self }
     {
         match self {
             Outcome::Report => Why::Done,
@@ -196,7 +196,7 @@ impl Outcome {
 
     /// The status that the program ends with where this is written whole.
     pub fn status(self) -> u8
-        ensures status { result ≡ status_of (why_of self) }
+        ensures status { result ≡ status_of self }
     {
         match self {
             Outcome::Report => 0,

@@ -5,13 +5,13 @@ mod answer;
 mod command;
 mod finish;
 mod input;
-mod numbers;
 mod ranks;
+mod rows;
 mod running;
 mod shape;
+mod stated;
 mod steps;
 mod stop;
-mod verify;
 
 pub use answer::{Answer, Why};
 pub use running::run;

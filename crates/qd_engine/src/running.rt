@@ -1,15 +1,15 @@
-ghost use Rattle.std.specs.Prelude.{◌≡◌, ℕ, List, Some, None, Ok, OnOk, IfOk, ◌⊎◌};
+ghost use Rattle.std.specs.Prelude.{◌≡◌, ℕ, List, true, false, Some, None, Ok, OnOk, IfOk, ◌⊎◌};
 ghost use Rattle.std.specs.Io.KnownBytes.{IsAtEnd};
-ghost use Rattle.qd_io.specs.Stream.{Rises, HasRoom};
+ghost use Rattle.qd_io.specs.Stream.{Rises};
 ghost use Rattle.data_print.specs.Lines.{line_of};
-ghost use Rattle.qd_engine.specs.Words.{texts, command_of};
-ghost use Rattle.qd_engine.specs.Plan.{plan};
-ghost use Rattle.qd_engine.specs.Answers.{status_of};
+ghost use Rattle.qd_engine.specs.Words.{texts, reads_by, read_of};
+ghost use Rattle.qd_engine.specs.Report.{report_in};
+ghost use Rattle.qd_engine.specs.Tests.{plan, ComesLate};
+ghost use Rattle.qd_engine.specs.Answers.{said_by, status_by, Whole, Cut};
 ghost use Rattle.qd_engine.specs.Causes.{Comes, IsDone};
 ghost use Rattle.qd_engine.specs.Acceptable.{IsAcceptable};
 ghost use Rattle.qd_engine.specs.declared.answer.Why.{Why};
-ghost use Rattle.qd_engine.specs.Endings.{Prepares, Takes, TakesFor, SaysPrepared, EndsSaying, Overflows, Decides};
-ghost use Rattle.qd_ring.specs.declared.site.Site.{Site};
+ghost use Rattle.qd_engine.specs.Endings.{Prepares, Takes, TakesFor, SaysPrepared, EndsSaying, IsRoomy, Decides};
 
 use crate::answer::{Answer, Outcome};
 use crate::command::command_of;
@@ -27,13 +27,13 @@ fn prepare<S: Source>(alloc: Global, words: &Vec<String>, source: &mut S) -> Res
         (Rises (S.faults source.old) (S.faults source.new)) result }
     ensures taken { Takes (S.left source.old) (S.left source.new) result }
     ensures drained { OnOk result (IsAtEnd (S.left source.new)) }
-    ensures untouched { command_of (texts words.now.items) ≡ None → source.new ≡ source.old }
+    ensures untouched { reads_by (texts words.now.items) ≡ false → source.new ≡ source.old }
 {
     let Some(command) = command_of(words) else {
         return Err(Stop::Refused(Cause::Usage));
     };
     let bytes = input(alloc, source)?;
-    answer_to(alloc, command, &bytes)
+    answer_to(alloc, &command, &bytes)
 }
 
 /// The line of a refusal.
@@ -50,10 +50,10 @@ const MEMORY_LINE: &str = "refused 14 memory\n";
 
 /// Writes the report, or the one line of a refusal.
 fn say<W: Sink>(alloc: Global, prepared: Result<Vec<u8>, Stop>, sink: &mut W) -> Answer
-    ensures status { result.status ≡ status_of result.why }
+    ensures status { result.status ≡ status_by (said_by result.why) }
     ensures said { SaysPrepared prepared
         (record { before = W.written sink.old; after = W.written sink.new; room = W.room sink.old })
-        (Rises (W.faults sink.old) (W.faults sink.new)) result.why }
+        (Rises (W.faults sink.old) (W.faults sink.new)) (said_by result.why) }
 {
     match prepared {
         Ok(text) => finish(sink, Outcome::Report, &text),
@@ -75,40 +75,37 @@ pub fn run<S: Source, W: Sink>(
     source: &mut S,
     sink: &mut W,
 ) -> Answer
-    ensures status { result.status ≡ status_of result.why }
+    ensures status { result.status ≡ status_by (said_by result.why) }
 
-    // Done: the input is a document of a group and a normalised 3-cocycle, for `verify` with good rows, and the sink has its report.
+    // Done: the input is a document of a group and a normalised 3-cocycle, for `verify` with good rows, which give orthogonal central
+    // idempotents, and the sink has its report.
     ensures done { result.why ≡ Why.Done →
         IsDone (texts words.now.items) (S.left source.old) (W.written sink.old) (W.written sink.new) }
 
     // Every answer: what holds where it comes, and what was written.
     ensures cause { Comes (texts words.now.items) (S.left source.old)
-        (Rises (S.faults source.old) (S.faults source.new)) result.why }
+        (Rises (S.faults source.old) (S.faults source.new)) (said_by result.why) }
     ensures written { EndsSaying (texts words.now.items) (S.left source.old)
         (Rises (S.faults source.old) (S.faults source.new))
         (record { before = W.written sink.old; after = W.written sink.new; room = W.room sink.old })
-        (Rises (W.faults sink.old) (W.faults sink.new)) result.why }
+        (Rises (W.faults sink.old) (W.faults sink.new)) (said_by result.why) }
 
-    // Where the input is known and nothing fails, the answer is what the plan gives, or that there was no memory; for `verify` it may be
-    // a site at which S overflows, in place of a report. So an acceptable input has its report; a sink that promises room takes it.
-    ensures decided { (bytes : List ℕ) → S.left source.old ≡ Some bytes
+    // Where what is read is known and nothing fails, the answer is what the plan gives, or that there was no memory; in place of a report it
+    // may be a site at which S overflows. So an acceptable input has its report, also over a sink that promises room for it.
+    ensures decided { (bytes : List ℕ) → read_of (texts words.now.items) (S.left source.old) ≡ Some bytes
         → (Rises (S.faults source.old) (S.faults source.new) → ⊥)
         → (Rises (W.faults sink.old) (W.faults sink.new) → ⊥)
-        → Decides (Overflows (texts words.now.items) bytes) (plan (texts words.now.items) bytes) result.why }
-    ensures complete { (bytes : List ℕ) → S.left source.old ≡ Some bytes
+        → Decides (ComesLate (texts words.now.items) bytes) (plan (texts words.now.items) bytes) (said_by result.why) }
+    ensures complete { (bytes : List ℕ) → read_of (texts words.now.items) (S.left source.old) ≡ Some bytes
         → (Rises (S.faults source.old) (S.faults source.new) → ⊥)
-        → (Rises (W.faults sink.old) (W.faults sink.new) → ⊥)
-        → IsAcceptable (texts words.now.items) bytes → (result.why ≡ Why.Done) ⊎ (result.why ≡ Why.Memory) }
-    ensures roomy { (bytes report : List ℕ) → S.left source.old ≡ Some bytes
-        → (Rises (S.faults source.old) (S.faults source.new) → ⊥)
-        → plan (texts words.now.items) bytes ≡ Ok report → ((site : Site) → Overflows (texts words.now.items) bytes site → ⊥)
-        → HasRoom (W.room sink.old) report
+        → (accepts : IsAcceptable (texts words.now.items) bytes)
+        → IsRoomy (Rises (W.faults sink.old) (W.faults sink.new)) (W.room sink.old) (report_in accepts.command bytes)
         → (result.why ≡ Why.Done) ⊎ (result.why ≡ Why.Memory) }
 
     // What becomes of the source.
-    ensures taken { TakesFor (S.left source.old) (S.left source.new) result.why }
+    ensures taken { TakesFor (S.left source.old) (S.left source.new) (said_by result.why) }
     ensures drained { (result.why ≡ Why.Done) ⊎ (result.why ≡ Why.Write 0) → IsAtEnd (S.left source.new) }
-    ensures untouched { command_of (texts words.now.items) ≡ None → source.new ≡ source.old }
+    ensures untouched { reads_by (texts words.now.items) ≡ false → source.new ≡ source.old }
 {
     let prepared = prepare(alloc, words, source);
     say(alloc, prepared, sink)

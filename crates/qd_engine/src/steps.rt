@@ -1,42 +1,40 @@
-//! The steps from the input to the report, each as the plan says.
+//! The steps from the input to the report, each by its test.
 
-ghost use Rattle.std.specs.Prelude.{◌≡◌, ◌≤◌, length, ◌++◌, ℕ, vec_len, OnOk, IfOk};
+ghost use Rattle.std.specs.Prelude.{◌≡◌, ◌≤◌, length, ◌++◌, ℕ, All, None, Some, vec_len, OnOk, IfOk, IfSome};
 ghost use Rattle.std.specs.Global.{Vec};
-ghost use Rattle.qd_doc.specs.Contents.{IsInRange};
+ghost use Rattle.std.specs.Option.{option_map};
+ghost use Rattle.classes.specs.Conjugacy.{representatives};
+ghost use Rattle.group_table.specs.Group.{Table, group_fault};
+ghost use Rattle.cochain.specs.Cochain.{Cochain, cocycle_fault};
+ghost use Rattle.qd_text.specs.Tokens.{tokens};
+ghost use Rattle.qd_doc.specs.Grammar.{stop_of};
+ghost use Rattle.qd_doc.specs.Contents.{IsInRange, IsGivenInRange, document_of};
+ghost use Rattle.qd_doc.specs.declared.document.Document.{Document};
 ghost use Rattle.qd_io.specs.declared.reading.TheConstants.{INPUT_LIMIT};
-ghost use Rattle.data_print.specs.Head.{head_of};
-ghost use Rattle.data_print.specs.ClassLines.{classes_text};
-ghost use Rattle.qd_engine.specs.Documents.{form_of, table_of, exponents_of};
-ghost use Rattle.qd_engine.specs.Report.{class_ranks, end_line};
-ghost use Rattle.qd_engine.specs.Plan.{document_step, group_step, cocycle_step, report_step, answer_to};
-ghost use Rattle.qd_engine.specs.Causes.{document_in, OverflowsFor};
-ghost use Rattle.qd_engine.specs.Follows.{Follows, FollowsUnless};
+ghost use Rattle.qd_engine.specs.Words.{form_of};
+ghost use Rattle.qd_engine.specs.Documents.{document_in, table_of, exponents_of};
+ghost use Rattle.qd_engine.specs.Report.{class_ranks, part_text, parts_text, rows_text, report_of};
+ghost use Rattle.qd_engine.specs.Tests.{scan_test, rows_test, document_test, refusal, LateRows, Late};
+ghost use Rattle.qd_engine.specs.Follows.{Tests, Follows};
+ghost use Rattle.qd_engine.specs.Endings.{Reports};
 
-use crate::command::Command;
+use crate::command::{Command, Part, RowReport, form_of};
 use crate::ranks::class_ranks;
+use crate::rows::append_numbers;
+use crate::stated::matched_conductor;
 use crate::stop::Stop;
-use crate::verify::verify;
 use classes::Classes;
 use cochain::{Cocycle, CocycleRefusal};
 use data_print::{Cause, append_classes, append_head};
-use group_table::{Group, GroupRefusal};
-use qd_doc::{DocRefusal, Document, Form, parse};
+use group_table::{Group, GroupRefusal, Nats};
+use qd_doc::{DocRefusal, Document, Form, Given, parse};
 use std::alloc::{AllocError, Global};
-
-/// The form of document that a command reads.
-fn form_of(command: Command) -> Form
-    ensures form { result ≡ form_of command }
-{
-    match command {
-        Command::Check | Command::Classes => Form::Bare,
-        Command::Verify => Form::WithCharacters,
-    }
-}
 
 /// The document that the bytes spell, of this form.
 fn document(alloc: Global, bytes: &Vec<u8>, form: Form) -> Result<Document, Stop>
     requires limit { vec_len bytes.now ≤ INPUT_LIMIT }
-    ensures follows { Follows (λ d. d) result (document_step form bytes.now.items) }
+    ensures tested { Tests (scan_test (stop_of form bytes.now.items))
+        (λ (d : Document). (stop_of form bytes.now.items ≡ None) × (d ≡ document_of form (tokens bytes.now.items))) result }
     ensures shaped { IfOk result IsInRange }
 {
     match parse(alloc, bytes, form) {
@@ -56,7 +54,7 @@ fn document(alloc: Global, bytes: &Vec<u8>, form: Form) -> Result<Document, Stop
 /// The group that the table of a document is.
 fn group(alloc: Global, document: &Document) -> Result<Group, Stop>
     requires shaped { IsInRange document.now }
-    ensures follows { Follows (λ g. g) result (group_step document.now) }
+    ensures tested { Tests (option_map Cause.Group (group_fault (table_of document.now))) (λ (g : Table). g ≡ table_of document.now) result }
 {
     match Group::from_table(alloc, document.order, &document.table) {
         Ok(group) => Ok(group),
@@ -69,8 +67,7 @@ fn group(alloc: Global, document: &Document) -> Result<Group, Stop>
 fn cocycle(alloc: Global, group: Group, document: &Document) -> Result<Cocycle, Stop>
     requires shaped { IsInRange document.now }
     requires group { group ≡ table_of document.now }
-    ensures follows { Follows (λ w. w) result (cocycle_step document.now) }
-    ensures exponents { IfOk result (λ w. w ≡ exponents_of document.now) }
+    ensures tested { Tests (option_map Cause.Cocycle (cocycle_fault (exponents_of document.now))) (λ (w : Cochain). w ≡ exponents_of document.now) result }
 {
     match Cocycle::from_exponents(alloc, group, document.roots, &document.exponents) {
         Ok(cocycle) => Ok(cocycle),
@@ -79,61 +76,141 @@ fn cocycle(alloc: Global, group: Group, document: &Document) -> Result<Cocycle, 
     }
 }
 
-/// Adds the lines of the classes.
-fn append_ranked_classes(alloc: Global, out: &mut Vec<u8>, w: &Cocycle) -> Result<(), AllocError>
-    ensures added { OnOk result (out.new.items ≡ out.old.items ++ classes_text w.now.group (class_ranks w.now)) }
+/// Adds a part of a report that needs no rows.
+fn append_part(
+    out: &mut Vec<u8>,
+    part: Part,
+    w: &Cocycle,
+    classes: &Classes,
+    ranks: &Nats,
+) -> Result<(), AllocError>
+    requires group { classes.now ≡ w.now.group }
+    requires ranks { ranks.now ≡ class_ranks w.now }
+    requires one_each { length ranks.now ≡ length (representatives w.now.group) }
+    requires small { All (λ rank. rank ≤ 60) ranks.now }
+    ensures added { OnOk result (out.new.items ≡ out.old.items ++ part_text w.now part) }
 {
-    let classes = Classes::of(alloc, w.group())?;
-    let ranks = class_ranks(alloc, w, &classes)?;
-    append_classes(out, &classes, &ranks)
+    match part {
+        Part::Blank => Ok(()),
+        Part::Head => append_head(out, w),
+        Part::Classes => append_classes(out, classes, ranks),
+        Part::End => out.extend_from_slice(b"end\n"),
+    }
 }
 
-/// The report of `check`.
-fn head_report(alloc: Global, w: &Cocycle) -> Result<Vec<u8>, AllocError>
-    ensures report { IfOk result (λ text. text.items ≡ head_of w.now ++ end_line) }
+/// Adds these parts of a report, one after the other.
+fn append_parts(
+    out: &mut Vec<u8>,
+    parts: &[Part],
+    w: &Cocycle,
+    classes: &Classes,
+    ranks: &Nats,
+) -> Result<(), AllocError>
+    requires group { classes.now ≡ w.now.group }
+    requires ranks { ranks.now ≡ class_ranks w.now }
+    requires one_each { length ranks.now ≡ length (representatives w.now.group) }
+    requires small { All (λ rank. rank ≤ 60) ranks.now }
+    ensures added { OnOk result (out.new.items ≡ out.old.items ++ parts_text (part_text w.now) parts.now) }
 {
-    let mut text = Vec::new(alloc);
-    append_head(&mut text, w)?;
-    text.extend_from_slice(b"end\n")?;
-    Ok(text)
+    for part in parts {
+        append_part(out, *part, w, classes, ranks)?;
+    }
+    Ok(())
 }
 
-/// The report of `classes`.
-fn classes_report(alloc: Global, w: &Cocycle) -> Result<Vec<u8>, AllocError>
-    ensures report { IfOk result (λ text. text.items ≡ head_of w.now ++ (classes_text w.now.group (class_ranks w.now) ++ end_line)) }
+/// Adds the report on the rows that a document gives.
+fn append_stated(
+    out: &mut Vec<u8>,
+    report: &RowReport,
+    w: Cocycle,
+    classes: Classes,
+    ranks: &Nats,
+    given: &Given,
+) -> Result<(), Stop>
+    requires given { IsGivenInRange given.now }
+    requires group { classes ≡ w.group }
+    requires ranks { ranks.now ≡ class_ranks w }
+    requires few { length ranks.now ≤ 60 }
+    requires small { All (λ rank. rank ≤ 60) ranks.now }
+    ensures follows { Follows (rows_test w (Some report.now) (Some given.now)) (LateRows w (Some report.now) (Some given.now))
+        (λ done. out.new.items ≡ out.old.items ++ rows_text w (Some report.now) (Some given.now)) result }
 {
-    let mut text = Vec::new(alloc);
-    append_head(&mut text, w)?;
-    append_ranked_classes(alloc, &mut text, w)?;
-    text.extend_from_slice(b"end\n")?;
-    Ok(text)
+    let k = matched_conductor(&w, &classes, ranks, given, report)?;
+    append_numbers(out, k, &report.parts, w, classes, &given.blocks)
 }
 
-/// The report of a command on a document and its cocycle, or why there is none.
-#[tactic(auto, unfolding(crate::specs::Plan::report_step, crate::specs::Plan::rows_step))]
-fn report(alloc: Global, command: Command, document: &Document, w: Cocycle) -> Result<Vec<u8>, Stop>
-    requires shaped { IsInRange document.now }
-    requires cocycle { w ≡ exponents_of document.now }
-    ensures follows { FollowsUnless (OverflowsFor command document.now) (λ (text : Vec ℕ). text.items) result (report_step command document.now w) }
+/// Adds the report on rows, where the command has one and the document gives rows.
+fn append_rows(
+    out: &mut Vec<u8>,
+    report: &Option<RowReport>,
+    w: Cocycle,
+    classes: Classes,
+    ranks: &Nats,
+    characters: &Option<Given>,
+) -> Result<(), Stop>
+    requires given { IfSome characters.now IsGivenInRange }
+    requires group { classes ≡ w.group }
+    requires ranks { ranks.now ≡ class_ranks w }
+    requires few { length ranks.now ≤ 60 }
+    requires small { All (λ rank. rank ≤ 60) ranks.now }
+    ensures follows { Follows (rows_test w report.now characters.now) (LateRows w report.now characters.now)
+        (λ done. out.new.items ≡ out.old.items ++ rows_text w report.now characters.now) result }
 {
-    match command {
-        Command::Check => Ok(head_report(alloc, &w)?),
-        Command::Classes => Ok(classes_report(alloc, &w)?),
-        Command::Verify => match &document.characters {
-            None => Ok(head_report(alloc, &w)?),
-            Some(given) => verify(alloc, w, given),
+    match report {
+        None => Ok(()),
+        Some(report) => match characters {
+            None => Ok(()),
+            Some(given) => append_stated(out, report, w, classes, ranks, given),
         },
     }
 }
 
+/// The report of a command on a document and its cocycle, or why there is none.
+fn report(
+    alloc: Global,
+    command: &Command,
+    document: &Document,
+    w: Cocycle,
+) -> Result<Vec<u8>, Stop>
+    requires shaped { IsInRange document.now }
+    requires cocycle { w ≡ exponents_of document.now }
+    ensures follows { Follows (rows_test (exponents_of document.now) command.now.rows document.now.characters) (Late command.now document.now)
+        (λ (text : Vec ℕ). text.items ≡ report_of command.now document.now) result }
+{
+    let classes = Classes::of(alloc, w.group())?;
+    let ranks = class_ranks(alloc, &w, &classes)?;
+    let mut out = Vec::new(alloc);
+    append_parts(&mut out, &command.parts, &w, &classes, &ranks)?;
+    append_rows(
+        &mut out,
+        &command.rows,
+        w,
+        classes,
+        &ranks,
+        &document.characters,
+    )?;
+    Ok(out)
+}
+
+/// The report of a command on a document, or why there is none.
+#[tactic(auto, unfolding(crate::specs::Tests::document_test))]
+fn report_on(alloc: Global, command: &Command, document: &Document) -> Result<Vec<u8>, Stop>
+    requires shaped { IsInRange document.now }
+    ensures follows { Follows (document_test command.now document.now) (Late command.now document.now)
+        (λ (text : Vec ℕ). text.items ≡ report_of command.now document.now) result }
+{
+    let group = group(alloc, document)?;
+    let w = cocycle(alloc, group, document)?;
+    report(alloc, command, document, w)
+}
+
 /// The report of a command on the bytes that came, or why there is none.
-pub fn answer_to(alloc: Global, command: Command, bytes: &Vec<u8>) -> Result<Vec<u8>, Stop>
+#[tactic(auto, unfolding(crate::specs::Tests::refusal))]
+pub fn answer_to(alloc: Global, command: &Command, bytes: &Vec<u8>) -> Result<Vec<u8>, Stop>
     requires limit { vec_len bytes.now ≤ INPUT_LIMIT }
-    ensures follows { FollowsUnless (OverflowsFor command (document_in command bytes.now.items)) (λ (text : Vec ℕ). text.items) result
-        (answer_to command bytes.now.items) }
+    ensures follows { Follows (refusal command.now bytes.now.items) (Late command.now (document_in command.now bytes.now.items))
+        (λ (text : Vec ℕ). Reports text.items command.now bytes.now.items) result }
 {
     let document = document(alloc, bytes, form_of(command))?;
-    let group = group(alloc, &document)?;
-    let w = cocycle(alloc, group, &document)?;
-    report(alloc, command, &document, w)
+    report_on(alloc, command, &document)
 }

@@ -1,6 +1,6 @@
 use Rattle.std.proofs.Common.{◌≡◌, ◌%◌, subst}
 use Rattle.qd_engine.proofs.ConductorLaws.{least_is_conductor, multiple_of_factor}
-use Rattle.qd_engine.proofs.verify.needed_conductor.Goals as goal
+use Rattle.qd_engine.proofs.stated.needed_conductor.Goals as goal
 
 pub returns-in-Ok-clause-conductor : goal.returns-in-Ok-clause-conductor
 returns-in-Ok-clause-conductor c = (least_is_conductor _ _ c.in-Ok.ensures.least).0

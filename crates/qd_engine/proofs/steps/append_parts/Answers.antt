@@ -1,0 +1,14 @@
+use Rattle.std.proofs.Common.{◌≡◌, ◌++◌, sym, ap, ◌∙◌}
+use Rattle.std.proofs.lemmas.List.{append-nil}
+use Rattle.qd_engine.specs.Report.{part_text}
+use Rattle.qd_engine.specs.declared.command.Part.TheVariants.{Blank}
+use Rattle.qd_engine.proofs.Parts.{no_parts, parts_more}
+use Rattle.qd_engine.proofs.steps.append_parts.Goals as goal
+
+pub loop-part-init : goal.loop-part-init
+loop-part-init c = sym (ap (λ text. c.args.out.now.items ++ text) (no_parts (part_text c.args.w.now)) ∙ append-nil c.args.out.now.items)
+
+pub loop-part-preserved : goal.loop-part-preserved
+loop-part-preserved c =
+    parts_more (part_text c.args.w.now) c.args.parts.now c.loop-part.part-index Blank c.args.out.now.items c.loop-part.out.items c.append_part.new.out.items c.loop-part-test.true c.loop-part.invariant
+    c.in_ok-append_part.ensures.added
