@@ -1,0 +1,9 @@
+pub mod SumLaws
+pub mod Residues
+pub mod RatioLaws
+pub mod DegreeLaws
+pub mod TransformLaws
+pub mod ValueLaws
+pub mod FaultLaws
+pub mod RowLaws
+pub mod RootRows

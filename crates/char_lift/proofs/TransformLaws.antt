@@ -1,0 +1,66 @@
+-- The inverse transform of values that are known modulo q, and the values at powers.
+use Rattle.std.proofs.Common.{◌≡◌, ℕ, suc, ◌+◌, ◌-◌, ◌*◌, ◌%◌, ◌<◌, ◌≤◌, List, length, get_or, refl, sym, ap, ◌∙◌, arith, add-one}
+use Rattle.std.proofs.Math.Nat.{mod-lt, mod-mod}
+use Rattle.std.proofs.lemmas.Nat.{mul-mod_first, mul-mod_second}
+use Rattle.std.specs.Prelude.{slice_index}
+use mathlib.Core.Path.{ap₂}
+use Rattle.orders.specs.Group.{power}
+use Rattle.group_table.specs.Group.{product, identity_of}
+use Rattle.twisted.specs.Twist.{TwistedSubgroup, size, phase}
+use Rattle.central_ext.specs.Extension.{place_power, power_phase}
+use Rattle.central_ext.proofs.PairPowers.{power_phase-suc}
+use Rattle.prime_field.specs.ResidueLists.{AreBelow}
+use Rattle.prime_field.specs.Laws.Moduli.{power_modulo}
+use Rattle.char_lift.specs.Sums.{sum_of, table_of}
+use Rattle.char_lift.specs.Ratios.{inverse_residue}
+use Rattle.char_lift.specs.Candidate.{inverse_transform, with_multiplicities}
+use Rattle.char_lift.proofs.ValueLaws.{multiplicities_same}
+use Rattle.char_lift.proofs.SumLaws.{sum-residues, sum-same, table-at, table-same, length-table, table-below}
+
+module _ (q k z : ℕ) where
+  -- the sum of an inverse transform may be taken modulo q
+  pub transform_of_sum : (values : ℕ → ℕ) (i : ℕ) → (inverse_residue q k * (sum_of k (λ j. values j * power_modulo q z (k - (i * j) % k)) % q)) % q ≡ inverse_transform q k z values i
+  unfolding inverse_transform
+  transform_of_sum values i = mul-mod_second (inverse_residue q k) (sum_of k (λ j. values j * power_modulo q z (k - (i * j) % k))) q
+
+  pub transform_below : 0 < q → (values : ℕ → ℕ) (i : ℕ) → inverse_transform q k z values i < q
+  unfolding inverse_transform
+  transform_below positive values i = mod-lt (inverse_residue q k * sum_of k (λ j. values j * power_modulo q z (k - (i * j) % k))) positive
+
+  -- values that are the same modulo q have the same transform
+  pub transform_same : (values others : ℕ → ℕ) (i : ℕ) → ((j : ℕ) → j < k → values j % q ≡ others j % q) → inverse_transform q k z values i ≡ inverse_transform q k z others i
+  transform_same values others i same =
+      let weight : ℕ → ℕ = λ j. power_modulo q z (k - (i * j) % k) in
+      sym (transform_of_sum values i)
+      ∙ ap (λ a. (inverse_residue q k * a) % q)
+      (sum-residues q k (λ j. values j * weight j) (λ j. others j * weight j)
+      (λ j h. sym (mul-mod_first (values j) (weight j) q) ∙ ap (λ a. (a * weight j) % q) (same j h) ∙ mul-mod_first (others j) (weight j) q))
+      ∙ transform_of_sum others i
+
+  -- so a table of residues gives the multiplicities
+  pub transform_of_table : (values : ℕ → ℕ) (numbers : List ℕ) → numbers ≡ table_of k (λ j. values j % q)
+      → table_of k (inverse_transform q k z (slice_index numbers)) ≡ table_of k (inverse_transform q k z values)
+  transform_of_table values numbers is =
+      table-same k (inverse_transform q k z (slice_index numbers)) (inverse_transform q k z values)
+      (λ i h. transform_same (slice_index numbers) values i
+      (λ j below. ap (λ a. a % q) (ap (λ xs. get_or xs j 0) is ∙ table-at k j (λ n. values n % q) 0 below) ∙ residue_twice (values j)))
+    where
+      residue_twice : (a : ℕ) → a % q % q ≡ a % q
+      residue_twice a = mod-mod a q
+
+-- a table is read at its places
+pub sum_of_table : (k : ℕ) (f : ℕ → ℕ) (numbers : List ℕ) → numbers ≡ table_of k f → sum_of (length numbers) (slice_index numbers) ≡ sum_of k f
+sum_of_table k f numbers is =
+    ap (λ n. sum_of n (slice_index numbers)) (ap length is ∙ length-table k f)
+    ∙ sum-same k (slice_index numbers) f (λ i h. ap (λ xs. get_or xs i 0) is ∙ table-at k i f 0 h)
+
+pub value_of_table : (k : ℕ) (f : ℕ → ℕ) (numbers : List ℕ) → numbers ≡ table_of k f → with_multiplicities k (slice_index numbers) ≡ with_multiplicities k f
+value_of_table k f numbers is = multiplicities_same k (slice_index numbers) f (λ i h. ap (λ xs. get_or xs i 0) is ∙ table-at k i f 0 h)
+
+-- the place and the phase of one more power
+pub place_more : (s : TwistedSubgroup) (x j : ℕ) → product s.group (place_power s x j) x ≡ place_power s x (j + 1)
+unfolding power
+place_more s x j = ap (place_power s x) (sym (add-one j))
+
+pub phase_more : (s : TwistedSubgroup) (x j : ℕ) → (power_phase s x j + phase s (place_power s x j) x) % s.modulus ≡ power_phase s x (j + 1)
+phase_more s x j = sym (power_phase-suc s x j) ∙ ap (power_phase s x) (sym (add-one j))

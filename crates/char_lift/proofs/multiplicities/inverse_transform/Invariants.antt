@@ -1,0 +1,12 @@
+use Rattle.std.proofs.Common.{◌≡◌, ◌-◌, ◌*◌, ◌%◌, ◌≤◌}
+use Rattle.std.specs.Prelude.{slice_index}
+use Rattle.prime_field.specs.Laws.Moduli.{power_modulo}
+use Rattle.char_lift.specs.Sums.{sum_of}
+use Rattle.char_lift.proofs.multiplicities.inverse_transform.Given as goal
+
+-- the terms before j, each below 337 * 337
+abbrev pub invariant-loop-j : goal.invariant-loop-j
+invariant-loop-j l = record {
+  so_far : l.sum ≡ sum_of l.j (λ j. slice_index l.values j * power_modulo l.powers.q l.powers.root (l.powers.conductor - (l.i * j) % l.powers.conductor));
+  small : l.sum ≤ l.j * 113569;
+}
