@@ -1,5 +1,5 @@
 -- The centre of a twisted group algebra as a commutative ring: an element is its numbers at the class sums of the regular classes.
-use Rattle.std.proofs.Common.{◌≡◌, ◌≢◌, ℕ, zero, suc, ◌+◌, ◌<◌, ◌≤◌, ◌%◌, Bool, true, false, get_or, refl, sym, ◌∙◌, ap, arith, inl, inr, ◌⊎◌, eqb-true}
+use Rattle.std.proofs.Common.{◌≡◌, ◌≢◌, ℕ, zero, suc, ◌<◌, ◌≤◌, ◌%◌, get_or, refl, sym, ◌∙◌, ap, arith, inl, inr, ◌⊎◌, eqb-true}
 use Rattle.std.proofs.Math.Dec.{eqb}
 use Rattle.std.proofs.lemmas.Bool.{cases_lt, cases_eq, eq-eqb, ne_eqb}
 use mathlib.Core.Path.{fun_ext, ap₂}
@@ -7,14 +7,14 @@ use Rattle.algebra.specs.Structures.{CommRing}
 use Rattle.algebra.specs.Sums.{sum_below, pick, multiple, power}
 use Rattle.algebra.specs.Below.{Below, below_equal}
 use Rattle.algebra.specs.Roots.{RootOfUnity}
-use Rattle.algebra.proofs.RingLaws.{mul_left_comm, one_mul, add_mul, nought_mul, mul_nought, nought_add}
-use Rattle.algebra.proofs.SumLaws.{sum_zero, sum_suc, sum_ext, sum_add, sum_nought, sum_neg, mul_sum, sum_pick, mul_pick, pick_of, pick_off, pick_mul, pick_same, multiple_zero, multiple_suc, power_zero, power_suc}
-use Rattle.algebra.specs.Totals.{Finite, equals}
-use Rattle.group_table.specs.Group.{product, identity_of}
+use Rattle.algebra.proofs.RingLaws.{mul_left_comm, one_mul, add_mul}
+use Rattle.algebra.proofs.SumLaws.{sum_zero, sum_suc, sum_ext, sum_add, mul_sum, sum_pick, mul_pick, pick_of, pick_off, pick_mul, pick_same, multiple_zero, multiple_suc, power_zero, power_suc}
+use Rattle.algebra.specs.Totals.{equals}
+use Rattle.group_table.specs.Group.{identity_of}
 use Rattle.twisted.specs.Twist.{TwistedSubgroup, size, IsTwist}
-use Rattle.twisted.specs.Regular.{is_regular, regular_representatives, rank}
-use Rattle.twisted.specs.Algebra.{root, unit_vector, twisted_product, IsCentral, class_sum, combination}
-use Rattle.twisted.proofs.AlgebraLaws.{on_places, product_on_places, central_combination, combination_central, combination_unique, class_sum_central}
+use Rattle.twisted.specs.Regular.{regular_representatives, rank}
+use Rattle.twisted.specs.Algebra.{unit_vector, twisted_product, IsCentral, class_sum, combination}
+use Rattle.twisted.proofs.AlgebraLaws.{product_on_places, central_combination, combination_central, combination_unique}
 use Rattle.twisted.proofs.Translation.{places, place_group}
 use Rattle.twisted.proofs.RegularClasses.{representative_below_at, representative_place, regular_classes}
 use Rattle.twisted.proofs.Representatives.{regular_representatives_are, rank_is}
@@ -23,7 +23,7 @@ use Rattle.central_ext.specs.PowersOfUnits.{algebra_power}
 use Rattle.splitting_theory.specs.Splitting.{IsFixed}
 use Rattle.splitting_theory.specs.Algebras.{HasBasis}
 use Rattle.power_theory.specs.Traces.{HasCharacteristic}
-use Rattle.power_theory.specs.Rings.{Ring, ring_sum}
+use Rattle.power_theory.specs.Rings.{Ring}
 use Rattle.power_theory.specs.CrossedProducts.{CrossedProduct}
 use Rattle.power_theory.proofs.RingSums.{sum_holds}
 use Rattle.power_theory.proofs.RingSums as any
@@ -123,16 +123,16 @@ module _ {A : Type 0} (R : CommRing A) {m : ℕ} (U : RootOfUnity R m) (s : Twis
       ∙ sym (K.scale_mul (K.coordinate w ((places s twist).at i)) (K.unit ((places s twist).at i)) z))
       ∙ ap (λ v. T.mul v z) (sym (K.spans w))
     where
-    K : CrossedProduct R (places s twist) (place_group s twist) T
-    K = twist_crossed R U s twist divides
+      K : CrossedProduct R (places s twist) (place_group s twist) T
+      K = twist_crossed R U s twist divides
 
   -- the product of two central elements is central
   product_central : (p r : ℕ → A) → IsCentral R U s p → IsCentral R U s r → IsCentral R U s (twisted_product R U s p r)
   product_central p r hp hr = central_of (twisted_product R U s p r) (λ y. by (restricted R U s twist divides p) (restricted R U s twist divides r) ((twist_crossed R U s twist divides).unit y) (product_restricted p r) (commutes_unit p hp y) (commutes_unit r hr y))
     where
-    by : (a b u : Below (size s) → A) {c : Below (size s) → A} → c ≡ T.mul a b → T.mul a u ≡ T.mul u a → T.mul b u ≡ T.mul u b → T.mul c u ≡ T.mul u c
-    by a b u e ha hb =
-        ap (λ x. T.mul x u) e ∙ T.mul_assoc a b u ∙ ap (T.mul a) hb ∙ sym (T.mul_assoc a u b) ∙ ap (λ x. T.mul x b) ha ∙ T.mul_assoc u a b ∙ ap (T.mul u) (sym e)
+      by : (a b u : Below (size s) → A) {c : Below (size s) → A} → c ≡ T.mul a b → T.mul a u ≡ T.mul u a → T.mul b u ≡ T.mul u b → T.mul c u ≡ T.mul u c
+      by a b u e ha hb =
+          ap (λ x. T.mul x u) e ∙ T.mul_assoc a b u ∙ ap (T.mul a) hb ∙ sym (T.mul_assoc a u b) ∙ ap (λ x. T.mul x b) ha ∙ T.mul_assoc u a b ∙ ap (T.mul u) (sym e)
 
   -- the product, by its values at the representatives
   pub times : Centre → Centre → Centre
@@ -146,7 +146,6 @@ module _ {A : Type 0} (R : CommRing A) {m : ℕ} (U : RootOfUnity R m) (s : Twis
   plus c d k = R.add (c k) (d k)
 
   pub lifted_plus : (c d : Centre) → lifted (plus c d) ≡ T.add (lifted c) (lifted d)
-
   lifted_plus c d = fun_ext (λ (x : Below (size s)).
       sum_ext R (rank s) (λ i. R.mul (spread R (rank s) (plus c d) i) (class_sum R U s (rep i) x.value)) (λ i. R.add (R.mul (spread R (rank s) c i) (class_sum R U s (rep i) x.value)) (R.mul (spread R (rank s) d i) (class_sum R U s (rep i) x.value)))
       (λ i h. ap (λ a. R.mul a (class_sum R U s (rep i) x.value)) (spread_below R (rank s) (plus c d) i h ∙ sym (ap₂ R.add (spread_below R (rank s) c i h) (spread_below R (rank s) d i h)))
@@ -157,7 +156,6 @@ module _ {A : Type 0} (R : CommRing A) {m : ℕ} (U : RootOfUnity R m) (s : Twis
   scaled a c k = R.mul a (c k)
 
   lifted_scaled : (a : A) (c : Centre) → lifted (scaled a c) ≡ (twist_crossed R U s twist divides).scale a (lifted c)
-
   lifted_scaled a c = fun_ext (λ (x : Below (size s)).
       sum_ext R (rank s) (λ i. R.mul (spread R (rank s) (scaled a c) i) (class_sum R U s (rep i) x.value)) (λ i. R.mul a (R.mul (spread R (rank s) c i) (class_sum R U s (rep i) x.value)))
       (λ i h. ap (λ b. R.mul b (class_sum R U s (rep i) x.value)) (spread_below R (rank s) (scaled a c) i h ∙ ap (R.mul a) (sym (spread_below R (rank s) c i h)))
@@ -171,8 +169,8 @@ module _ {A : Type 0} (R : CommRing A) {m : ℕ} (U : RootOfUnity R m) (s : Twis
   one_central : IsCentral R U s (unit_vector R U s (identity_of s.group))
   one_central = central_of (unit_vector R U s (identity_of s.group)) (λ y. by ((twist_crossed R U s twist divides).unit y) (unit_restricted (place_group s twist).one))
     where
-    by : (u : Below (size s) → A) {e : Below (size s) → A} → e ≡ T.one → T.mul e u ≡ T.mul u e
-    by u h = ap (λ x. T.mul x u) h ∙ T.one_mul u ∙ sym (T.mul_one u) ∙ ap (T.mul u) (sym h)
+      by : (u : Below (size s) → A) {e : Below (size s) → A} → e ≡ T.one → T.mul e u ≡ T.mul u e
+      by u h = ap (λ x. T.mul x u) h ∙ T.one_mul u ∙ sym (T.mul_one u) ∙ ap (T.mul u) (sym h)
 
   lifted_unit : lifted unit ≡ T.one
   unfolding unit
@@ -196,8 +194,8 @@ module _ {A : Type 0} (R : CommRing A) {m : ℕ} (U : RootOfUnity R m) (s : Twis
   scaled_times a c d = injective (times (scaled a c) d) (scaled a (times c d))
       (lifted_times (scaled a c) d ∙ ap (λ x. T.mul x (lifted d)) (lifted_scaled a c) ∙ K.scale_mul a (lifted c) (lifted d) ∙ ap (K.scale a) (sym (lifted_times c d)) ∙ sym (lifted_scaled a (times c d)))
     where
-    K : CrossedProduct R (places s twist) (place_group s twist) T
-    K = twist_crossed R U s twist divides
+      K : CrossedProduct R (places s twist) (place_group s twist) T
+      K = twist_crossed R U s twist divides
 
   -- the centre
   abbrev pub centre_ring : CommRing Centre
@@ -263,9 +261,9 @@ module _ {A : Type 0} (R : CommRing A) {m : ℕ} (U : RootOfUnity R m) (s : Twis
   unfolding unit
   unit_at_place k = by (cases_eq k.value 0)
     where
-    by : (k.value ≡ 0) ⊎ (k.value ≢ 0) → unit_vector R U s (identity_of s.group) (rep k.value) ≡ pick R (eqb k.value 0) R.one
-    by (inl e) = pick_of R (eqb (rep k.value) (identity_of s.group)) R.one (eq-eqb (rep k.value) (identity_of s.group) (ap rep e ∙ rep_zero)) ∙ sym (pick_of R (eqb k.value 0) R.one (eq-eqb k.value 0 e))
-    by (inr d) = pick_off R (eqb (rep k.value) (identity_of s.group)) R.one (ne_eqb (rep k.value) (identity_of s.group) (rep_other k.value k.below d)) ∙ sym (pick_off R (eqb k.value 0) R.one (ne_eqb k.value 0 d))
+      by : (k.value ≡ 0) ⊎ (k.value ≢ 0) → unit_vector R U s (identity_of s.group) (rep k.value) ≡ pick R (eqb k.value 0) R.one
+      by (inl e) = pick_of R (eqb (rep k.value) (identity_of s.group)) R.one (eq-eqb (rep k.value) (identity_of s.group) (ap rep e ∙ rep_zero)) ∙ sym (pick_of R (eqb k.value 0) R.one (eq-eqb k.value 0 e))
+      by (inr d) = pick_off R (eqb (rep k.value) (identity_of s.group)) R.one (ne_eqb (rep k.value) (identity_of s.group) (rep_other k.value k.below d)) ∙ sym (pick_off R (eqb k.value 0) R.one (ne_eqb k.value 0 d))
 
 module _ {A : Type 0} (R : CommRing A) {m : ℕ} (U : RootOfUnity R m) (s : TwistedSubgroup) (twist : IsTwist s) (divides : m % s.modulus ≡ 0) where
   -- the t-th class sum
@@ -280,7 +278,6 @@ module _ {A : Type 0} (R : CommRing A) {m : ℕ} (U : RootOfUnity R m) (s : Twis
   C = centre_ring R U s twist divides
 
   pub scales : (x : A) (c : Centre R U s twist divides) → C.mul (number_of x) c ≡ (λ k. R.mul x (c k))
-
   scales x c = scaled_times R U s twist divides x (unit R U s twist divides) c ∙ ap (scaled R U s twist divides x) (C.mul_comm (unit R U s twist divides) c ∙ times_unit R U s twist divides c)
 
   pub number_add : (x y : A) → number_of (R.add x y) ≡ C.add (number_of x) (number_of y)

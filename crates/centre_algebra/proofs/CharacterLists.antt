@@ -1,9 +1,8 @@
 -- The lists of the values at the pieces of the centre are those of all central characters.
-use Rattle.std.proofs.Common.{◌≡◌, ◌≢◌, ℕ, zero, suc, ◌+◌, ◌*◌, ◌/◌, ◌%◌, ◌<◌, ◌≤◌, Bool, true, false, List, [], ◌∷◌, length, get_or, refl, sym, ◌∙◌, ap, subst, arith, inl, inr, ◌⊎◌, eqb-true}
-use Rattle.std.specs.Prelude.{Contains, nat_eq}
+use Rattle.std.proofs.Common.{◌≡◌, ◌≢◌, ℕ, suc, ◌+◌, ◌*◌, ◌/◌, ◌%◌, ◌<◌, ◌≤◌, true, false, List, [], ◌∷◌, length, get_or, sym, ◌∙◌, ap, subst, arith, inl, inr, ◌⊎◌, eqb-true}
 use Rattle.std.proofs.Math.Dec.{eqb}
 use Rattle.std.proofs.Math.Nat.{div-add-mod, mod-eq_of_lt, mul-mod_right, mul_assoc, mul-one}
-use Rattle.std.proofs.lemmas.Bool.{cases_lt, cases_eq, eq-eqb, ne_eqb}
+use Rattle.std.proofs.lemmas.Bool.{cases_lt, cases_eq, eq-eqb}
 use mathlib.Core.Path.{fun_ext, ap₂}
 use Rattle.scan.specs.First.{all_below}
 use Rattle.scan.proofs.Places.{all_below-at, all_below-all}
@@ -11,7 +10,7 @@ use Rattle.algebra.specs.Structures.{CommRing}
 use Rattle.algebra.specs.Sums.{sum_below, multiple}
 use Rattle.algebra.specs.Below.{Below, below_equal}
 use Rattle.algebra.specs.Roots.{RootOfUnity}
-use Rattle.algebra.proofs.SumLaws.{sum_ext, multiple_zero, multiple_suc}
+use Rattle.algebra.proofs.SumLaws.{sum_ext}
 use Rattle.orders.specs.Order.{exponent_of}
 use Rattle.group_table.specs.Group.{product, identity_of}
 use Rattle.prime_field.specs.declared.mod_ring.ModRing.{ModRing}
@@ -27,17 +26,16 @@ use Rattle.twisted.specs.Algebra.{twisted_product}
 use Rattle.power_theory.specs.Traces.{HasCharacteristic}
 use Rattle.centre_powers.specs.CentralPowers.{unit_period}
 use Rattle.centre_powers.proofs.FixedPowers.{residues_central_powers}
-use Rattle.splitting_theory.specs.Lists.{Each, Pairwise}
-use Rattle.splitting_theory.specs.Splitting.{IsFixed, ZeroTest, number, Acts, IsPiece, Precedes, IsSplitting, pieces}
+use Rattle.splitting_theory.specs.Lists.{Each}
+use Rattle.splitting_theory.specs.Splitting.{IsFixed, ZeroTest, number, IsPiece, Precedes, IsSplitting, pieces}
 use Rattle.splitting_theory.specs.Algebras.{IsField, HasBasis, evaluate, IsCharacter, HasValues, Among}
-use Rattle.splitting_theory.proofs.Parts.{apart}
 use Rattle.splitting_theory.proofs.Pieces.{pieces_split}
 use Rattle.splitting_theory.proofs.Coordinates.{of_number, evaluate_is}
 use Rattle.splitting_theory.proofs.Characters.{scale_equal, values_character, character_listed}
 use Rattle.splitting_theory.proofs.Counting.{splitting_counts}
 use Rattle.centre_algebra.specs.CentralCharacters.{IsCentralCharacter, IsCharacterList, IsBefore, regular_sum, linear_value}
 use Rattle.centre_algebra.specs.Laws.{AreCentralCharacters, CentreSplits}
-use Rattle.centre_algebra.proofs.CentreRing.{spread, spread_at, spread_below, Centre, centre_ring, centre_basis, basis_at, basis_product, centre_fixed}
+use Rattle.centre_algebra.proofs.CentreRing.{spread, spread_at, spread_below, Centre, centre_ring, centre_basis, basis_at, basis_product, product_at, scales, centre_fixed}
 use Rattle.centre_algebra.proofs.Numbers.{tabled, length-tabled, tabled_at, lists_equal, before_at, Zipped, zipped_each, zipped_pairwise, zipped_length}
 
 -- ---- the field
@@ -193,8 +191,8 @@ module _ (ring : ModRing) (s : TwistedSubgroup) (twist : IsTwist s) (over : size
     count = sym (zipped_length AreNumbers es lists z) ∙ splitting_counts R (residue_field ring.q ring.listed) C (rank s) E ring.q es S;
   }
     where
-    in_order_of : (e f : Centre R U s twist divides) (xs ys : List ℕ) → IsPiece C ring.q E.at (rank s) e → IsPiece C ring.q E.at (rank s) f → Precedes C ring.q E.at (rank s) e f → AreNumbers e xs → AreNumbers f ys → IsBefore xs ys
-    in_order_of e f xs ys left right pair h k = in_order e f xs ys left right pair h k
+      in_order_of : (e f : Centre R U s twist divides) (xs ys : List ℕ) → IsPiece C ring.q E.at (rank s) e → IsPiece C ring.q E.at (rank s) f → Precedes C ring.q E.at (rank s) e f → AreNumbers e xs → AreNumbers f ys → IsBefore xs ys
+      in_order_of e f xs ys left right pair h k = in_order e f xs ys left right pair h k
 
   -- ---- such lists there are
 
@@ -242,3 +240,32 @@ module _ (ring : ModRing) (s : TwistedSubgroup) (twist : IsTwist s) (over : size
 
 pub centre_splits : (ring : ModRing) → CentreSplits ring
 centre_splits ring s twist over period = splits ring s twist over period
+
+-- ---- the centre by numbers
+
+module _ (ring : ModRing) (s : TwistedSubgroup) (twist : IsTwist s) (over : size s < ring.q) (period : ring.conductor % unit_period s ≡ 0) where
+  abbrev F : CommRing (Below ring.q)
+  F = R ring s twist over period
+
+  abbrev D : CommRing (Centre F (U ring s twist over period) s twist (divides ring s twist over period))
+  D = C ring s twist over period
+
+  abbrev B : HasBasis F D (rank s)
+  B = E ring s twist over period
+
+  -- a number of the centre multiplies each number
+  pub number_at : (v : ℕ) (x : Centre F (U ring s twist over period) s twist (divides ring s twist over period)) (k : Below (rank s)) → D.mul (number D v) x k ≡ F.mul (field_residue ring.q ring.listed v) (x k)
+  number_at v x k =
+      ap (λ y. D.mul y x k) (sym (of_number F D (rank s) B v) ∙ ap B.of (number_residue ring.q ring.listed v))
+      ∙ ap (λ (z : Centre F (U ring s twist over period) s twist (divides ring s twist over period)). z k) (scales F (U ring s twist over period) s twist (divides ring s twist over period) (field_residue ring.q ring.listed v) x)
+
+  -- a class sum times the element with the numbers e, by the products of class sums at the representatives
+  pub image_at : (t : ℕ) → t < rank s → (e : List ℕ) (k : Below (rank s)) → D.mul (B.at t) (λ j. field_residue ring.q ring.listed (get_or e j.value 0)) k
+      ≡ sum_below F (rank s) (λ j. F.mul (field_residue ring.q ring.listed (get_or e j 0))
+      (twisted_product F (U ring s twist over period) s (regular_sum F (U ring s twist over period) s t) (regular_sum F (U ring s twist over period) s j) (get_or (regular_representatives s) k.value 0)))
+  image_at t below e k =
+      product_at F (U ring s twist over period) s twist (divides ring s twist over period) t (λ j. field_residue ring.q ring.listed (get_or e j.value 0)) k
+      ∙ sum_ext F (rank s) (λ j. F.mul (spread F (rank s) (λ i. field_residue ring.q ring.listed (get_or e i.value 0)) j) (D.mul (B.at t) (B.at j) k))
+      (λ j. F.mul (field_residue ring.q ring.listed (get_or e j 0))
+      (twisted_product F (U ring s twist over period) s (regular_sum F (U ring s twist over period) s t) (regular_sum F (U ring s twist over period) s j) (get_or (regular_representatives s) k.value 0)))
+      (λ j h. ap₂ F.mul (spread_below F (rank s) (λ i. field_residue ring.q ring.listed (get_or e i.value 0)) j h) (basis_product F (U ring s twist over period) s twist (divides ring s twist over period) t j below h k))

@@ -1,6 +1,5 @@
 -- Lists of numbers made place by place, and compared.
-use Rattle.std.proofs.Common.{◌≡◌, ℕ, zero, suc, ◌+◌, ◌<◌, ◌≤◌, List, [], ◌∷◌, ◌++◌, length, length-append, get_or, refl, sym, ◌∙◌, ap, subst, arith, inl, inr, ◌⊎◌}
-use Rattle.std.specs.Prelude.{Contains}
+use Rattle.std.proofs.Common.{◌≡◌, ℕ, zero, suc, ◌+◌, ◌<◌, ◌≤◌, List, [], ◌∷◌, ◌++◌, length, length-append, get_or, refl, sym, ◌∙◌, ap, arith, inl, inr, ◌⊎◌}
 use Rattle.std.proofs.Math.Numerals.{add-one}
 use Rattle.std.proofs.lemmas.Bool.{cases_lt}
 use Rattle.std.proofs.lemmas.List.{get_or_append_left, get_or_push}
@@ -21,9 +20,9 @@ pub tabled_at : (n : ℕ) (f : ℕ → ℕ) (i : ℕ) → i < n → get_or (tabl
 tabled_at zero f i h = absurd (omega arith)
 tabled_at (suc n) f i h = by (λ k. tabled_at n f i k) (cases_lt i n)
   where
-  by : (i < n → get_or (tabled n f) i 0 ≡ f i) → (i < n) ⊎ (n ≤ i) → get_or (tabled n f ++ f n ∷ []) i 0 ≡ f i
-  by before (inl k) = get_or_append_left (tabled n f) (f n ∷ []) 0 i (let l = length-tabled n f in omega arith) ∙ before k
-  by before (inr k) = let e : i ≡ n = omega arith in get_or_push (tabled n f) (f n) 0 i (length-tabled n f ∙ sym e) ∙ ap f (sym e)
+    by : (i < n → get_or (tabled n f) i 0 ≡ f i) → (i < n) ⊎ (n ≤ i) → get_or (tabled n f ++ f n ∷ []) i 0 ≡ f i
+    by before (inl k) = get_or_append_left (tabled n f) (f n ∷ []) 0 i (let l = length-tabled n f in omega arith) ∙ before k
+    by before (inr k) = let e : i ≡ n = omega arith in get_or_push (tabled n f) (f n) 0 i (length-tabled n f ∙ sym e) ∙ ap f (sym e)
 
 -- lists of one length with equal numbers are equal
 pub lists_equal : (xs ys : List ℕ) → length xs ≡ length ys → ((i : ℕ) → i < length xs → get_or xs i 0 ≡ get_or ys i 0) → xs ≡ ys
@@ -60,11 +59,11 @@ module _ {X Y : Type 0} (R : X → Y → Type 0) where
   zipped_pairwise P Q O f (x ∷ xs) [] z o h = absurd z
   zipped_pairwise P Q O f (x ∷ xs) (y ∷ ys) z o h = (later xs ys z.1 o.1 h.0, zipped_pairwise P Q O f xs ys z.1 o.1 h.1)
     where
-    later : (ws : List X) (vs : List Y) → Zipped R ws vs → Each O ws → Each (P x) ws → Each (Q y) vs
-    later [] [] a b c = tt
-    later [] (v ∷ vs) a b c = absurd a
-    later (w ∷ ws) [] a b c = absurd a
-    later (w ∷ ws) (v ∷ vs) a b c = (f x w y v o.0 b.0 c.0 z.0 a.0, later ws vs a.1 b.1 c.1)
+      later : (ws : List X) (vs : List Y) → Zipped R ws vs → Each O ws → Each (P x) ws → Each (Q y) vs
+      later [] [] a b c = tt
+      later [] (v ∷ vs) a b c = absurd a
+      later (w ∷ ws) [] a b c = absurd a
+      later (w ∷ ws) (v ∷ vs) a b c = (f x w y v o.0 b.0 c.0 z.0 a.0, later ws vs a.1 b.1 c.1)
 
   pub zipped_length : (xs : List X) (ys : List Y) → Zipped R xs ys → length xs ≡ length ys
   zipped_length [] [] z = refl

@@ -1,5 +1,5 @@
 -- Central characters of a twisted group algebra (Dixon 1967), and lists of them modulo q.
-use Rattle.std.specs.Prelude.{◌≡◌, ℕ, ◌<◌, ◌⊎◌, List, [], ◌∷◌, length, slice_index}
+use Rattle.std.specs.Prelude.{◌≡◌, ℕ, ◌<◌, ◌⊎◌, List, ◌∷◌, length, slice_index}
 use Rattle.algebra.specs.Structures.{CommRing}
 use Rattle.algebra.specs.Sums.{sum_below}
 use Rattle.algebra.specs.Roots.{RootOfUnity}

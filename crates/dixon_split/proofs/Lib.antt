@@ -1,1 +1,6 @@
 pub mod Lists
+pub mod Residues
+pub mod Layers
+pub mod PushedParts
+pub mod Multiples
+pub mod Refining

@@ -1,1 +1,4 @@
 pub mod CentralLists
+pub mod Elements
+pub mod Structures
+pub mod Layers

@@ -1,6 +1,11 @@
 //! All central characters of a twisted group algebra modulo a prime.
 #![tactic(auto)]
 
+mod arithmetic;
 mod central;
+mod images;
+mod parts;
+mod pieces;
+mod structure;
 
 pub use central::Central;

@@ -1,13 +1,13 @@
 -- The characters of a split algebra are the values by which its basis multiplies the pieces.
-use Rattle.std.proofs.Common.{◌≡◌, ℕ, zero, suc, ◌<◌, ◌≤◌, Bool, true, false, List, [], ◌∷◌, refl, sym, ◌∙◌, ap, arith, inl, inr, ◌⊎◌}
+use Rattle.std.proofs.Common.{◌≡◌, ℕ, Bool, true, false, List, [], ◌∷◌, refl, sym, ◌∙◌, ap, inl, inr}
 use Rattle.std.specs.Prelude.{◌≢◌}
 use mathlib.Core.Path.{ap₂}
 use Rattle.algebra.specs.Structures.{CommRing}
-use Rattle.algebra.specs.Sums.{sum_below, sum_list}
-use Rattle.algebra.proofs.RingLaws.{nought_add, mul_nought, nought_mul, one_mul, mul_left_comm, neg_mul, mul_neg, add_mul, neg_add_self}
-use Rattle.algebra.proofs.SumLaws.{sum_ext, sum_mul, mul_sum, sum_list_nil, sum_list_cons}
+use Rattle.algebra.specs.Sums.{sum_list}
+use Rattle.algebra.proofs.RingLaws.{nought_add, mul_nought, nought_mul, one_mul, mul_left_comm, add_mul, neg_add_self}
+use Rattle.algebra.proofs.SumLaws.{sum_ext, sum_mul, sum_list_nil, sum_list_cons}
 use Rattle.splitting_theory.specs.Lists.{Each}
-use Rattle.splitting_theory.specs.Splitting.{ZeroTest, number, Acts, IsPiece, IsSplitting}
+use Rattle.splitting_theory.specs.Splitting.{number, IsPiece, IsSplitting}
 use Rattle.splitting_theory.specs.Algebras.{IsField, HasBasis, evaluate, IsCharacter, HasValues, Among}
 use Rattle.splitting_theory.proofs.Coordinates.{of_nought, of_sum, of_number, evaluate_is, evaluate_add, evaluate_scale, evaluate_nought, evaluate_one, evaluate_product}
 
@@ -20,11 +20,11 @@ module _ {A B : Type 0} (F : CommRing A) (L : IsField F) (Z : CommRing B) (r : �
   pub scale_cancel : (x : A) (e : B) → e ≢ Z.nought → Z.mul (E.of x) e ≡ Z.nought → x ≡ F.nought
   scale_cancel x e there h = cases (L.test.is_nought x) refl
     where
-    cases : (b : Bool) → L.test.is_nought x ≡ b → x ≡ F.nought
-    cases true k = L.test.passes x k
-    cases false k =
-        absurd (there (sym (one_mul Z e) ∙ ap (λ a. Z.mul a e) (sym E.of_one ∙ ap E.of (sym (L.mul_inverse x (L.test.fails x k)) ∙ F.mul_comm x (L.inverse x)) ∙ E.of_mul (L.inverse x) x)
-        ∙ Z.mul_assoc (E.of (L.inverse x)) (E.of x) e ∙ ap (λ a. Z.mul (E.of (L.inverse x)) a) h ∙ mul_nought Z (E.of (L.inverse x))))
+      cases : (b : Bool) → L.test.is_nought x ≡ b → x ≡ F.nought
+      cases true k = L.test.passes x k
+      cases false k =
+          absurd (there (sym (one_mul Z e) ∙ ap (λ a. Z.mul a e) (sym E.of_one ∙ ap E.of (sym (L.mul_inverse x (L.test.fails x k)) ∙ F.mul_comm x (L.inverse x)) ∙ E.of_mul (L.inverse x) x)
+          ∙ Z.mul_assoc (E.of (L.inverse x)) (E.of x) e ∙ ap (λ a. Z.mul (E.of (L.inverse x)) a) h ∙ mul_nought Z (E.of (L.inverse x))))
 
   pub scale_equal : (x y : A) (e : B) → e ≢ Z.nought → Z.mul (E.of x) e ≡ Z.mul (E.of y) e → x ≡ y
   scale_equal x y e there h =
@@ -37,8 +37,8 @@ module _ {A B : Type 0} (F : CommRing A) (L : IsField F) (Z : CommRing B) (r : �
   mul_equal x y w there h =
       sym (undo x) ∙ ap (λ a. F.mul a (L.inverse w)) h ∙ undo y
     where
-    undo : (x : A) → F.mul (F.mul x w) (L.inverse w) ≡ x
-    undo x = F.mul_assoc x w (L.inverse w) ∙ ap (λ a. F.mul x a) (L.mul_inverse w there) ∙ F.mul_one x
+      undo : (x : A) → F.mul (F.mul x w) (L.inverse w) ≡ x
+      undo x = F.mul_assoc x w (L.inverse w) ∙ ap (λ a. F.mul x a) (L.mul_inverse w there) ∙ F.mul_one x
 
   -- every element multiplies e by its value
   pub multiplies : (e : B) (u : ℕ → A) → HasValues E e u → (z : B) → Z.mul z e ≡ Z.mul (E.of (evaluate E u z)) e
@@ -72,10 +72,10 @@ module _ {A B : Type 0} (F : CommRing A) (L : IsField F) (Z : CommRing B) (r : �
   some_piece q u C [] h there = absurd (there (ap (evaluate E u) (sum_list_nil Z) ∙ evaluate_nought F Z r E u))
   some_piece q u C (e ∷ es) h there = cases (λ k. some_piece q u C es h.1 k) (L.test.is_nought (evaluate E u e)) refl
     where
-    cases : (evaluate E u (sum_list Z es) ≢ F.nought → Among (λ e. HasValues E e u) es) → (b : Bool) → L.test.is_nought (evaluate E u e) ≡ b → Among (λ e. HasValues E e u) (e ∷ es)
-    cases later true k =
-        inr (later (λ none. there (ap (evaluate E u) (sum_list_cons Z e es) ∙ evaluate_add F Z r E u e (sum_list Z es) ∙ ap₂ F.add (L.test.passes (evaluate E u e) k) none ∙ F.add_nought F.nought)))
-    cases later false k = inl (values_at q u C e h.0 (L.test.fails (evaluate E u e) k))
+      cases : (evaluate E u (sum_list Z es) ≢ F.nought → Among (λ e. HasValues E e u) es) → (b : Bool) → L.test.is_nought (evaluate E u e) ≡ b → Among (λ e. HasValues E e u) (e ∷ es)
+      cases later true k =
+          inr (later (λ none. there (ap (evaluate E u) (sum_list_cons Z e es) ∙ evaluate_add F Z r E u e (sum_list Z es) ∙ ap₂ F.add (L.test.passes (evaluate E u e) k) none ∙ F.add_nought F.nought)))
+      cases later false k = inl (values_at q u C e h.0 (L.test.fails (evaluate E u e) k))
 
   -- each character has the values of some piece
   pub character_listed : (q : ℕ) (u : ℕ → A) → IsCharacter E u → (es : List B) → IsSplitting Z q E.at r es → Among (λ e. HasValues E e u) es

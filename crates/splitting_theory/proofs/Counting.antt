@@ -1,16 +1,15 @@
 -- A split algebra has as many pieces as elements in its basis.
-use Rattle.std.proofs.Common.{◌≡◌, ℕ, zero, suc, ◌<◌, ◌≤◌, Bool, true, false, List, [], ◌∷◌, length, get_or, refl, sym, ◌∙◌, ap, arith, inl, inr, ◌⊎◌}
+use Rattle.std.proofs.Common.{◌≡◌, ℕ, zero, suc, ◌<◌, ◌≤◌, List, [], ◌∷◌, length, get_or, sym, ◌∙◌, ap, arith, inl, inr, ◌⊎◌}
 use Rattle.std.specs.Prelude.{◌≢◌}
 use Rattle.std.proofs.Math.Dec.{eqb}
 use Rattle.std.proofs.lemmas.Bool.{cases_lt, cases_eq, eq-eqb, ne_eqb}
 use Rattle.std.proofs.Common.{eqb-true}
-use mathlib.Core.Path.{ap₂}
 use Rattle.algebra.specs.Structures.{CommRing}
 use Rattle.algebra.specs.Sums.{sum_below, sum_list, pick}
-use Rattle.algebra.proofs.RingLaws.{nought_add, mul_nought, nought_mul, one_mul, mul_left_comm}
-use Rattle.algebra.proofs.SumLaws.{sum_zero, sum_suc, sum_ext, sum_nought, sum_mul, mul_sum, sum_first, sum_pick, sum_list_nil, sum_list_cons, pick_of, pick_off, pick_nought, pick_same, mul_pick}
+use Rattle.algebra.proofs.RingLaws.{nought_mul}
+use Rattle.algebra.proofs.SumLaws.{sum_zero, sum_ext, sum_nought, sum_mul, mul_sum, sum_first, sum_pick, sum_list_nil, sum_list_cons, pick_of, pick_off, pick_same, mul_pick}
 use Rattle.splitting_theory.specs.Lists.{Each, Pairwise}
-use Rattle.splitting_theory.specs.Splitting.{number, Acts, IsPiece, Precedes, IsSplitting}
+use Rattle.splitting_theory.specs.Splitting.{number, IsPiece, Precedes, IsSplitting}
 use Rattle.splitting_theory.specs.Algebras.{IsField, HasBasis, AreDependent}
 use Rattle.splitting_theory.proofs.Coordinates.{of_nought, of_sum, of_number, coordinate_sum, coordinate_scale, coordinate_at, coordinate_nought, nought_of_coordinates}
 use Rattle.splitting_theory.proofs.Characters.{scale_cancel}
@@ -45,12 +44,13 @@ module _ {A B : Type 0} (F : CommRing A) (L : IsField F) (Z : CommRing B) (r : �
   unfolding piece
   product i p i_below p_below = cases (cases_eq i p)
     where
-    apart : (i < p) ⊎ (p ≤ i) → i ≢ p → Z.mul (piece i) (piece p) ≡ Z.nought
-    apart (inl h) d = (pairwise_at (Precedes Z q E.at r) es Z.nought i p S.order h p_below).apart
-    apart (inr h) d = Z.mul_comm (piece i) (piece p) ∙ (pairwise_at (Precedes Z q E.at r) es Z.nought p i S.order (let k : p ≢ i = λ e. d (sym e) in omega arith) i_below).apart
-    cases : (i ≡ p) ⊎ (i ≢ p) → Z.mul (piece i) (piece p) ≡ pick Z (eqb i p) (piece i)
-    cases (inl e) = ap (λ j. Z.mul (piece i) (piece j)) (sym e) ∙ (is_piece i i_below).idempotent ∙ sym (pick_of Z (eqb i p) (piece i) (eq-eqb i p e))
-    cases (inr d) = apart (cases_lt i p) d ∙ sym (pick_off Z (eqb i p) (piece i) (ne_eqb i p d))
+      apart : (i < p) ⊎ (p ≤ i) → i ≢ p → Z.mul (piece i) (piece p) ≡ Z.nought
+      apart (inl h) d = (pairwise_at (Precedes Z q E.at r) es Z.nought i p S.order h p_below).apart
+      apart (inr h) d = Z.mul_comm (piece i) (piece p) ∙ (pairwise_at (Precedes Z q E.at r) es Z.nought p i S.order (let k : p ≢ i = λ e. d (sym e) in omega arith) i_below).apart
+
+      cases : (i ≡ p) ⊎ (i ≢ p) → Z.mul (piece i) (piece p) ≡ pick Z (eqb i p) (piece i)
+      cases (inl e) = ap (λ j. Z.mul (piece i) (piece j)) (sym e) ∙ (is_piece i i_below).idempotent ∙ sym (pick_of Z (eqb i p) (piece i) (eq-eqb i p e))
+      cases (inr d) = apart (cases_lt i p) d ∙ sym (pick_off Z (eqb i p) (piece i) (ne_eqb i p d))
 
   -- a combination of pieces times one of them
   combination_product : (n : ℕ) (c : ℕ → A) (p : ℕ) → n ≤ length es → p < n → Z.mul (sum_below Z n (λ i. Z.mul (E.of (c i)) (piece i))) (piece p) ≡ Z.mul (E.of (c p)) (piece p)
@@ -128,7 +128,7 @@ module _ {A B : Type 0} (F : CommRing A) (L : IsField F) (Z : CommRing B) (r : �
   pub splitting_counts : length es ≡ r
   splitting_counts = equal (cases_lt r (length es)) (cases_lt (length es) r)
     where
-    equal : (r < length es) ⊎ (length es ≤ r) → (length es < r) ⊎ (r ≤ length es) → length es ≡ r
-    equal (inl h) k = absurd (too_many_by (dependent F L r (λ i k. E.coordinate (piece i) k)) h)
-    equal (inr h) (inl k) = absurd (too_few_by (dependent F L (length es) (λ t i. value i t)) k)
-    equal (inr h) (inr k) = omega arith
+      equal : (r < length es) ⊎ (length es ≤ r) → (length es < r) ⊎ (r ≤ length es) → length es ≡ r
+      equal (inl h) k = absurd (too_many_by (dependent F L r (λ i k. E.coordinate (piece i) k)) h)
+      equal (inr h) (inl k) = absurd (too_few_by (dependent F L (length es) (λ t i. value i t)) k)
+      equal (inr h) (inr k) = omega arith

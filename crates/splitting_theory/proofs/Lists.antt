@@ -1,5 +1,5 @@
 -- Facts of the elements of a list and of its pairs, through appending and mapping to lists.
-use Rattle.std.proofs.Common.{◌≡◌, List, [], ◌∷◌, ◌++◌}
+use Rattle.std.proofs.Common.{List, [], ◌∷◌, ◌++◌}
 use Rattle.std.specs.Prelude.{flat_map}
 use Rattle.splitting_theory.specs.Lists.{Each, Pairwise}
 
@@ -37,14 +37,14 @@ module _ {X Y : Type 0} (f : X → List Y) where
   pairwise_flat P R S own cross (x ∷ xs) h k =
       pairwise_append S (f x) (flat_map f xs) (own x h.0) (pairwise_flat P R S own cross xs h.1 k.1) (later xs h.1 k.0)
     where
-    exchange : (p : Y) (ys : List Y) (zs : List Y) → Each (λ r. Each (S r) zs) ys → Each (λ r. Each (S r) []) ys
-    exchange p [] zs h = tt
-    exchange p (y ∷ ys) zs h = (tt, exchange p ys zs h.1)
+      exchange : (p : Y) (ys : List Y) (zs : List Y) → Each (λ r. Each (S r) zs) ys → Each (λ r. Each (S r) []) ys
+      exchange p [] zs h = tt
+      exchange p (y ∷ ys) zs h = (tt, exchange p ys zs h.1)
 
-    joined : (ps ys zs : List Y) → Each (λ p. Each (S p) ys) ps → Each (λ p. Each (S p) zs) ps → Each (λ p. Each (S p) (ys ++ zs)) ps
-    joined [] ys zs h k = tt
-    joined (p ∷ ps) ys zs h k = (each_append (S p) ys zs h.0 k.0, joined ps ys zs h.1 k.1)
+      joined : (ps ys zs : List Y) → Each (λ p. Each (S p) ys) ps → Each (λ p. Each (S p) zs) ps → Each (λ p. Each (S p) (ys ++ zs)) ps
+      joined [] ys zs h k = tt
+      joined (p ∷ ps) ys zs h k = (each_append (S p) ys zs h.0 k.0, joined ps ys zs h.1 k.1)
 
-    later : (ys : List X) → Each P ys → Each (R x) ys → Each (λ p. Each (S p) (flat_map f ys)) (f x)
-    later [] a b = each_all (λ p. Each (S p) []) (λ p. tt) (f x)
-    later (y ∷ ys) a b = joined (f x) (f y) (flat_map f ys) (cross x y h.0 a.0 b.0) (later ys a.1 b.1)
+      later : (ys : List X) → Each P ys → Each (R x) ys → Each (λ p. Each (S p) (flat_map f ys)) (f x)
+      later [] a b = each_all (λ p. Each (S p) []) (λ p. tt) (f x)
+      later (y ∷ ys) a b = joined (f x) (f y) (flat_map f ys) (cross x y h.0 a.0 b.0) (later ys a.1 b.1)

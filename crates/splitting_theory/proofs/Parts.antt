@@ -1,11 +1,11 @@
 -- The parts of an idempotent at the numbers: what each is, and that they add up to it.
-use Rattle.std.proofs.Common.{◌≡◌, ℕ, zero, suc, ◌+◌, ◌-◌, ◌<◌, ◌≤◌, refl, sym, ◌∙◌, ap, arith, inl, inr}
-use Rattle.std.proofs.Math.Nat.{add-zero, add-suc, zero-add, suc-add}
+use Rattle.std.proofs.Common.{◌≡◌, ℕ, zero, suc, ◌+◌, ◌-◌, ◌<◌, refl, sym, ◌∙◌, ap, arith}
+use Rattle.std.proofs.Math.Nat.{add-zero, zero-add}
 use mathlib.Core.Path.{ap₂}
 use Rattle.algebra.specs.Structures.{CommRing}
 use Rattle.algebra.specs.Sums.{sum_below, multiple, power}
-use Rattle.algebra.proofs.RingLaws.{ring_rules, sum_rules, product_rules, nought_add, mul_nought, nought_mul, one_mul, add_cancel, add_mul, mul_add, mul_left_comm, neg_unique, add_fixed, mul_neg, neg_mul, neg_add, neg_nought, neg_neg, add_neg_add}
-use Rattle.algebra.proofs.SumLaws.{sum_zero, sum_suc, sum_ext, sum_nought, sum_add, sum_neg, mul_sum, sum_mul, sum_first, sum_constant, multiple_zero, multiple_one, multiple_suc, multiple_is_mul, multiple_nought, multiple_mul, mul_multiple, multiple_add, power_zero, power_suc, power_add, multiple_of_add}
+use Rattle.algebra.proofs.RingLaws.{ring_rules, sum_rules, nought_add, mul_nought, nought_mul, one_mul, add_cancel, add_mul, mul_add, mul_left_comm, add_fixed, mul_neg, neg_mul, neg_nought, neg_neg, add_neg_add}
+use Rattle.algebra.proofs.SumLaws.{sum_ext, sum_add, sum_neg, sum_mul, sum_constant, multiple_one, multiple_suc, multiple_is_mul, mul_multiple, multiple_add, power_zero, power_suc}
 use Rattle.splitting_theory.specs.Splitting.{IsFixed, number, horner, part}
 use Rattle.splitting_theory.proofs.PowerSums.{power_sum, power_sum_vanishes, power_sum_last}
 
@@ -30,8 +30,8 @@ module _ {B : Type 0} (Z : CommRing B) where
   telescope_step k v h a b e i =
       left ∙ ap (λ x. Z.add (Z.mul v x) (Z.mul (Z.mul b k) e)) i
     where
-    left : Z.add (Z.mul k (Z.add (Z.mul v h) (Z.mul b e))) (Z.mul (Z.mul a v) e) ≡ Z.add (Z.mul v (Z.add (Z.mul k h) (Z.mul a e))) (Z.mul (Z.mul b k) e)
-    left = simp (ring_rules, Z)
+      left : Z.add (Z.mul k (Z.add (Z.mul v h) (Z.mul b e))) (Z.mul (Z.mul a v) e) ≡ Z.add (Z.mul v (Z.add (Z.mul k h) (Z.mul a e))) (Z.mul (Z.mul b k) e)
+      left = simp (ring_rules, Z)
 
   -- k h + v^n e = v h + k^n e, for the sum h of n terms
   pub telescopes : (k v e : B) (n : ℕ) → Z.add (Z.mul k (horner Z k v e n)) (Z.mul (power Z v n) e) ≡ Z.add (Z.mul v (horner Z k v e n)) (Z.mul (power Z k n) e)
@@ -81,11 +81,12 @@ module _ {B : Type 0} (Z : CommRing B) (q : ℕ) (I : IsFixed Z q) where
       add_cancel Z (Z.add (Z.mul k h) (Z.mul v h)) (Z.mul k (Z.add e (Z.neg h))) (Z.mul v (Z.add e (Z.neg h)))
       (left ∙ sym i ∙ sym right)
     where
-    left : Z.add (Z.add (Z.mul k h) (Z.mul v h)) (Z.mul k (Z.add e (Z.neg h))) ≡ Z.add (Z.mul v h) (Z.mul k e)
-    left = ap (λ a. Z.add (Z.add (Z.mul k h) (Z.mul v h)) a) (mul_add Z k e (Z.neg h) ∙ ap (λ a. Z.add (Z.mul k e) a) (mul_neg Z k h)) ∙ cancels (Z.mul k h) (Z.mul v h) (Z.mul k e)
-    right : Z.add (Z.add (Z.mul k h) (Z.mul v h)) (Z.mul v (Z.add e (Z.neg h))) ≡ Z.add (Z.mul k h) (Z.mul v e)
-    right =
-        ap₂ Z.add (Z.add_comm (Z.mul k h) (Z.mul v h)) (mul_add Z v e (Z.neg h) ∙ ap (λ a. Z.add (Z.mul v e) a) (mul_neg Z v h)) ∙ cancels (Z.mul v h) (Z.mul k h) (Z.mul v e)
+      left : Z.add (Z.add (Z.mul k h) (Z.mul v h)) (Z.mul k (Z.add e (Z.neg h))) ≡ Z.add (Z.mul v h) (Z.mul k e)
+      left = ap (λ a. Z.add (Z.add (Z.mul k h) (Z.mul v h)) a) (mul_add Z k e (Z.neg h) ∙ ap (λ a. Z.add (Z.mul k e) a) (mul_neg Z k h)) ∙ cancels (Z.mul k h) (Z.mul v h) (Z.mul k e)
+
+      right : Z.add (Z.add (Z.mul k h) (Z.mul v h)) (Z.mul v (Z.add e (Z.neg h))) ≡ Z.add (Z.mul k h) (Z.mul v e)
+      right =
+          ap₂ Z.add (Z.add_comm (Z.mul k h) (Z.mul v h)) (mul_add Z v e (Z.neg h) ∙ ap (λ a. Z.add (Z.mul v e) a) (mul_neg Z v h)) ∙ cancels (Z.mul v h) (Z.mul k h) (Z.mul v e)
 
   -- k multiplies the part at v by v
   pub part_acts : (k e : B) (v : ℕ) → Z.mul k (part Z q k e v) ≡ Z.mul (number Z v) (part Z q k e v)
@@ -125,10 +126,11 @@ module _ {B : Type 0} (Z : CommRing B) (q : ℕ) (I : IsFixed Z q) where
   pub apart : (k x : B) (v w : ℕ) → v < w → w < q → Z.mul k x ≡ Z.mul (number Z v) x → Z.mul k x ≡ Z.mul (number Z w) x → x ≡ Z.nought
   apart k x v w h below i j = I.cancel (w - v) x (omega arith) (omega arith) (add_fixed Z (multiple Z v x) (multiple Z (w - v) x) fixed)
     where
-    whole : v + (w - v) ≡ w
-    whole = omega arith
-    fixed : Z.add (multiple Z v x) (multiple Z (w - v) x) ≡ multiple Z v x
-    fixed = sym (multiple_add Z v (w - v) x) ∙ ap (λ m. multiple Z m x) whole ∙ sym (number_mul w x) ∙ sym j ∙ i ∙ number_mul v x
+      whole : v + (w - v) ≡ w
+      whole = omega arith
+
+      fixed : Z.add (multiple Z v x) (multiple Z (w - v) x) ≡ multiple Z v x
+      fixed = sym (multiple_add Z v (w - v) x) ∙ ap (λ m. multiple Z m x) whole ∙ sym (number_mul w x) ∙ sym j ∙ i ∙ number_mul v x
 
   -- what two numbers multiply alike is nought, or they are one
   pub parts_apart : (k e : B) (v w : ℕ) → v < w → w < q → Z.mul (part Z q k e v) (part Z q k e w) ≡ Z.nought
@@ -141,9 +143,9 @@ module _ {B : Type 0} (Z : CommRing B) (q : ℕ) (I : IsFixed Z q) where
   pub part_served : (c u k e : B) (v : ℕ) → Z.mul e e ≡ e → Z.mul c e ≡ Z.mul u e → Z.mul c (part Z q k e v) ≡ Z.mul u (part Z q k e v)
   part_served c u k e v h i = served c u e (part Z q k e v) (part_within k e e v h) i
     where
-    served : (c u e p : B) → Z.mul p e ≡ p → Z.mul c e ≡ Z.mul u e → Z.mul c p ≡ Z.mul u p
-    served c u e p w i =
-        ap (λ a. Z.mul c a) (sym w) ∙ mul_left_comm Z c p e ∙ ap (λ a. Z.mul p a) i ∙ mul_left_comm Z p u e ∙ ap (λ a. Z.mul u a) w
+      served : (c u e p : B) → Z.mul p e ≡ p → Z.mul c e ≡ Z.mul u e → Z.mul c p ≡ Z.mul u p
+      served c u e p w i =
+          ap (λ a. Z.mul c a) (sym w) ∙ mul_left_comm Z c p e ∙ ap (λ a. Z.mul p a) i ∙ mul_left_comm Z p u e ∙ ap (λ a. Z.mul u a) w
 
 module _ {B : Type 0} (Z : CommRing B) (q : ℕ) (I : IsFixed Z q) where
   -- the sum over all numbers v of v^m h(v), where m and one less than the number of terms of h add up to q - 1

@@ -6,11 +6,11 @@ use Rattle.std.proofs.lemmas.Bool.{cases_lt}
 use mathlib.Core.Path.{ap₂}
 use Rattle.algebra.specs.Structures.{CommRing}
 use Rattle.algebra.specs.Sums.{sum_below, sum_list}
-use Rattle.algebra.proofs.RingLaws.{nought_add, mul_nought, nought_mul, one_mul, mul_left_comm}
+use Rattle.algebra.proofs.RingLaws.{mul_nought, mul_left_comm}
 use Rattle.algebra.proofs.SumLaws.{sum_zero, sum_suc, sum_list_nil, sum_list_cons, sum_list_append, sum_list_push, sum_list_single}
 use Rattle.splitting_theory.specs.Lists.{Each, Pairwise}
-use Rattle.splitting_theory.specs.Splitting.{IsFixed, ZeroTest, number, part, parts_below, pieces, Acts, ActsAlike, ActsLower, IsPiece, Precedes, IsSplitting}
-use Rattle.splitting_theory.proofs.Lists.{each_append, each_map, each_all, pairwise_append, each_flat, pairwise_flat}
+use Rattle.splitting_theory.specs.Splitting.{IsFixed, ZeroTest, number, part, parts_below, pieces, Acts, IsPiece, Precedes, IsSplitting}
+use Rattle.splitting_theory.proofs.Lists.{each_append, each_map, pairwise_append, each_flat, pairwise_flat}
 use Rattle.splitting_theory.proofs.Parts.{part_acts, part_within, part_idempotent, part_of_part, apart, parts_apart, part_served, parts_total}
 
 module _ {B : Type 0} (Z : CommRing B) (T : ZeroTest Z) (q : ℕ) where
@@ -57,37 +57,38 @@ module _ {B : Type 0} (Z : CommRing B) (T : ZeroTest Z) (q : ℕ) where
   parts_at k e zero = subst (Each (IsAt k e zero)) (sym (parts_zero k e)) tt
   parts_at k e (suc n) = cases (each_map (IsAt k e n) (IsAt k e (suc n)) (at_more k e n) (parts_below Z T q k e n) (parts_at k e n)) (T.is_nought (part Z q k e n)) refl
     where
-    cases : Each (IsAt k e (suc n)) (parts_below Z T q k e n) → (b : Bool) → T.is_nought (part Z q k e n) ≡ b → Each (IsAt k e (suc n)) (parts_below Z T q k e (suc n))
-    cases before true h = subst (Each (IsAt k e (suc n))) (sym (parts_skip k e n h)) before
-    cases before false h =
-        subst (Each (IsAt k e (suc n))) (sym (parts_keep k e n h))
-        (each_append (IsAt k e (suc n)) (parts_below Z T q k e n) (part Z q k e n ∷ []) before
-        (record { value = n; below = omega arith; is = refl; there = T.fails (part Z q k e n) h }, tt))
+      cases : Each (IsAt k e (suc n)) (parts_below Z T q k e n) → (b : Bool) → T.is_nought (part Z q k e n) ≡ b → Each (IsAt k e (suc n)) (parts_below Z T q k e (suc n))
+      cases before true h = subst (Each (IsAt k e (suc n))) (sym (parts_skip k e n h)) before
+      cases before false h =
+          subst (Each (IsAt k e (suc n))) (sym (parts_keep k e n h))
+          (each_append (IsAt k e (suc n)) (parts_below Z T q k e n) (part Z q k e n ∷ []) before
+          (record { value = n; below = omega arith; is = refl; there = T.fails (part Z q k e n) h }, tt))
 
   pub parts_pairs : (k e : B) (n : ℕ) → n ≤ q → Pairwise (AreAt k e) (parts_below Z T q k e n)
   parts_pairs k e zero small = subst (Pairwise (AreAt k e)) (sym (parts_zero k e)) tt
   parts_pairs k e (suc n) small = cases (parts_pairs k e n (omega arith)) (T.is_nought (part Z q k e n)) refl
     where
-    later : (p : B) → IsAt k e n p → Each (AreAt k e p) (part Z q k e n ∷ [])
-    later p h = (record { low = h.value; high = n; less = h.below; below = omega arith; left = h.is; right = refl }, tt)
-    cases : Pairwise (AreAt k e) (parts_below Z T q k e n) → (b : Bool) → T.is_nought (part Z q k e n) ≡ b → Pairwise (AreAt k e) (parts_below Z T q k e (suc n))
-    cases before true h = subst (Pairwise (AreAt k e)) (sym (parts_skip k e n h)) before
-    cases before false h =
-        subst (Pairwise (AreAt k e)) (sym (parts_keep k e n h))
-        (pairwise_append (AreAt k e) (parts_below Z T q k e n) (part Z q k e n ∷ []) before (tt, tt)
-        (each_map (IsAt k e n) (λ p. Each (AreAt k e p) (part Z q k e n ∷ [])) later (parts_below Z T q k e n) (parts_at k e n)))
+      later : (p : B) → IsAt k e n p → Each (AreAt k e p) (part Z q k e n ∷ [])
+      later p h = (record { low = h.value; high = n; less = h.below; below = omega arith; left = h.is; right = refl }, tt)
+
+      cases : Pairwise (AreAt k e) (parts_below Z T q k e n) → (b : Bool) → T.is_nought (part Z q k e n) ≡ b → Pairwise (AreAt k e) (parts_below Z T q k e (suc n))
+      cases before true h = subst (Pairwise (AreAt k e)) (sym (parts_skip k e n h)) before
+      cases before false h =
+          subst (Pairwise (AreAt k e)) (sym (parts_keep k e n h))
+          (pairwise_append (AreAt k e) (parts_below Z T q k e n) (part Z q k e n ∷ []) before (tt, tt)
+          (each_map (IsAt k e n) (λ p. Each (AreAt k e p) (part Z q k e n ∷ [])) later (parts_below Z T q k e n) (parts_at k e n)))
 
   pub parts_sum : (k e : B) (n : ℕ) → sum_list Z (parts_below Z T q k e n) ≡ sum_below Z n (λ v. part Z q k e v)
   parts_sum k e zero = ap (sum_list Z) (parts_zero k e) ∙ sum_list_nil Z ∙ sym (sum_zero Z (λ v. part Z q k e v))
   parts_sum k e (suc n) = cases (parts_sum k e n) (T.is_nought (part Z q k e n)) refl
     where
-    cases : sum_list Z (parts_below Z T q k e n) ≡ sum_below Z n (λ v. part Z q k e v) → (b : Bool) → T.is_nought (part Z q k e n) ≡ b → sum_list Z (parts_below Z T q k e (suc n)) ≡ sum_below Z (suc n) (λ v. part Z q k e v)
-    cases before true h =
-        ap (sum_list Z) (parts_skip k e n h) ∙ before ∙ sym (Z.add_nought (sum_below Z n (λ v. part Z q k e v)))
-        ∙ ap (λ a. Z.add (sum_below Z n (λ v. part Z q k e v)) a) (sym (T.passes (part Z q k e n) h)) ∙ sym (sum_suc Z n (λ v. part Z q k e v))
-    cases before false h =
-        ap (sum_list Z) (parts_keep k e n h) ∙ sum_list_push Z (parts_below Z T q k e n) (part Z q k e n)
-        ∙ ap (λ a. Z.add a (part Z q k e n)) before ∙ sym (sum_suc Z n (λ v. part Z q k e v))
+      cases : sum_list Z (parts_below Z T q k e n) ≡ sum_below Z n (λ v. part Z q k e v) → (b : Bool) → T.is_nought (part Z q k e n) ≡ b → sum_list Z (parts_below Z T q k e (suc n)) ≡ sum_below Z (suc n) (λ v. part Z q k e v)
+      cases before true h =
+          ap (sum_list Z) (parts_skip k e n h) ∙ before ∙ sym (Z.add_nought (sum_below Z n (λ v. part Z q k e v)))
+          ∙ ap (λ a. Z.add (sum_below Z n (λ v. part Z q k e v)) a) (sym (T.passes (part Z q k e n) h)) ∙ sym (sum_suc Z n (λ v. part Z q k e v))
+      cases before false h =
+          ap (sum_list Z) (parts_keep k e n h) ∙ sum_list_push Z (parts_below Z T q k e n) (part Z q k e n)
+          ∙ ap (λ a. Z.add a (part Z q k e n)) before ∙ sym (sum_suc Z n (λ v. part Z q k e v))
 
 module _ {B : Type 0} (Z : CommRing B) (T : ZeroTest Z) (q : ℕ) (I : IsFixed Z q) (at : ℕ → B) where
   -- what a number does to e it does to a part of e
@@ -104,13 +105,13 @@ module _ {B : Type 0} (Z : CommRing B) (T : ZeroTest Z) (q : ℕ) (I : IsFixed Z
     served = λ s h. serve s (cases_lt s t) h;
   }
     where
-    serve : (s : ℕ) → (s < t) ⊎ (t ≤ s) → s < suc t → Acts Z q (at s) p
-    serve s (inl k) h =
-        let before = piece.served s k in
-        record { value = before.value; below = before.below; acts = on_part (at t) (at s) e p before.value place.value place.is piece.idempotent before.acts }
-    serve s (inr k) h =
-        let same : t ≡ s = omega arith in
-        record { value = place.value; below = place.below; acts = ap (λ j. Z.mul (at j) p) (sym same) ∙ acts_here (at t) e p place.value place.is }
+      serve : (s : ℕ) → (s < t) ⊎ (t ≤ s) → s < suc t → Acts Z q (at s) p
+      serve s (inl k) h =
+          let before = piece.served s k in
+          record { value = before.value; below = before.below; acts = on_part (at t) (at s) e p before.value place.value place.is piece.idempotent before.acts }
+      serve s (inr k) h =
+          let same : t ≡ s = omega arith in
+          record { value = place.value; below = place.below; acts = ap (λ j. Z.mul (at j) p) (sym same) ∙ acts_here (at t) e p place.value place.is }
 
   own_pair : (t : ℕ) (e p r : B) → IsPiece Z q at t e → AreAt Z T q (at t) e p r → Precedes Z q at (suc t) p r
   own_pair t e p r piece places = record {
@@ -156,8 +157,8 @@ module _ {B : Type 0} (Z : CommRing B) (T : ZeroTest Z) (q : ℕ) (I : IsFixed Z
     };
   }
     where
-    none : (a b c d : B) → Z.mul b d ≡ Z.nought → Z.mul (Z.mul a b) (Z.mul c d) ≡ Z.nought
-    none a b c d h = Z.mul_assoc a b (Z.mul c d) ∙ ap (λ x. Z.mul a x) (mul_left_comm Z b c d ∙ ap (λ x. Z.mul c x) h ∙ mul_nought Z c) ∙ mul_nought Z a
+      none : (a b c d : B) → Z.mul b d ≡ Z.nought → Z.mul (Z.mul a b) (Z.mul c d) ≡ Z.nought
+      none a b c d h = Z.mul_assoc a b (Z.mul c d) ∙ ap (λ x. Z.mul a x) (mul_left_comm Z b c d ∙ ap (λ x. Z.mul c x) h ∙ mul_nought Z c) ∙ mul_nought Z a
 
   pieces_sum : (t : ℕ) (es : List B) → Each (IsPiece Z q at t) es → sum_list Z (flat_map (λ e. parts_below Z T q (at t) e q) es) ≡ sum_list Z es
   pieces_sum t [] h = refl
@@ -177,9 +178,9 @@ module _ {B : Type 0} (Z : CommRing B) (T : ZeroTest Z) (q : ℕ) (I : IsFixed Z
     whole = pieces_sum t es h.each ∙ h.whole;
   }
     where
-    own : (e : B) → IsPiece Z q at t e → (ps : List B) → Pairwise (AreAt Z T q (at t) e) ps → Pairwise (Precedes Z q at (suc t)) ps
-    own e piece [] k = tt
-    own e piece (p ∷ ps) k = (each_map (AreAt Z T q (at t) e p) (Precedes Z q at (suc t) p) (λ r. own_pair t e p r piece) ps k.0, own e piece ps k.1)
+      own : (e : B) → IsPiece Z q at t e → (ps : List B) → Pairwise (AreAt Z T q (at t) e) ps → Pairwise (Precedes Z q at (suc t)) ps
+      own e piece [] k = tt
+      own e piece (p ∷ ps) k = (each_map (AreAt Z T q (at t) e p) (Precedes Z q at (suc t) p) (λ r. own_pair t e p r piece) ps k.0, own e piece ps k.1)
 
   -- the pieces split one
   pub pieces_split : (t : ℕ) → IsSplitting Z q at t (pieces Z T q at t)
@@ -194,16 +195,16 @@ module _ {B : Type 0} (Z : CommRing B) (T : ZeroTest Z) where
   pub test_true : (x : B) → x ≡ Z.nought → T.is_nought x ≡ true
   test_true x e = cases (T.is_nought x) refl
     where
-    cases : (b : Bool) → T.is_nought x ≡ b → T.is_nought x ≡ true
-    cases true h = h
-    cases false h = absurd (T.fails x h e)
+      cases : (b : Bool) → T.is_nought x ≡ b → T.is_nought x ≡ true
+      cases true h = h
+      cases false h = absurd (T.fails x h e)
 
   pub test_false : (x : B) → x ≢ Z.nought → T.is_nought x ≡ false
   test_false x e = cases (T.is_nought x) refl
     where
-    cases : (b : Bool) → T.is_nought x ≡ b → T.is_nought x ≡ false
-    cases true h = absurd (e (T.passes x h))
-    cases false h = h
+      cases : (b : Bool) → T.is_nought x ≡ b → T.is_nought x ≡ false
+      cases true h = absurd (e (T.passes x h))
+      cases false h = h
 
 module _ {B : Type 0} (Z : CommRing B) (T : ZeroTest Z) (q : ℕ) (I : IsFixed Z q) (k e : B) (u : ℕ) (small : u < q) (there : e ≢ Z.nought) (idem : Z.mul e e ≡ e) (acts : Z.mul k e ≡ Z.mul (number Z u) e) where
   part_here : part Z q k e u ≡ e

@@ -1,12 +1,11 @@
 -- Sums of equal powers of the numbers below q, in a ring in which q copies of one are nought.
-use Rattle.std.proofs.Common.{◌≡◌, ℕ, zero, suc, ◌+◌, ◌<◌, ◌≤◌, refl, sym, ◌∙◌, ap, arith, inl, inr}
-use Rattle.std.proofs.Math.Nat.{add-zero, add-suc, zero-add, suc-add}
+use Rattle.std.proofs.Common.{◌≡◌, ℕ, zero, suc, ◌+◌, ◌<◌, sym, ◌∙◌, ap, arith, inl, inr}
 use Rattle.std.proofs.lemmas.Bool.{cases_lt}
 use mathlib.Core.Path.{ap₂}
 use Rattle.algebra.specs.Structures.{CommRing}
 use Rattle.algebra.specs.Sums.{sum_below, multiple, power}
-use Rattle.algebra.proofs.RingLaws.{ring_rules, sum_rules, product_rules, nought_add, mul_nought, nought_mul, one_mul, add_cancel, add_mul, mul_add, neg_unique, neg_add_self, add_fixed, mul_neg, neg_add}
-use Rattle.algebra.proofs.SumLaws.{sum_zero, sum_suc, sum_ext, sum_nought, sum_add, mul_sum, sum_mul, sum_first, sum_constant, multiple_zero, multiple_suc, multiple_is_mul, multiple_nought, multiple_mul, mul_multiple, power_zero, power_suc, power_one, multiple_one, power_add, multiple_of_add}
+use Rattle.algebra.proofs.RingLaws.{ring_rules, nought_add, mul_nought, one_mul, add_cancel, mul_add, neg_unique, neg_add_self, add_fixed, mul_neg}
+use Rattle.algebra.proofs.SumLaws.{sum_suc, sum_ext, sum_nought, sum_add, mul_sum, sum_first, sum_constant, multiple_zero, multiple_suc, multiple_is_mul, multiple_nought, multiple_mul, mul_multiple, power_zero, power_suc, power_one, multiple_one, power_add}
 use Rattle.splitting_theory.specs.Splitting.{IsFixed, number}
 
 module _ {B : Type 0} (Z : CommRing B) where
@@ -69,14 +68,14 @@ module _ {B : Type 0} (Z : CommRing B) (q : ℕ) (I : IsFixed Z q) where
   one_more m small h =
       let y : ℕ → B = number Z in
       let none : sum_below Z q (λ v. lower Z m (y v)) ≡ Z.nought =
-          sum_ext Z q (λ v. lower Z m (y v)) (λ v. Z.mul (power Z (y v) 0) (lower Z m (y v))) (λ v k. sym (ap (λ a. Z.mul a (lower Z m (y v))) (power_zero Z (y v)) ∙ one_mul Z (lower Z m (y v))))
-          ∙ lower_vanishes Z q m 0 (λ i k. h i (omega arith)) in
+      sum_ext Z q (λ v. lower Z m (y v)) (λ v. Z.mul (power Z (y v) 0) (lower Z m (y v))) (λ v k. sym (ap (λ a. Z.mul a (lower Z m (y v))) (power_zero Z (y v)) ∙ one_mul Z (lower Z m (y v))))
+      ∙ lower_vanishes Z q m 0 (λ i k. h i (omega arith)) in
       let whole : Z.add (sum_below Z q (λ v. power Z (y v) (suc m))) (Z.add (multiple Z (suc m) (sum_below Z q (λ v. power Z (y v) m))) Z.nought) ≡ sum_below Z q (λ v. power Z (y v) (suc m)) =
-          sym (ap (λ a. Z.add (sum_below Z q (λ v. power Z (y v) (suc m))) a) (ap₂ Z.add (sum_multiple Z q q (suc m) (λ v. power Z (y v) m)) none))
-          ∙ sym (three_sums (λ v. power Z (y v) (suc m)) (λ v. multiple Z (suc m) (power Z (y v) m)) (λ v. lower Z m (y v)))
-          ∙ sum_ext Z q (λ v. Z.add (power Z (y v) (suc m)) (Z.add (multiple Z (suc m) (power Z (y v) m)) (lower Z m (y v)))) (λ v. power Z (y (suc v)) (suc m))
-          (λ v k. sym (ap (λ a. power Z a (suc m)) (multiple_suc Z v Z.one) ∙ shifted Z m (y v)))
-          ∙ sum_next Z q (λ v. power Z (y v) (suc m)) (ap (λ a. power Z a (suc m)) (I.vanish ∙ sym (multiple_zero Z Z.one))) in
+      sym (ap (λ a. Z.add (sum_below Z q (λ v. power Z (y v) (suc m))) a) (ap₂ Z.add (sum_multiple Z q q (suc m) (λ v. power Z (y v) m)) none))
+      ∙ sym (three_sums (λ v. power Z (y v) (suc m)) (λ v. multiple Z (suc m) (power Z (y v) m)) (λ v. lower Z m (y v)))
+      ∙ sum_ext Z q (λ v. Z.add (power Z (y v) (suc m)) (Z.add (multiple Z (suc m) (power Z (y v) m)) (lower Z m (y v)))) (λ v. power Z (y (suc v)) (suc m))
+      (λ v k. sym (ap (λ a. power Z a (suc m)) (multiple_suc Z v Z.one) ∙ shifted Z m (y v)))
+      ∙ sum_next Z q (λ v. power Z (y v) (suc m)) (ap (λ a. power Z a (suc m)) (I.vanish ∙ sym (multiple_zero Z Z.one))) in
       I.cancel (suc m) (sum_below Z q (λ v. power Z (y v) m)) (omega arith) small
       (sym (Z.add_nought (multiple Z (suc m) (sum_below Z q (λ v. power Z (y v) m)))) ∙ add_fixed Z (sum_below Z q (λ v. power Z (y v) (suc m))) (Z.add (multiple Z (suc m) (sum_below Z q (λ v. power Z (y v) m))) Z.nought) whole)
 
@@ -99,18 +98,18 @@ module _ {B : Type 0} (Z : CommRing B) (q : ℕ) (I : IsFixed Z q) where
       ∙ nought_add Z (multiple Z (suc p) Z.one))
       ∙ sym (multiple_suc Z (suc p) Z.one) ∙ ap (λ n. multiple Z n Z.one) s ∙ I.vanish
     where
-    unit : (v : ℕ) → suc v < q → power Z (number Z (suc v)) (suc p) ≡ Z.one
-    unit v h =
-        difference (power Z (number Z (suc v)) (suc p)) Z.one
-        (I.cancel (suc v) (Z.add (power Z (number Z (suc v)) (suc p)) (Z.neg Z.one)) (omega arith) h
-        (multiple_is_mul Z (suc v) (Z.add (power Z (number Z (suc v)) (suc p)) (Z.neg Z.one))
-        ∙ mul_add Z (number Z (suc v)) (power Z (number Z (suc v)) (suc p)) (Z.neg Z.one)
-        ∙ ap₂ Z.add (Z.mul_comm (number Z (suc v)) (power Z (number Z (suc v)) (suc p)) ∙ sym (power_suc Z (number Z (suc v)) (suc p)) ∙ ap (λ n. power Z (number Z (suc v)) n) s ∙ I.fixed (number Z (suc v)))
-        (mul_neg Z (number Z (suc v)) Z.one ∙ ap Z.neg (Z.mul_one (number Z (suc v))))
-        ∙ Z.add_neg (number Z (suc v))))
-      where
-      difference : (x y : B) → Z.add x (Z.neg y) ≡ Z.nought → x ≡ y
-      difference x y e = sym (Z.add_nought x) ∙ ap (λ a. Z.add x a) (sym (neg_add_self Z y)) ∙ sym (Z.add_assoc x (Z.neg y) y) ∙ ap (λ a. Z.add a y) e ∙ nought_add Z y
+      unit : (v : ℕ) → suc v < q → power Z (number Z (suc v)) (suc p) ≡ Z.one
+      unit v h =
+          difference (power Z (number Z (suc v)) (suc p)) Z.one
+          (I.cancel (suc v) (Z.add (power Z (number Z (suc v)) (suc p)) (Z.neg Z.one)) (omega arith) h
+          (multiple_is_mul Z (suc v) (Z.add (power Z (number Z (suc v)) (suc p)) (Z.neg Z.one))
+          ∙ mul_add Z (number Z (suc v)) (power Z (number Z (suc v)) (suc p)) (Z.neg Z.one)
+          ∙ ap₂ Z.add (Z.mul_comm (number Z (suc v)) (power Z (number Z (suc v)) (suc p)) ∙ sym (power_suc Z (number Z (suc v)) (suc p)) ∙ ap (λ n. power Z (number Z (suc v)) n) s ∙ I.fixed (number Z (suc v)))
+          (mul_neg Z (number Z (suc v)) Z.one ∙ ap Z.neg (Z.mul_one (number Z (suc v))))
+          ∙ Z.add_neg (number Z (suc v))))
+        where
+          difference : (x y : B) → Z.add x (Z.neg y) ≡ Z.nought → x ≡ y
+          difference x y e = sym (Z.add_nought x) ∙ ap (λ a. Z.add x a) (sym (neg_add_self Z y)) ∙ sym (Z.add_assoc x (Z.neg y) y) ∙ ap (λ a. Z.add a y) e ∙ nought_add Z y
 
   -- that of the powers q - 1 is -1
   pub power_sum_last : (p : ℕ) → suc p ≡ q → power_sum Z q p ≡ Z.neg Z.one

@@ -1,10 +1,9 @@
 -- The laws that the crate's law functions carry. The rings are taken on the natural numbers, as every countably infinite one is up
 -- to names.
-use Rattle.std.specs.Prelude.{◌≡◌, ◌≢◌, ℕ, ◌<◌, List, length}
+use Rattle.std.specs.Prelude.{◌≡◌, ◌≢◌, ℕ, List, length}
 use Rattle.algebra.specs.Structures.{CommRing}
 use Rattle.algebra.specs.Sums.{sum_below}
-use Rattle.splitting_theory.specs.Lists.{Each}
-use Rattle.splitting_theory.specs.Splitting.{IsFixed, ZeroTest, number, part, pieces, IsPiece, IsSplitting}
+use Rattle.splitting_theory.specs.Splitting.{IsFixed, ZeroTest, number, part, pieces, IsSplitting}
 use Rattle.splitting_theory.specs.Algebras.{IsField, HasBasis, IsCharacter, HasValues, Among, AreDependent}
 
 -- the parts of an idempotent e at the numbers below q: k multiplies each by its number, each is idempotent, and they add up to e

@@ -1,0 +1,42 @@
+-- Lists of residues as elements of an algebra with a structure.
+use Rattle.std.proofs.Common.{◌≡◌, ℕ, zero, suc, ◌+◌, ◌*◌, ◌<◌, ◌≤◌, Result, Ok, Err, IfOk, List, get_or, refl, sym, ◌∙◌, ap, subst, arith}
+use Rattle.std.proofs.Math.Nat.{suc-mul, mul-le-mul_right}
+use mathlib.Core.Path.{fun_ext}
+use Rattle.algebra.specs.Structures.{CommRing}
+use Rattle.algebra.specs.Below.{Below, below_equal}
+use Rattle.algebra.specs.Sums.{sum_below}
+use Rattle.prime_field.specs.Field.{field, field_residue}
+use Rattle.prime_field.specs.ResidueLists.{IsTabulated, AreBelow}
+use Rattle.prime_field.proofs.ResidueSums.{residue_of_value}
+use Rattle.dixon_split.specs.Elements.{Element, element_of, IsElement}
+use Rattle.dixon_split.specs.Structures.{constant, image_value, residues, HasStructure}
+use Rattle.dixon_split.specs.declared.structure.Structure.{Structure}
+
+pub rows_below : (i n w : ℕ) → i < n → i * w + w ≤ n * w
+rows_below i n w h = let e : suc i * w ≤ n * w = mul-le-mul_right w h in rw (suc-mul i w) at e
+
+pub constant_below : (r t j k : ℕ) → t < r → j < r → k < r → (t * r + j) * r + k < r * r * r
+constant_below r t j k t_below j_below k_below =
+    let a : t * r + r ≤ r * r = rows_below t r r t_below in
+    let b : (t * r + j) * r + r ≤ r * r * r = rows_below (t * r + j) (r * r) r (omega arith) in
+    omega arith
+
+-- what holds of an answer holds of what follows from it
+pub if_ok : {X E : Type 0} (r : Result X E) (P Q : X → Type 0) → ((x : X) → P x → Q x) → IfOk r P → IfOk r Q
+if_ok (Ok x) P Q f h = f x h
+if_ok (Err e) P Q f h = tt
+
+module _ (a : Structure) (t : ℕ) (e : List ℕ) where
+  image_below : (k : ℕ) → image_value a t e k < a.q
+  image_below k = (sum_below (field a.q a.listed) a.rank (λ j. (field a.q a.listed).mul (field_residue a.q a.listed (get_or e j 0)) (field_residue a.q a.listed (constant a t j k)))).below
+
+  pub tabulated_element : (next : List ℕ) → IsTabulated a.rank (image_value a t e) next → IsElement a.q a.rank next
+  tabulated_element next h = record {
+    count = h.count;
+    below = λ k below. subst (λ v. v < a.q) (sym (h.each k (let c = h.count in omega arith))) (image_below k);
+  }
+
+  pub tabulated_image : t < a.rank → (Z : CommRing (Element a.q a.rank)) (H : HasStructure a Z) → (next : List ℕ) → IsTabulated a.rank (image_value a t e) next
+      → residues a next ≡ Z.mul (H.basis t) (residues a e)
+  tabulated_image t_below Z H next h =
+      fun_ext (λ k. ap (field_residue a.q a.listed) (h.each k.value k.below) ∙ sym (H.image_at t t_below e k))

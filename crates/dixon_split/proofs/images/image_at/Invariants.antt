@@ -1,0 +1,13 @@
+use Rattle.std.proofs.Common.{◌≡◌, ◌<◌, get_or}
+use Rattle.algebra.specs.Sums.{sum_below}
+use Rattle.prime_field.specs.Field.{field, field_residue}
+use Rattle.dixon_split.specs.Structures.{constant}
+use Rattle.dixon_split.proofs.images.image_at.Given as goal
+
+abbrev pub invariant-loop-j : goal.invariant-loop-j
+invariant-loop-j l = record {
+  below : l.sum < l.algebra.q;
+  so_far :
+      l.sum ≡ (sum_below (field l.algebra.q l.algebra.listed) l.j
+      (λ j. (field l.algebra.q l.algebra.listed).mul (field_residue l.algebra.q l.algebra.listed (get_or l.e j 0)) (field_residue l.algebra.q l.algebra.listed (constant l.algebra l.t j l.k)))).value;
+}

@@ -1,0 +1,12 @@
+use Rattle.std.proofs.Common.{◌≡◌, All, map}
+use Rattle.algebra.specs.Structures.{CommRing}
+use Rattle.splitting_theory.specs.Splitting.{IsFixed, ZeroTest, pieces}
+use Rattle.dixon_split.specs.Elements.{Element, IsElement}
+use Rattle.dixon_split.specs.Structures.{residues, HasStructure}
+use Rattle.dixon_split.proofs.pieces.all_pieces.Given as goal
+
+abbrev pub invariant-loop-t : goal.invariant-loop-t
+invariant-loop-t l = record {
+  elements : All (λ piece. IsElement l.algebra.q l.algebra.rank piece.items) l.found.items;
+  pieces : (Z : CommRing (Element l.algebra.q l.algebra.rank)) (T : ZeroTest Z) (H : HasStructure l.algebra Z) → IsFixed Z l.algebra.q → map (λ piece. residues l.algebra piece.items) l.found.items ≡ pieces Z T l.algebra.q H.basis l.t;
+}

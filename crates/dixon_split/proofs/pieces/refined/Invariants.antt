@@ -1,0 +1,15 @@
+use Rattle.std.proofs.Common.{◌≡◌, ◌≢◌, All, map, take}
+use Rattle.std.specs.Prelude.{flat_map}
+use Rattle.algebra.specs.Structures.{CommRing}
+use Rattle.splitting_theory.specs.Splitting.{IsFixed, ZeroTest, parts_below}
+use Rattle.dixon_split.specs.Elements.{Element, IsElement}
+use Rattle.dixon_split.specs.Structures.{residues, HasStructure}
+use Rattle.dixon_split.proofs.pieces.refined.Given as goal
+
+abbrev pub invariant-loop-piece : goal.invariant-loop-piece
+invariant-loop-piece l = record {
+  elements : All (λ piece. IsElement l.algebra.q l.algebra.rank piece.items) l.next.items;
+  parts : (Z : CommRing (Element l.algebra.q l.algebra.rank)) (T : ZeroTest Z) (H : HasStructure l.algebra Z) → IsFixed Z l.algebra.q
+      → All (λ piece. (residues l.algebra piece.items ≢ Z.nought) × (Z.mul (residues l.algebra piece.items) (residues l.algebra piece.items) ≡ residues l.algebra piece.items)) l.pieces
+      → map (λ piece. residues l.algebra piece.items) l.next.items ≡ flat_map (λ e. parts_below Z T l.algebra.q (H.basis l.t) e l.algebra.q) (map (λ piece. residues l.algebra piece.items) (take l.piece-index l.pieces));
+}
