@@ -1,0 +1,2 @@
+pub mod CharacterLists
+pub mod Laws

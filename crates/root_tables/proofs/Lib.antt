@@ -1,0 +1,4 @@
+pub mod FormedRoots
+pub mod TableRoots
+pub mod MissRoots
+pub mod SimpleRoots

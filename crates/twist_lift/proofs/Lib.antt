@@ -1,0 +1,2 @@
+pub mod TwistLaws
+pub mod ServedClasses

@@ -1,0 +1,2 @@
+pub mod TwistRows
+pub mod Laws
