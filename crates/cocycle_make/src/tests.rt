@@ -1,5 +1,7 @@
 //! Cocycles by formulas, with exponents worked by hand, and numbers and maps that are refused.
 
+ghost use Rattle.std.specs.Prelude.{◌<◌, ℕ, length, slice_index};
+
 use crate::{InflateRefusal, inflate, trivial, type_one, type_three, type_two};
 use cochain::{Cocycle, GaugeRefusal};
 use group_make::{MakeRefusal, cyclic, dihedral};
@@ -77,6 +79,15 @@ fn formulas(rt: HostRuntime) {
     );
 }
 
+/// Each number of the list is below this.
+fn expect_below(rt: &impl Abort, numbers: &Nats, bound: u32)
+    ensures below { (g : ℕ) → g < length numbers.now → slice_index numbers.now g < bound }
+{
+    for i in 0..numbers.len() {
+        assert!(rt; numbers.at(i) < bound);
+    }
+}
+
 /// The cocycle `w` along this map from the dihedral group of order 6.
 fn inflated(
     rt: &impl Abort,
@@ -87,9 +98,7 @@ fn inflated(
     let group = dihedral(alloc, 3).expect(rt, "a group");
     let order = w.group().order();
     assert!(rt; group.order() == 6 && map.len() == 6);
-    for g in 0..6 {
-        assert!(rt; map.at(g) < order);
-    }
+    expect_below(rt, map, order);
     inflate(alloc, group, map, w)
 }
 

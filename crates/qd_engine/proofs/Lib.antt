@@ -6,7 +6,7 @@ pub mod Following
 pub mod Documents
 pub mod Shapes
 pub mod ConductorLaws
-pub mod Tests
+pub mod TestLaws
 pub mod Passing
 pub mod Meaning
 pub mod Taken

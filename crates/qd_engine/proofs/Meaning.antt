@@ -21,7 +21,7 @@ use Rattle.qd_engine.specs.declared.answer.Why.{Why}
 use Rattle.qd_engine.specs.declared.answer.Why.TheVariants as whys
 use Rattle.qd_engine.specs.declared.answer.Outcome.{Outcome}
 use Rattle.qd_engine.specs.declared.answer.Outcome.TheVariants.{Report, Refused, Memory}
-use Rattle.qd_engine.proofs.Tests.{input_accepted}
+use Rattle.qd_engine.proofs.TestLaws.{input_accepted}
 use Rattle.qd_engine.proofs.Passing.{rows_give, accepted_passes}
 
 module _ (words : List (List ℕ)) (left : Option (List ℕ)) (failed : Type 0) where

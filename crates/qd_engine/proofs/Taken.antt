@@ -22,7 +22,7 @@ use Rattle.qd_engine.specs.declared.answer.Why.{Why}
 use Rattle.qd_engine.specs.declared.answer.Why.TheVariants as whys
 use Rattle.qd_engine.specs.declared.answer.Outcome.{Outcome}
 use Rattle.qd_engine.specs.declared.answer.Outcome.TheVariants.{Report, Refused, Memory}
-use Rattle.qd_engine.proofs.Tests.{IsOfInput, refusal_is, late_is}
+use Rattle.qd_engine.proofs.TestLaws.{IsOfInput, refusal_is, late_is}
 
 -- ---- what comes of the steps
 
