@@ -4,3 +4,4 @@ pub mod Layers
 pub mod PushedParts
 pub mod Multiples
 pub mod Refining
+pub mod ClassSums

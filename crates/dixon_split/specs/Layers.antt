@@ -9,10 +9,6 @@ use Rattle.dixon_split.specs.Elements.{Element}
 use Rattle.dixon_split.specs.Structures.{residues, HasStructure}
 use Rattle.dixon_split.specs.declared.structure.Structure.{Structure}
 
--- the lists as elements of the algebra
-abbrev pub elements : (a : Structure) → List (List ℕ) → List (Element a.q a.rank)
-elements a lists = map (residues a) lists
-
 -- the list has, one after another, the element with the numbers e times the first n powers of the t-th element of the basis
 pub record ArePowers (a : Structure) (t : ℕ) (e : List ℕ) (n : ℕ) (powers : List ℕ) : Type 0 where
   pub count : length powers ≡ n * a.rank

@@ -3,6 +3,7 @@
 
 mod arithmetic;
 mod central;
+mod class_sums;
 mod images;
 mod parts;
 mod pieces;
