@@ -130,7 +130,7 @@ length_is s len places e is = e ∙ ap length is ∙ length-regular_representati
 pub place_small : (s : TwistedSubgroup) → IsTwist s → (places : List ℕ) (i p : ℕ) → places ≡ regular_representatives s → p ≡ get_or places i 0 → p < size s
 place_small s twist places i p is e = subst (λ v. v < size s) (sym (e ∙ ap (λ ps. get_or ps i 0) is)) (representative_below_at s twist i)
 
-quotient_small : (k y x : ℕ) → 0 < k → x < y * k → x / k < y
+pub quotient_small : (k y x : ℕ) → 0 < k → x < y * k → x / k < y
 quotient_small k y x positive h = (div-lt_iff_lt-mul positive).1 h
 
 -- the three numbers below r that a number below r r r stands for

@@ -5,3 +5,5 @@ pub mod PushedParts
 pub mod Multiples
 pub mod Refining
 pub mod ClassSums
+pub mod Characters
+pub mod Values

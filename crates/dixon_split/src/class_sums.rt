@@ -4,7 +4,7 @@ ghost use Rattle.std.specs.Prelude.{◌≡◌, ◌+◌, ◌*◌, ◌<◌, ◌≤
 ghost use Rattle.classes.specs.Conjugacy.{least_transporter};
 ghost use Rattle.prime_field.specs.Field.{field_residue};
 ghost use Rattle.prime_field.specs.ResidueLists.{AreBelow, IsTabulated};
-ghost use Rattle.twisted.specs.Twist.{size};
+ghost use Rattle.twisted.specs.Twist.{size, IsTwist};
 ghost use Rattle.twisted.specs.Regular.{regular_representatives, rank};
 ghost use Rattle.twisted.specs.Algebra.{exponent};
 ghost use Rattle.dixon_split.specs.ClassSums.{residue_field, class_sum_value, sum_number, term_at, product_value, constant_number};
@@ -163,10 +163,12 @@ fn constants(
 // The centre of the twisted group algebra, with the class sums as its basis.
 pub(crate) fn centre(alloc: Global, ring: &ModRing, twist: &Twist) -> Result<Structure, Memory>
     ensures centre { IfOk result (IsCentreOf ring.now twist.now) }
+    ensures twist { IsTwist twist.now }
 {
+    let size = twist.size();
     let places = regular_reps(alloc, twist)?;
     let rank = places.len();
-    let sums = class_sums(alloc, ring, twist, &places, rank * twist.size())?;
+    let sums = class_sums(alloc, ring, twist, &places, rank * size)?;
     let constants = constants(
         alloc,
         ring,

@@ -7,6 +7,8 @@ mod class_sums;
 mod images;
 mod parts;
 mod pieces;
+mod splitting;
 mod structure;
 
 pub use central::Central;
+pub use splitting::split;
