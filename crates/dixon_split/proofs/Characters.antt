@@ -1,17 +1,15 @@
 -- The centre of a twisted group algebra by its structure, and the lists of the numbers at its pieces.
-use Rattle.std.proofs.Common.{◌≡◌, ℕ, zero, suc, ◌+◌, ◌*◌, ◌/◌, ◌%◌, ◌<◌, ◌≤◌, true, Bool, All, List, [], ◌∷◌, ◌++◌, map, length, length-append, get_or, refl, sym, ◌∙◌, ap, subst, arith}
+use Rattle.std.proofs.Common.{◌≡◌, ℕ, ◌*◌, ◌%◌, ◌<◌, ◌≤◌, true, Bool, List, [], ◌∷◌, length, get_or, refl, sym, ◌∙◌, ap, subst}
 use Rattle.std.proofs.Math.Bool.{Bool-set}
 use Rattle.std.specs.declared.vec.Vec.{Vec}
 use Rattle.std.specs.declared.alloc.Global.{Global}
-use Rattle.std.specs.List.{concat}
-use mathlib.Core.Path.{ap₂}
 use Rattle.algebra.specs.Structures.{CommRing}
 use Rattle.algebra.specs.Sums.{sum_below}
 use Rattle.algebra.specs.Below.{Below}
 use Rattle.algebra.proofs.SumLaws.{sum_ext}
 use Rattle.prime_field.specs.declared.mod_ring.ModRing.{ModRing}
 use Rattle.prime_field.specs.Moduli.{is_modulus}
-use Rattle.prime_field.specs.Field.{field, field_residue}
+use Rattle.prime_field.specs.Field.{field_residue}
 use Rattle.prime_field.specs.ResidueLists.{AreBelow}
 use Rattle.prime_field.proofs.ResidueSums.{residue_of_value}
 use Rattle.twisted.specs.Twist.{TwistedSubgroup, size, IsTwist}
@@ -19,16 +17,15 @@ use Rattle.twisted.specs.Regular.{rank, regular_representatives}
 use Rattle.twisted.specs.Algebra.{twisted_product}
 use Rattle.centre_algebra.specs.CentralCharacters.{regular_sum}
 use Rattle.centre_powers.specs.CentralPowers.{unit_period}
-use Rattle.splitting_theory.specs.Lists.{Each}
 use Rattle.splitting_theory.specs.Splitting.{IsFixed, ZeroTest, number, IsSplitting}
 use Rattle.splitting_theory.proofs.Counting.{splitting_counts}
 use Rattle.centre_algebra.specs.Laws.{AreCentralCharacters}
 use Rattle.centre_algebra.proofs.Numbers.{Zipped}
-use Rattle.centre_algebra.proofs.CentreRing.{unit_at_place, basis_at, basis_product}
+use Rattle.centre_algebra.proofs.CentreRing.{unit_at_place}
 use Rattle.centre_algebra.proofs.CharacterLists.{divides, R, U, C, E, fixed, residue_field, nought_test, AreNumbers, lists_characters, number_at, image_at}
 use Rattle.dixon_split.specs.ClassSums.{constant_value}
 use Rattle.dixon_split.specs.Elements.{Element}
-use Rattle.dixon_split.specs.Structures.{constant, image_value, residues, HasStructure}
+use Rattle.dixon_split.specs.Structures.{constant, HasStructure}
 use Rattle.dixon_split.specs.Values.{IsCentreOf}
 use Rattle.dixon_split.specs.declared.structure.Structure.{Structure}
 

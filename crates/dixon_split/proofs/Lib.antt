@@ -7,3 +7,4 @@ pub mod Refining
 pub mod ClassSums
 pub mod Characters
 pub mod Values
+pub mod Untwisted

@@ -1,5 +1,5 @@
 -- Powers of an element of the basis on an element, and the parts that they add up to.
-use Rattle.std.specs.Prelude.{◌≡◌, ℕ, zero, suc, ◌+◌, ◌*◌, ◌<◌, List, map, length, slice_index}
+use Rattle.std.specs.Prelude.{◌≡◌, ℕ, zero, suc, ◌+◌, ◌*◌, ◌<◌, List, length, slice_index}
 use Rattle.algebra.specs.Structures.{CommRing}
 use Rattle.algebra.specs.Below.{Below}
 use Rattle.algebra.specs.Sums.{power}

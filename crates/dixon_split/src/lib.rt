@@ -9,6 +9,8 @@ mod parts;
 mod pieces;
 mod splitting;
 mod structure;
+#[cfg(test)]
+mod tests;
 
 pub use central::Central;
 pub use splitting::split;

@@ -1,4 +1,4 @@
-use Rattle.std.proofs.Common.{◌≡◌, ℕ, ◌∙◌, ◌*◌, ◌≤◌, ap, refl, subst, sym, arith}
+use Rattle.std.proofs.Common.{◌*◌, ◌≤◌, ap, refl, subst, sym, arith}
 use mathlib.Core.Path.{ap₂}
 use Rattle.prime_field.specs.ResidueLists.{IsTabulated}
 use Rattle.dixon_split.specs.ClassSums.{sum_number}
@@ -35,7 +35,7 @@ invariant_of-result c = record {
 
 pub returns-clause-centre : goal.returns-clause-centre
 returns-clause-centre c = record {
-    prime = refl;
-    dimension = (length_is c.args.twist.now c.len-rank.result c.in_ok-places.places c.len-rank.ensures.count c.in_ok-places.ensures.representatives);
-    constants = constant_found c.args.ring.now c.args.twist.now c.len-rank.result c.in_ok-constants.constants.items (length_is c.args.twist.now c.len-rank.result c.in_ok-places.places c.len-rank.ensures.count c.in_ok-places.ensures.representatives) c.in_ok-constants.ensures.constants;
+  prime = refl;
+  dimension = (length_is c.args.twist.now c.len-rank.result c.in_ok-places.places c.len-rank.ensures.count c.in_ok-places.ensures.representatives);
+  constants = constant_found c.args.ring.now c.args.twist.now c.len-rank.result c.in_ok-constants.constants.items (length_is c.args.twist.now c.len-rank.result c.in_ok-places.places c.len-rank.ensures.count c.in_ok-places.ensures.representatives) c.in_ok-constants.ensures.constants;
 }

@@ -1,8 +1,6 @@
-use Rattle.std.proofs.Common.{◌≡◌, ℕ, ◌∙◌, ap, length, get_or, refl, sym, subst, ◌<◌, ◌/◌, ◌%◌, arith}
-use mathlib.Core.Path.{ap₂}
-use Rattle.twisted.specs.Regular.{rank, regular_representatives}
+use Rattle.std.proofs.Common.{◌≡◌, length, refl, sym, subst, ◌<◌, ◌/◌}
+use Rattle.twisted.specs.Regular.{rank}
 use Rattle.twisted.specs.Twist.{size}
-use Rattle.dixon_split.specs.ClassSums.{class_sum_value, sum_number}
 use Rattle.dixon_split.proofs.ClassSums.{two_digits, length_is, place_small}
 use Rattle.dixon_split.proofs.class_sums.sum_at.Goals as goal
 
