@@ -7,4 +7,3 @@ pub mod Refining
 pub mod ClassSums
 pub mod Characters
 pub mod Values
-pub mod Untwisted

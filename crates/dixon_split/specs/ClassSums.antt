@@ -46,6 +46,6 @@ constant_value ring s t j k =
     let U = residue_root ring in
     (twisted_product F U s (regular_sum F U s t) (regular_sum F U s j) (slice_index (regular_representatives s) k)).value
 
--- those numbers, row after row: the last row index counts fastest
+-- those numbers at n, row after row: t slowest, then j, then k
 abbrev pub constant_number : ModRing → TwistedSubgroup → ℕ → ℕ
 constant_number ring s n = constant_value ring s (n / rank s / rank s) (n / rank s % rank s) (n % rank s)
