@@ -21,7 +21,7 @@ use Rattle.dixon_split.specs.Elements.{Element, IsElement}
 use Rattle.dixon_split.specs.Structures.{residues, HasStructure}
 use Rattle.dixon_split.specs.Layers.{ArePowers, horner_value, part_value}
 use Rattle.dixon_split.specs.declared.structure.Structure.{Structure}
-use Rattle.dixon_split.proofs.Residues.{rows_below}
+use Rattle.dixon_split.proofs.Lists.{rows_below}
 
 module _ (a : Structure) (t : ℕ) (e : List ℕ) where
   pub powers_none : ArePowers a t e 0 []
@@ -61,10 +61,10 @@ module _ (a : Structure) (t : ℕ) (e : List ℕ) where
       ∙ ap (λ y. Z.mul y (residues a e)) (Z.mul_comm (H.basis t) (power Z (H.basis t) j) ∙ sym (power_suc Z (H.basis t) j) ∙ ap (λ n. power Z (H.basis t) n) (sym (add-one j)))
 
 -- places in the list of powers are small numbers
-pub place_small : (a : Structure) (j k : ℕ) → j < a.q → k < a.rank → j * a.rank + k < 20220
+pub place_small : (a : Structure) (j k : ℕ) → j < a.q → k < a.rank → j * a.rank + k < 20557
 place_small a j k j_below k_below =
     let row : j * a.rank + a.rank ≤ a.q * a.rank = rows_below j a.q a.rank j_below in
-    let most : a.q * a.rank ≤ 337 * 60 = mul-le a.q a.rank 337 60 (modulus_bound a.q a.listed) a.few in
+    let most : a.q * a.rank ≤ 337 * 61 = mul-le a.q a.rank 337 61 (modulus_bound a.q a.listed) a.few in
     omega arith
 
 module _ (a : Structure) (powers : List ℕ) (v k : ℕ) where

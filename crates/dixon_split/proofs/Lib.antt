@@ -4,3 +4,6 @@ pub mod Layers
 pub mod PushedParts
 pub mod Multiples
 pub mod Refining
+pub mod ClassSums
+pub mod Characters
+pub mod Values

@@ -41,7 +41,7 @@ concat-central w numbers e = concat-lists_of w (length numbers / w) numbers (who
 pub widths-central : (w : ℕ) (numbers : List ℕ) → length numbers % w ≡ 0 → All (λ list. length list ≡ w) (central_lists w numbers).lists
 widths-central w numbers e = let h : length numbers ≡ length numbers / w * w = whole w numbers e in widths-lists_of w (length numbers / w) numbers (omega arith)
 
-rows_below : (i n w : ℕ) → i < n → i * w + w ≤ n * w
+pub rows_below : (i n w : ℕ) → i < n → i * w + w ≤ n * w
 rows_below i n w h = let e : suc i * w ≤ n * w = mul-le-mul_right w h in rw (suc-mul i w) at e
 
 -- the place of a value is one of the list's

@@ -60,9 +60,13 @@ module _ (a : Structure) (t : ℕ) (image e : List ℕ) (I : IsElement a.q a.ran
       let all : multiple_test a image e acts.value ≡ true = acts_passes acts.value acts.acts in
       let t : true ≡ false = sym all ∙ none in cc)
 
+-- what is found below n is below n
+pub least_below : (n : ℕ) (test : ℕ → Bool) (o : Option ℕ) → o ≡ first n (λ v. cond (test v) (Some v) None) → IfSome o (λ v. v < n)
+least_below n test None h = tt
+least_below n test (Some v) h =
+    let found = first_some n (λ v. cond (test v) (Some v) None) v (sym h) in
+    let here = chosen (test found.place) found.place v found.here in
+    subst (λ k. k < n) here.1 found.below
+
 pub found_below : (a : Structure) (image e : List ℕ) (o : Option ℕ) → o ≡ first a.q (found_multiple a image e) → IfSome o (λ v. v < a.q)
-found_below a image e None h = tt
-found_below a image e (Some v) h =
-    let found = first_some a.q (found_multiple a image e) v (sym h) in
-    let here = chosen (multiple_test a image e found.place) found.place v found.here in
-    subst (λ n. n < a.q) here.1 found.below
+found_below a image e o h = least_below a.q (multiple_test a image e) o h

@@ -1,6 +1,5 @@
 -- Lists of residues as elements of an algebra with a structure.
-use Rattle.std.proofs.Common.{◌≡◌, ℕ, suc, ◌+◌, ◌*◌, ◌<◌, ◌≤◌, Result, Ok, Err, IfOk, List, get_or, sym, ◌∙◌, ap, subst, arith}
-use Rattle.std.proofs.Math.Nat.{suc-mul, mul-le-mul_right}
+use Rattle.std.proofs.Common.{◌≡◌, ℕ, ◌+◌, ◌*◌, ◌<◌, ◌≤◌, Result, Ok, Err, IfOk, List, get_or, sym, ◌∙◌, ap, subst, arith}
 use mathlib.Core.Path.{fun_ext}
 use Rattle.algebra.specs.Structures.{CommRing}
 use Rattle.algebra.specs.Sums.{sum_below}
@@ -9,9 +8,7 @@ use Rattle.prime_field.specs.ResidueLists.{IsTabulated}
 use Rattle.dixon_split.specs.Elements.{Element, IsElement}
 use Rattle.dixon_split.specs.Structures.{constant, image_value, residues, HasStructure}
 use Rattle.dixon_split.specs.declared.structure.Structure.{Structure}
-
-pub rows_below : (i n w : ℕ) → i < n → i * w + w ≤ n * w
-rows_below i n w h = let e : suc i * w ≤ n * w = mul-le-mul_right w h in rw (suc-mul i w) at e
+use Rattle.dixon_split.proofs.Lists.{rows_below}
 
 pub constant_below : (r t j k : ℕ) → t < r → j < r → k < r → (t * r + j) * r + k < r * r * r
 constant_below r t j k t_below j_below k_below =

@@ -1,5 +1,5 @@
 -- Powers of an element of the basis on an element, and the parts that they add up to.
-use Rattle.std.specs.Prelude.{◌≡◌, ℕ, zero, suc, ◌+◌, ◌*◌, ◌<◌, List, map, length, slice_index}
+use Rattle.std.specs.Prelude.{◌≡◌, ℕ, zero, suc, ◌+◌, ◌*◌, ◌<◌, List, length, slice_index}
 use Rattle.algebra.specs.Structures.{CommRing}
 use Rattle.algebra.specs.Below.{Below}
 use Rattle.algebra.specs.Sums.{power}
@@ -8,10 +8,6 @@ use Rattle.prime_field.specs.ResidueLists.{AreBelow}
 use Rattle.dixon_split.specs.Elements.{Element}
 use Rattle.dixon_split.specs.Structures.{residues, HasStructure}
 use Rattle.dixon_split.specs.declared.structure.Structure.{Structure}
-
--- the lists as elements of the algebra
-abbrev pub elements : (a : Structure) → List (List ℕ) → List (Element a.q a.rank)
-elements a lists = map (residues a) lists
 
 -- the list has, one after another, the element with the numbers e times the first n powers of the t-th element of the basis
 pub record ArePowers (a : Structure) (t : ℕ) (e : List ℕ) (n : ℕ) (powers : List ℕ) : Type 0 where

@@ -8,7 +8,7 @@ ghost use Rattle.prime_field.specs.ResidueLists.{AreBelow, IsTabulated};
 ghost use Rattle.splitting_theory.specs.Splitting.{IsFixed, ZeroTest, part, parts_below};
 ghost use Rattle.dixon_split.specs.Elements.{Element, IsElement};
 ghost use Rattle.dixon_split.specs.Structures.{residues, HasStructure};
-ghost use Rattle.dixon_split.specs.Layers.{elements, ArePowers, horner_value, part_value};
+ghost use Rattle.dixon_split.specs.Layers.{ArePowers, horner_value, part_value};
 
 use crate::arithmetic::{minus, plus_product, tabulate};
 use crate::images::image;

@@ -7,12 +7,13 @@ ghost use Rattle.prime_field.specs.ResidueLists.{IsTabulated};
 ghost use Rattle.splitting_theory.specs.Splitting.{IsFixed, ZeroTest, number, Acts, parts_below, pieces};
 ghost use Rattle.dixon_split.specs.Elements.{Element, IsElement};
 ghost use Rattle.dixon_split.specs.Structures.{residues, HasStructure};
+ghost use Rattle.dixon_split.specs.Values.{AreValues};
 
 use crate::arithmetic::tabulate;
 use crate::images::{image, is_multiple};
 use crate::parts::push_all_parts;
 use crate::structure::Structure;
-use group_table::Memory;
+use group_table::{Memory, Nats};
 use scan::first_below;
 use std::alloc::Global;
 
@@ -123,4 +124,24 @@ fn value_of(alloc: Global, algebra: &Structure, t: u32, e: &[u32]) -> Result<u32
         Some(v) => Ok(v),
         None => Ok(0),
     }
+}
+
+// The numbers by which the basis multiplies the pieces, those of each piece one after another.
+pub(crate) fn values(
+    alloc: Global,
+    algebra: &Structure,
+    pieces: &[Vec<u32>],
+) -> Result<Nats, Memory>
+    requires count { length pieces.now ≡ algebra.now.rank }
+    requires elements { All (λ piece. IsElement algebra.now.q algebra.now.rank piece.items) pieces.now }
+    ensures values { IfOk result (AreValues algebra.now (map (λ piece. piece.items) pieces.now) (algebra.now.rank * algebra.now.rank)) }
+{
+    let rank = algebra.rank;
+    let mut values = Nats::empty(alloc);
+    for n in 0..rank * rank {
+        let piece = pieces[(n / rank) as usize].as_slice();
+        let value = value_of(alloc, algebra, n % rank, piece)?;
+        values.push(value)?;
+    }
+    Ok(values)
 }

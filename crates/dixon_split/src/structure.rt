@@ -12,7 +12,7 @@ pub(crate) struct Structure {
     pub(crate) rank: u32,
     pub(crate) constants: Vec<u32>,
     ghost listed: { is_modulus q ≡ true },
-    ghost few: { rank ≤ 60 },
+    ghost few: { rank ≤ 61 },
     ghost count: { length constants.items ≡ rank * rank * rank },
     ghost below: { AreBelow q constants.items },
 }
