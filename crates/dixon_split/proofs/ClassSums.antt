@@ -9,6 +9,7 @@ use Rattle.algebra.specs.Sums.{sum_below}
 use Rattle.algebra.specs.Below.{Below}
 use Rattle.algebra.proofs.RingLaws.{nought_add, mul_nought, nought_mul}
 use Rattle.algebra.proofs.SumLaws.{sum_zero, sum_suc, sum_ext}
+use Rattle.group_table.specs.Group.{Table, product, inverse}
 use Rattle.group_table.proofs.Numbers.{length-passing_below}
 use Rattle.prime_field.specs.declared.mod_ring.ModRing.{ModRing}
 use Rattle.prime_field.specs.Moduli.{is_modulus}
@@ -26,6 +27,10 @@ use Rattle.centre_algebra.specs.CentralCharacters.{regular_sum}
 use Rattle.dixon_split.specs.ClassSums.{residue_field, residue_root, residues_at, sum_number, term_at, product_value, constant_value, constant_number}
 use Rattle.dixon_split.proofs.Lists.{rows_below}
 use Rattle.dixon_split.proofs.Residues.{constant_below}
+
+-- the place of y^-1 x
+pub quotient_place : (s : TwistedSubgroup) (t : Table) (i p y x : ℕ) → p ≡ product t i x → i ≡ inverse t y → t ≡ s.group → p ≡ left_quotient s y x
+quotient_place s t i p y x e f h = e ∙ ap (λ i. product t i x) f ∙ ap (λ (t : Table). product t (inverse t y) x) h
 
 module _ (q : ℕ) (listed : is_modulus q ≡ true) where
   abbrev F : CommRing (Below q)
@@ -49,6 +54,9 @@ module _ (q : ℕ) (listed : is_modulus q ≡ true) where
       (ap (λ v. (F.add (of sum) (F.mul z (F.mul (of v) y))).value) e
       ∙ ap (λ v. (F.add (of sum) v).value) (ap (F.mul z) (nought_mul F y) ∙ mul_nought F z)
       ∙ ap (λ (v : Below q). v.value) (F.add_nought (of sum)) ∙ mod-eq_of_lt below)
+
+  pub term_without_second : (sum second : ℕ) (z x : Below q) → sum < q → second ≡ 0 → sum ≡ (F.add (of sum) (F.mul z (F.mul x (of second)))).value
+  term_without_second sum second z x below e = term_skipped sum second z x below e ∙ ap (λ v. (F.add (of sum) (F.mul z v)).value) (F.mul_comm (of second) x)
 
   -- a sum before its first term, and with one more
   pub sum_begun : (f : ℕ → Below q) → 0 ≡ (sum_below F 0 f).value

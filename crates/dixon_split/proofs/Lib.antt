@@ -3,6 +3,7 @@ pub mod Residues
 pub mod Layers
 pub mod PushedParts
 pub mod Multiples
+pub mod Quotients
 pub mod Refining
 pub mod ClassSums
 pub mod Characters

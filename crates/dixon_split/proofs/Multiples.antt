@@ -22,29 +22,30 @@ multiple_test a image e v = all_below a.rank (λ k. eqb (get_or image k 0) ((v *
 abbrev pub found_multiple : Structure → List ℕ → List ℕ → ℕ → Option ℕ
 found_multiple a image e v = cond (multiple_test a image e v) (Some v) None
 
-chosen : (b : Bool) (v w : ℕ) → cond b (Some v) None ≡ Some w → (b ≡ true) × (v ≡ w)
+pub chosen : (b : Bool) (v w : ℕ) → cond b (Some v) None ≡ Some w → (b ≡ true) × (v ≡ w)
 chosen true v w h = (refl, cc)
 chosen false v w h = absurd cc
 
-not_chosen : (b : Bool) (v : ℕ) → cond b (Some v) None ≡ None → b ≡ false
+pub not_chosen : (b : Bool) (v : ℕ) → cond b (Some v) None ≡ None → b ≡ false
 not_chosen true v h = absurd cc
 not_chosen false v h = refl
 
-module _ (a : Structure) (t : ℕ) (image e : List ℕ) (I : IsElement a.q a.rank image) (Z : CommRing (Element a.q a.rank)) (H : HasStructure a Z) (is : residues a image ≡ Z.mul (H.basis t) (residues a e)) where
-  product_residue : (v k : ℕ) → (field a.q a.listed).mul (field_residue a.q a.listed v) (field_residue a.q a.listed k) ≡ field_residue a.q a.listed (v * k)
-  product_residue v k = below_equal _ _ (mul-mod_first v (k % a.q) a.q ∙ mul-mod_second v k a.q)
+-- the product of residues
+pub product_residue : (a : Structure) (v k : ℕ) → (field a.q a.listed).mul (field_residue a.q a.listed v) (field_residue a.q a.listed k) ≡ field_residue a.q a.listed (v * k)
+product_residue a v k = below_equal _ _ (mul-mod_first v (k % a.q) a.q ∙ mul-mod_second v k a.q)
 
+module _ (a : Structure) (t : ℕ) (image e : List ℕ) (I : IsElement a.q a.rank image) (Z : CommRing (Element a.q a.rank)) (H : HasStructure a Z) (is : residues a image ≡ Z.mul (H.basis t) (residues a e)) where
   passes_acts : (v : ℕ) → multiple_test a image e v ≡ true → Z.mul (H.basis t) (residues a e) ≡ Z.mul (number Z v) (residues a e)
   passes_acts v h = sym is ∙ fun_ext (λ k.
       below_equal _ _ (mod-eq_of_lt (I.below k.value (let c = I.count in let b = k.below in omega arith)) ∙ eqb-true (get_or image k.value 0) ((v * get_or e k.value 0) % a.q) (all_below-at a.rank k.value (λ k. eqb (get_or image k 0) ((v * get_or e k 0) % a.q)) h k.below))
-      ∙ sym (H.number_at v (residues a e) k ∙ product_residue v (get_or e k.value 0)))
+      ∙ sym (H.number_at v (residues a e) k ∙ product_residue a v (get_or e k.value 0)))
 
   acts_passes : (v : ℕ) → Z.mul (H.basis t) (residues a e) ≡ Z.mul (number Z v) (residues a e) → multiple_test a image e v ≡ true
   acts_passes v h = all_below-all a.rank (λ k. eqb (get_or image k 0) ((v * get_or e k 0) % a.q)) (λ k below.
       let place : Below a.rank = record { value = k; below = below } in
       eq-eqb (get_or image k 0) ((v * get_or e k 0) % a.q)
       (sym (mod-eq_of_lt (I.below k (let c = I.count in omega arith)))
-      ∙ ap (λ (x : Below a.q). x.value) (ap (λ (z : Element a.q a.rank). z place) (is ∙ h) ∙ H.number_at v (residues a e) place ∙ product_residue v (get_or e k 0))))
+      ∙ ap (λ (x : Below a.q). x.value) (ap (λ (z : Element a.q a.rank). z place) (is ∙ h) ∙ H.number_at v (residues a e) place ∙ product_residue a v (get_or e k 0))))
 
   pub found_acts : (o : Option ℕ) → o ≡ first a.q (found_multiple a image e) → IfSome o (λ v. Z.mul (H.basis t) (residues a e) ≡ Z.mul (number Z v) (residues a e))
   found_acts None h = tt

@@ -22,7 +22,7 @@ if_ok (Ok x) P Q f h = f x h
 if_ok (Err e) P Q f h = tt
 
 module _ (a : Structure) (t : ℕ) (e : List ℕ) where
-  image_below : (k : ℕ) → image_value a t e k < a.q
+  pub image_below : (k : ℕ) → image_value a t e k < a.q
   image_below k = (sum_below (field a.q a.listed) a.rank (λ j. (field a.q a.listed).mul (field_residue a.q a.listed (get_or e j 0)) (field_residue a.q a.listed (constant a t j k)))).below
 
   pub tabulated_element : (next : List ℕ) → IsTabulated a.rank (image_value a t e) next → IsElement a.q a.rank next

@@ -1,6 +1,6 @@
 //! Sums and products modulo a listed prime.
 
-ghost use Rattle.std.specs.Prelude.{◌≡◌, ℕ, ◌+◌, ◌-◌, ◌*◌, ◌%◌, ◌<◌, true, IfOk};
+ghost use Rattle.std.specs.Prelude.{◌≡◌, ℕ, ◌+◌, ◌-◌, ◌*◌, ◌%◌, ◌<◌, ◌==◌, nat_eq, true, IfOk};
 ghost use Rattle.prime_field.specs.Moduli.{is_modulus};
 ghost use Rattle.prime_field.specs.Field.{field, field_residue};
 ghost use Rattle.prime_field.specs.ResidueLists.{IsTabulated};
@@ -17,7 +17,11 @@ pub(crate) fn plus_product(q: u32, a: u32, x: u32, y: u32) -> u32
     ensures residue { (listed : is_modulus q ≡ true) → result ≡ ((field q listed).add (field_residue q listed a) ((field q listed).mul (field_residue q listed x) (field_residue q listed y))).value }
     ensures below { result < q }
 {
-    (a + x * y) % q
+    let product = x * y;
+    if product == 0 {
+        return a;
+    }
+    (a + product) % q
 }
 
 // `a - b`, modulo q.
@@ -29,6 +33,16 @@ pub(crate) fn minus(q: u32, a: u32, b: u32) -> u32
     ensures below { result < q }
 {
     (a + (q - b) % q) % q
+}
+
+// Whether `product` is `v` times `factor`, modulo q.
+pub(crate) fn is_product(q: u32, product: u32, v: u32, factor: u32) -> bool
+    requires modulus { is_modulus q ≡ true }
+    requires v_below { v < q }
+    requires factor_below { factor < q }
+    ensures product { result ≡ (product == (v * factor) % q) }
+{
+    product == v * factor % q
 }
 
 // The values at 0, 1, .., `n - 1`.

@@ -106,8 +106,12 @@ fn plus_term(ring: &ModRing, twist: &Twist, a: &[u32], b: &[u32], x: u32, y: u32
     }
     let group = twist.group();
     let place = group.product(group.inverse(y), x);
+    let second = b[place as usize];
+    if second == 0 {
+        return sum;
+    }
     let root = root_of(ring, exponent(ring, twist, twist.phase(y, place)));
-    let product = plus_product(ring.q, 0, first, b[place as usize]);
+    let product = plus_product(ring.q, 0, first, second);
     plus_product(ring.q, sum, root, product)
 }
 

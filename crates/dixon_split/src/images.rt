@@ -8,7 +8,7 @@ ghost use Rattle.prime_field.specs.ResidueLists.{IsTabulated};
 ghost use Rattle.dixon_split.specs.Elements.{Element, element_of, IsElement};
 ghost use Rattle.dixon_split.specs.Structures.{constant, image_value, residues, HasStructure};
 
-use crate::arithmetic::{plus_product, tabulate};
+use crate::arithmetic::{is_product, plus_product, tabulate};
 use crate::structure::Structure;
 use group_table::Memory;
 use scan::holds_below;
@@ -28,7 +28,7 @@ fn constant(algebra: &Structure, t: u32, j: u32, k: u32) -> u32
 }
 
 // The number at the `k`-th in the product of the `t`-th element of the basis and the element with these numbers.
-fn image_at(algebra: &Structure, t: u32, e: &[u32], k: u32) -> u32
+pub(crate) fn image_at(algebra: &Structure, t: u32, e: &[u32], k: u32) -> u32
     requires t_below { t < algebra.now.rank }
     requires element { IsElement algebra.now.q algebra.now.rank e.now }
     requires k_below { k < algebra.now.rank }
@@ -77,7 +77,7 @@ fn is_multiple_at(q: u32, rank: u32, image: &[u32], v: u32, e: &[u32], k: u32) -
     requires k_below { k < rank }
     ensures multiple { result ≡ (slice_index image.now k == (v * slice_index e.now k) % q) }
 {
-    image[k as usize] == v * e[k as usize] % q
+    is_product(q, image[k as usize], v, e[k as usize])
 }
 
 // Whether each of the first numbers is `v` times that of the second.

@@ -5,12 +5,11 @@ mod arithmetic;
 mod central;
 mod class_sums;
 mod images;
+mod multipliers;
 mod parts;
 mod pieces;
 mod splitting;
 mod structure;
-#[cfg(test)]
-mod tests;
 
 pub use central::Central;
 pub use splitting::split;

@@ -33,12 +33,7 @@ fn multiple_of(algebra: &Structure, image: &[u32], e: &[u32]) -> Option<u32>
 }
 
 // The number by which the `t`-th element of the basis multiplies the element, if it does so by one.
-pub(crate) fn multiplier(
-    alloc: Global,
-    algebra: &Structure,
-    t: u32,
-    e: &[u32],
-) -> Result<Option<u32>, Memory>
+fn multiplier(alloc: Global, algebra: &Structure, t: u32, e: &[u32]) -> Result<Option<u32>, Memory>
     requires t_below { t < algebra.now.rank }
     requires element { IsElement algebra.now.q algebra.now.rank e.now }
     ensures below { IfOk result (λ found. IfSome found (λ v. v < algebra.now.q)) }
@@ -111,37 +106,4 @@ pub(crate) fn all_pieces(alloc: Global, algebra: &Structure) -> Result<Vec<Vec<u
         found = refined(alloc, algebra, t, found.as_slice())?;
     }
     Ok(found)
-}
-
-// The number by which the `t`-th element of the basis multiplies the element, or 0.
-fn value_of(alloc: Global, algebra: &Structure, t: u32, e: &[u32]) -> Result<u32, Memory>
-    requires t_below { t < algebra.now.rank }
-    requires element { IsElement algebra.now.q algebra.now.rank e.now }
-    ensures below { IfOk result (λ v. v < algebra.now.q) }
-    ensures acts { (Z : CommRing (Element algebra.now.q algebra.now.rank)) (H : HasStructure algebra.now Z) → Acts Z algebra.now.q (H.basis t) (residues algebra.now e.now) → IfOk result (λ v. Z.mul (H.basis t) (residues algebra.now e.now) ≡ Z.mul (number Z v) (residues algebra.now e.now)) }
-{
-    match multiplier(alloc, algebra, t, e)? {
-        Some(v) => Ok(v),
-        None => Ok(0),
-    }
-}
-
-// The numbers by which the basis multiplies the pieces, those of each piece one after another.
-pub(crate) fn values(
-    alloc: Global,
-    algebra: &Structure,
-    pieces: &[Vec<u32>],
-) -> Result<Nats, Memory>
-    requires count { length pieces.now ≡ algebra.now.rank }
-    requires elements { All (λ piece. IsElement algebra.now.q algebra.now.rank piece.items) pieces.now }
-    ensures values { IfOk result (AreValues algebra.now (map (λ piece. piece.items) pieces.now) (algebra.now.rank * algebra.now.rank)) }
-{
-    let rank = algebra.rank;
-    let mut values = Nats::empty(alloc);
-    for n in 0..rank * rank {
-        let piece = pieces[(n / rank) as usize].as_slice();
-        let value = value_of(alloc, algebra, n % rank, piece)?;
-        values.push(value)?;
-    }
-    Ok(values)
 }

@@ -8,7 +8,8 @@ ghost use Rattle.centre_algebra.specs.Laws.{AreCentralCharacters};
 
 use crate::central::Central;
 use crate::class_sums::centre;
-use crate::pieces::{all_pieces, values};
+use crate::multipliers::values;
+use crate::pieces::all_pieces;
 use group_table::Memory;
 use prime_field::ModRing;
 use std::alloc::Global;

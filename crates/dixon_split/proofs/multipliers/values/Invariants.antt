@@ -1,6 +1,6 @@
 use Rattle.std.proofs.Common.{map}
 use Rattle.dixon_split.specs.Values.{AreValues}
-use Rattle.dixon_split.proofs.pieces.values.Given as goal
+use Rattle.dixon_split.proofs.multipliers.values.Given as goal
 
 abbrev pub invariant-loop-n : goal.invariant-loop-n
 invariant-loop-n l = AreValues l.algebra (map (λ piece. piece.items) l.pieces) l.n l.values
