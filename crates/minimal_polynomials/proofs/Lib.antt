@@ -1,0 +1,3 @@
+pub mod Annihilators
+pub mod CentralPolynomials
+pub mod ClassSums

@@ -1,0 +1,2 @@
+pub mod MinimalPolynomials
+pub mod Laws
