@@ -10,8 +10,6 @@ mod ratios;
 mod refusal;
 mod root_powers;
 mod tabulate;
-#[cfg(test)]
-mod tests;
 mod value;
 
 pub use lifting::lift;

@@ -8,8 +8,6 @@ mod inflation;
 mod lowest;
 mod makers;
 mod refusal;
-#[cfg(test)]
-mod tests;
 mod values;
 
 pub use group_table::Memory;

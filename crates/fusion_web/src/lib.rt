@@ -15,6 +15,3 @@ pub use walks::{IntoWalk, RowWalk};
 pub use web::Web;
 /// There was no memory for what was asked. Nothing that was lent has changed.
 pub use std::alloc::AllocError as Memory;
-
-#[cfg(test)]
-mod tests;

@@ -8,8 +8,6 @@ mod formulas;
 mod makers;
 mod refusal;
 mod table;
-#[cfg(test)]
-mod tests;
 
 pub use group_table::Memory;
 pub use makers::{cyclic, dicyclic, dihedral, product, semidirect};

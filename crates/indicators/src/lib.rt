@@ -4,6 +4,3 @@
 mod numerator;
 
 pub use numerator::indicator;
-
-#[cfg(test)]
-mod tests;

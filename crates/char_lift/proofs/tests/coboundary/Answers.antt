@@ -1,5 +1,0 @@
-use Rattle.twisted.proofs.InstanceChecks.{permutations_are_twist}
-use Rattle.char_lift.proofs.tests.coboundary.Goals as goal
-
-pub twist_of-requires : goal.twist_of-requires
-twist_of-requires g c = record { twist = permutations_are_twist }

@@ -1,5 +1,0 @@
-use Rattle.central_ext.proofs.InstanceChecks.{two_is_twist}
-use Rattle.char_lift.proofs.tests.two.Goals as goal
-
-pub twist_of-requires : goal.twist_of-requires
-twist_of-requires g c = record { twist = two_is_twist }
