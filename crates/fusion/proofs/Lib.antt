@@ -1,0 +1,11 @@
+mod Lists
+mod Kept
+mod Terms
+mod TensorParts
+mod InnerParts
+mod Quotients
+mod Faults
+mod Bounds
+mod Fronts
+mod Rules
+mod Found

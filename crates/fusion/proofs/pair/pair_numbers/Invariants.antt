@@ -1,0 +1,10 @@
+use Rattle.std.proofs.Common.{◌≡◌, Some, None}
+use Rattle.scan.specs.First.{first}
+use Rattle.fusion.specs.Numbers.{quotient_at, sum_fault}
+use Rattle.fusion.specs.Kept.{AreAt}
+use Rattle.fusion.proofs.pair.pair_numbers.Given as goal
+
+-- the numbers before l, all of which are there
+abbrev pub invariant-loop-l : goal.invariant-loop-l
+invariant-loop-l g l =
+    AreAt (λ r number. quotient_at g.row.K l.simples l.i l.j r ≡ Some number) l.l l.numbers.items × (first l.l (sum_fault g.row.K l.simples l.i l.j) ≡ None)

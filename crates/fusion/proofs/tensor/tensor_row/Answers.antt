@@ -1,0 +1,11 @@
+use Rattle.std.proofs.Common.{ℕ, List, Option}
+use Rattle.std.specs.Global.{Box}
+use Rattle.qd_ring.specs.declared.monomial.Monomial.{Monomial}
+use Rattle.fusion.specs.Kept.{IsSparseOrNought, tensor_at}
+use Rattle.fusion.proofs.Lists.{one_more}
+use Rattle.fusion.proofs.tensor.tensor_row.Goals as goal
+
+pub loop-x-preserved : goal.loop-x-preserved
+loop-x-preserved g c =
+    let holds : ℕ → Option (Box (List Monomial)) → Type 0 = λ x u. IsSparseOrNought g.row.K (tensor_at g.row.K c.args.simples.now c.args.i c.args.j c.args.g x) u in
+    one_more holds c.loop-x.x c.loop-x.row.items c.push.new.self.items c.in_ok-tensor_value.field-0 c.in_ok-push.ensures.items c.loop-x.invariant c.in_ok-tensor_value.ensures.value

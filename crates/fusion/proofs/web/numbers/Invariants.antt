@@ -1,0 +1,11 @@
+use Rattle.std.proofs.Common.{◌≡◌, None}
+use Rattle.scan.specs.First.{first}
+use Rattle.transport.specs.Simples.{count}
+use Rattle.fusion.specs.Numbers.{simple_fault}
+use Rattle.fusion.specs.Fronts.{triple, IsFront}
+use Rattle.fusion.proofs.web.numbers.Given as goal
+
+-- the numbers of the simples before i are there, and all of them whole
+abbrev pub invariant-loop-i : goal.invariant-loop-i
+invariant-loop-i g l =
+    IsFront g.row.K l.simples (triple (count g.row.K l.simples) l.i 0 0) l.web × (first l.i (simple_fault g.row.K l.simples) ≡ None)

@@ -1,0 +1,136 @@
+//! The full characters of all simples with their conjugates, made once, in sparse form.
+
+ghost use Rattle.std.specs.Prelude.{◌≡◌, ◌<◌, IfOk, IfErr, Some};
+ghost use Rattle.std.specs.Result.{result_ok};
+ghost use Rattle.group_table.specs.Group.{product};
+ghost use Rattle.classes.specs.Conjugacy.{class_of};
+ghost use Rattle.qd_ring.specs.Formed.{Forms};
+ghost use Rattle.transport.specs.Simples.{count, class_at};
+ghost use Rattle.fusion.specs.Kept.{full_term, IsFullValue, IsFullRow, IsClassRow, AreFullValues};
+ghost use Rattle.fusion.specs.Sites.{IsFullOverflow};
+ghost use Rattle.fusion.specs.Refusal.{Refuses};
+
+use crate::elements::{commute, is_in_class, order};
+use crate::full_value::FullValue;
+use crate::refusal::FusionRefusal;
+use qd_ring::{Cyc, Site, Terms};
+use std::alloc::Global;
+use transport::Simples;
+
+/// The full character of simple `i` at `g` and `x`, which is 0 where they don't commute. The site exactly where it overflows.
+fn full_term<const K: u32>(simples: &Simples<K>, i: u32, g: u32, x: u32) -> Result<Cyc<K>, Site>
+    requires i_below { i < count K simples.now }
+    requires g_below { g < simples.now.cocycle.group.order }
+    requires x_below { x < simples.now.cocycle.group.order }
+    ensures forms { Forms (full_term K simples.now i g x) (result_ok result) }
+    ensures site { IfErr result (λ site. IsFullOverflow K simples.now site) }
+{
+    let _order = order(simples);
+    if commute(simples, g, x) {
+        simples.ch(i, g, x)
+    } else {
+        Ok(Cyc::zero())
+    }
+}
+
+/// The full character of simple `i` at `g` and `x` with its conjugate.
+fn full_value<const K: u32>(
+    simples: &Simples<K>,
+    i: u32,
+    g: u32,
+    x: u32,
+) -> Result<FullValue<K>, Site>
+    requires i_below { i < count K simples.now }
+    requires g_below { g < simples.now.cocycle.group.order }
+    requires x_below { x < simples.now.cocycle.group.order }
+    ensures value { IfOk result (λ kept. IsFullValue K simples.now i g x kept) }
+    ensures site { IfErr result (λ site. IsFullOverflow K simples.now site) }
+{
+    let value = full_term(simples, i, g, x)?;
+    let conjugate = match value.try_conj() {
+        Some(conjugate) => Some(Terms::of(&conjugate)),
+        None => None,
+    };
+    Ok(FullValue {
+        value: Terms::of(&value),
+        conjugate,
+    })
+}
+
+/// Those of simple `i` at `g` and each element.
+fn full_row<const K: u32>(
+    alloc: Global,
+    simples: &Simples<K>,
+    i: u32,
+    g: u32,
+) -> Result<Vec<FullValue<K>>, FusionRefusal<K>>
+    requires i_below { i < count K simples.now }
+    requires g_below { g < simples.now.cocycle.group.order }
+    ensures row { IfOk result (λ row. IsFullRow K simples.now i g row.items) }
+    ensures refused { IfErr result (λ refusal. Refuses K simples.now refusal) }
+{
+    let mut row = Vec::new(alloc);
+    for x in 0..order(simples) {
+        match full_value(simples, i, g, x) {
+            Ok(value) => row.push(value)?,
+            Err(site) => return Err(FusionRefusal::Overflow { site }),
+        }
+    }
+    Ok(row)
+}
+
+/// Those of simple `i` at `g` and each element, where `g` is in its class, and nothing elsewhere, where they are 0.
+fn class_row<const K: u32>(
+    alloc: Global,
+    simples: &Simples<K>,
+    i: u32,
+    g: u32,
+) -> Result<Vec<FullValue<K>>, FusionRefusal<K>>
+    requires i_below { i < count K simples.now }
+    requires g_below { g < simples.now.cocycle.group.order }
+    ensures row { IfOk result (λ row. IsClassRow K simples.now i g row.items) }
+    ensures refused { IfErr result (λ refusal. Refuses K simples.now refusal) }
+{
+    if is_in_class(simples, i, g) {
+        full_row(alloc, simples, i, g)
+    } else {
+        Ok(Vec::new(alloc))
+    }
+}
+
+/// Those of all simples, by simple and element.
+pub fn full_values<const K: u32>(
+    alloc: Global,
+    simples: &Simples<K>,
+) -> Result<Vec<Vec<FullValue<K>>>, FusionRefusal<K>>
+    ensures kept { IfOk result (λ rows. AreFullValues K simples.now rows.items) }
+    ensures refused { IfErr result (λ refusal. Refuses K simples.now refusal) }
+{
+    let order = order(simples);
+    let mut rows = Vec::new(alloc);
+    for q in 0..simples.count() * order {
+        rows.push(class_row(alloc, simples, q / order, q % order)?)?;
+    }
+    Ok(rows)
+}
+
+/// What is kept of simple `i` at `g`, which is in its class, and `x`.
+pub fn kept<'a, const K: u32>(
+    simples: &Simples<K>,
+    values: &'a Vec<Vec<FullValue<K>>>,
+    i: u32,
+    g: u32,
+    x: u32,
+) -> &'a FullValue<K>
+    requires kept { AreFullValues K simples.now values.now.items }
+    requires i_below { i < count K simples.now }
+    requires g_below { g < simples.now.cocycle.group.order }
+    requires x_below { x < simples.now.cocycle.group.order }
+    requires class { class_of simples.now.cocycle.group g ≡ class_at K simples.now i }
+    ensures value { IsFullValue K simples.now i g x result.now }
+{
+    let _count = simples.count();
+    let order = order(simples);
+    let row = &values[(i * order + g) as usize];
+    &row[x as usize]
+}
