@@ -1,0 +1,5 @@
+pub mod FusionSums
+pub mod Numbers
+pub mod IndicatorSums
+pub mod PairValues
+pub mod NoOverflows

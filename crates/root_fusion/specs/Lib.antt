@@ -1,0 +1,5 @@
+pub mod FusionFit
+pub mod IndicatorLists
+pub mod IndicatorsFit
+pub mod IndicatorValues
+pub mod Overflows
