@@ -2,3 +2,4 @@ pub mod Ranks
 pub mod Fronts
 mod ValueTexts
 mod Places
+mod FusionTexts

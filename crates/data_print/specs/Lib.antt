@@ -4,4 +4,6 @@ pub mod ClassLines
 pub mod Values
 pub mod SimpleLines
 pub mod SLines
+pub mod FusionLines
+pub mod IndicatorLines
 pub mod Lines

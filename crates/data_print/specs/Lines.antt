@@ -6,6 +6,8 @@ use Rattle.group_table.specs.declared.fault.GroupFault.{GroupFault}
 use Rattle.group_table.specs.declared.fault.GroupFault.TheVariants.{Entry, NoIdentity, NoInverse, NotAssociative}
 use Rattle.cochain.specs.declared.fault.CocycleFault.{CocycleFault}
 use Rattle.cochain.specs.declared.fault.CocycleFault.TheVariants.{NotNormalised, NotCocycle}
+use Rattle.prime_field.specs.declared.fault.ModulusFault.{ModulusFault}
+use Rattle.prime_field.specs.declared.fault.ModulusFault.TheVariants.{Range, Unlisted, DividesConductor, NoRoot}
 use Rattle.qd_ring.specs.ValueText.{value_text}
 use Rattle.qd_ring.specs.declared.plain.Plain.{Plain}
 use Rattle.qd_ring.specs.declared.site.Part.{Part}
@@ -15,7 +17,7 @@ use Rattle.table_check.specs.declared.identity_name.IdentityName.{IdentityName}
 use Rattle.table_check.specs.declared.identity_name.IdentityName.TheVariants as names
 use Rattle.data_print.specs.Text.{◌⧺◌}
 use Rattle.data_print.specs.declared.cause.Cause.{Cause}
-use Rattle.data_print.specs.declared.cause.Cause.TheVariants.{Usage, Read, TooLong, Syntax, Wide, Section, Order, Roots, Group, Cocycle, NoConductor, Conductor, Simples, Shape, Count, Identity, NoTwist, NoVacuum, Overflow}
+use Rattle.data_print.specs.declared.cause.Cause.TheVariants.{Usage, Read, TooLong, Syntax, Wide, Section, Order, Roots, Group, Cocycle, NoConductor, Conductor, Modulus, Simples, Shape, NoDegree, Multiplicity, Count, Identity, NoTwist, NoVacuum, NotWhole, Overflow}
 use Rattle.data_print.specs.declared.cause.ShapeFault.{ShapeFault}
 use Rattle.data_print.specs.declared.cause.ShapeFault.TheVariants.{Blocks, Representative, Width}
 
@@ -33,6 +35,19 @@ cocycle_line (NotNormalised g h k) =
     codes "refused 5 normal " ⧺ decimal g ⧺ codes " " ⧺ decimal h ⧺ codes " " ⧺ decimal k ⧺ codes "\n"
 cocycle_line (NotCocycle g h k l) =
     codes "refused 5 cocycle " ⧺ decimal g ⧺ codes " " ⧺ decimal h ⧺ codes " " ⧺ decimal k ⧺ codes " " ⧺ decimal l ⧺ codes "\n"
+
+-- a number that is no modulus
+abbrev pub modulus_line : ModulusFault → List ℕ
+modulus_line (Range q above) = codes "refused 7 range " ⧺ decimal q ⧺ codes "\n"
+modulus_line (Unlisted q) = codes "refused 7 unlisted " ⧺ decimal q ⧺ codes "\n"
+modulus_line (DividesConductor q conductor) = codes "refused 7 divides " ⧺ decimal q ⧺ codes " " ⧺ decimal conductor ⧺ codes "\n"
+modulus_line (NoRoot q conductor) = codes "refused 7 root " ⧺ decimal q ⧺ codes " " ⧺ decimal conductor ⧺ codes "\n"
+
+-- multiplicities that don't add up to the degree
+abbrev pub multiplicity_line : ℕ → ℕ → ℕ → ℕ → ℕ → List ℕ
+multiplicity_line at row x sum degree =
+    codes "refused 8 multiplicity " ⧺ decimal at ⧺ codes " " ⧺ decimal row ⧺ codes " " ⧺ decimal x ⧺ codes " " ⧺ decimal sum
+    ⧺ codes " " ⧺ decimal degree ⧺ codes "\n"
 
 -- blocks of characters that don't match the classes
 abbrev pub shape_line : ShapeFault → List ℕ
@@ -59,6 +74,10 @@ identity_start name at i j x =
 -- a value at the representative that gives no twist, up to the value
 abbrev pub twist_start : ℕ → ℕ → List ℕ
 twist_start at row = codes "refused 9 twist " ⧺ decimal at ⧺ codes " " ⧺ decimal row ⧺ codes " "
+
+-- a fusion sum that gives no multiplicity, up to the sum
+abbrev pub whole_start : ℕ → ℕ → ℕ → List ℕ
+whole_start i j k = codes "refused 10 whole " ⧺ decimal i ⧺ codes " " ⧺ decimal j ⧺ codes " " ⧺ decimal k ⧺ codes " "
 
 -- the last value of a line, and its end
 abbrev pub last_value : Plain → List ℕ
@@ -102,12 +121,16 @@ line_of (Group fault) = group_line fault
 line_of (Cocycle fault) = cocycle_line fault
 line_of (NoConductor multiple) = codes "refused 6 conductor " ⧺ decimal multiple ⧺ codes "\n"
 line_of (Conductor stated needed) = codes "refused 6 stated " ⧺ decimal stated ⧺ codes " needed " ⧺ decimal needed ⧺ codes "\n"
+line_of (Modulus fault) = modulus_line fault
 line_of (Simples ranks most) = codes "refused 6 simples " ⧺ decimal ranks ⧺ codes "\n"
 line_of (Shape fault) = shape_line fault
+line_of (NoDegree at row s) = codes "refused 8 degree " ⧺ decimal at ⧺ codes " " ⧺ decimal row ⧺ codes " " ⧺ decimal s ⧺ codes "\n"
+line_of (Multiplicity at row x sum degree) = multiplicity_line at row x sum degree
 line_of (Count at rows rank) = codes "refused 9 count " ⧺ decimal at ⧺ codes " " ⧺ decimal rows ⧺ codes " " ⧺ decimal rank ⧺ codes "\n"
 line_of (Identity name at i j x left right) = identity_start name at i j x ⧺ sides_text left right
 line_of (NoTwist at row value) = twist_start at row ⧺ last_value value
 line_of (NoVacuum rows) = codes "refused 9 vacuum " ⧺ decimal rows ⧺ codes "\n"
+line_of (NotWhole i j k value) = whole_start i j k ⧺ last_value value
 line_of (Overflow site) = overflow_line site
 
 -- the line for want of memory

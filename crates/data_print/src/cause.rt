@@ -1,5 +1,8 @@
+//! The causes of refusals.
+
 use cochain::CocycleFault;
 use group_table::GroupFault;
+use prime_field::ModulusFault;
 use qd_ring::{Plain, Site};
 use qd_text::Expected;
 use table_check::IdentityName;
@@ -70,6 +73,8 @@ pub enum Cause {
         stated: u32,
         needed: u32,
     },
+    /// The number is no valid modulus for the order of the group and the conductor.
+    Modulus(ModulusFault),
     /// The sum of the ranks is over the most that the command takes.
     Simples {
         ranks: u32,
@@ -77,6 +82,20 @@ pub enum Cause {
     },
     /// The blocks of characters don't match the classes.
     Shape(ShapeFault),
+    /// No degree fits the sum `s`, a residue, of this row of the class of `at`.
+    NoDegree {
+        at: u32,
+        row: u32,
+        s: u32,
+    },
+    /// The multiplicities of this row of the class of `at` at the element `x` add up to `sum`, and not to the degree.
+    Multiplicity {
+        at: u32,
+        row: u32,
+        x: u32,
+        sum: u32,
+        degree: u32,
+    },
     /// The table of the class of `at` has not as many rows as its rank says.
     Count {
         at: u32,
@@ -102,6 +121,13 @@ pub enum Cause {
     /// No row of the table of the class of the identity has every value 1.
     NoVacuum {
         rows: u32,
+    },
+    /// The fusion sum of i, j and k is not the order of the group times a whole number of at least 0.
+    NotWhole {
+        i: u32,
+        j: u32,
+        k: u32,
+        value: Plain,
     },
     /// A listed sum does not fit.
     Overflow {

@@ -1,3 +1,5 @@
+//! The lines of conjugacy classes.
+
 ghost use Rattle.std.specs.Prelude.{◌≡◌, ◌≤◌, ◌++◌, ◌<◌, ◌^◌, All, length, sum, string_bytes, IfOk, OnOk, OnErr};
 ghost use Rattle.classes.specs.Conjugacy.{representatives};
 ghost use Rattle.data_print.specs.Text.{AddsFront};

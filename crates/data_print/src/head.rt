@@ -1,3 +1,5 @@
+//! The lines that every report begins with.
+
 ghost use Rattle.std.specs.Prelude.{◌≡◌, ◌++◌, string_bytes, IfOk, OnOk, OnErr};
 ghost use Rattle.data_print.specs.Head.{head_of};
 

@@ -1,11 +1,14 @@
+//! The lines of refusals.
+
 ghost use Rattle.std.specs.Prelude.{◌≡◌, ◌++◌, ℕ, List, string_bytes, IfOk, OnOk, OnErr};
 ghost use Rattle.data_print.specs.declared.cause.Cause.{Cause};
-ghost use Rattle.data_print.specs.Lines.{part_word, name_word, group_line, cocycle_line, shape_line, overflow_line, identity_start, sides_text, twist_start, last_value, line_of};
+ghost use Rattle.data_print.specs.Lines.{part_word, name_word, group_line, cocycle_line, modulus_line, multiplicity_line, shape_line, overflow_line, identity_start, sides_text, twist_start, whole_start, last_value, line_of};
 
 use crate::Memory;
 use crate::cause::{Cause, ShapeFault};
 use cochain::CocycleFault;
 use group_table::GroupFault;
+use prime_field::ModulusFault;
 use qd_ring::{Part, Plain, Site, append_plain};
 use qd_text::Expected;
 use std::alloc::Global;
@@ -87,6 +90,43 @@ fn stated_line(alloc: Global, stated: u32, needed: u32) -> Result<String, Memory
     format!(in alloc; "refused 6 stated {stated} needed {needed}\n")
 }
 
+/// The line of a number that is no modulus.
+fn modulus_line(alloc: Global, fault: ModulusFault) -> Result<String, Memory>
+    ensures line { IfOk result (λ text. string_bytes text ≡ modulus_line fault) }
+{
+    match fault {
+        ModulusFault::Range { q, .. } => format!(in alloc; "refused 7 range {q}\n"),
+        ModulusFault::Unlisted { q } => format!(in alloc; "refused 7 unlisted {q}\n"),
+        ModulusFault::DividesConductor { q, conductor } => {
+            format!(in alloc; "refused 7 divides {q} {conductor}\n")
+        }
+        ModulusFault::NoRoot { q, conductor } => format!(in alloc;
+            "refused 7 root {q} {conductor}\n"
+        ),
+    }
+}
+
+/// The line of a sum of values that no degree fits.
+fn degree_line(alloc: Global, at: u32, row: u32, s: u32) -> Result<String, Memory>
+    ensures line { IfOk result (λ text. string_bytes text ≡ line_of (Cause.NoDegree at row s)) }
+{
+    format!(in alloc; "refused 8 degree {at} {row} {s}\n")
+}
+
+/// The line of multiplicities that don't add up to the degree.
+fn multiplicity_line(
+    alloc: Global,
+    at: u32,
+    row: u32,
+    x: u32,
+    sum: u32,
+    degree: u32,
+) -> Result<String, Memory>
+    ensures line { IfOk result (λ text. string_bytes text ≡ multiplicity_line at row x sum degree) }
+{
+    format!(in alloc; "refused 8 multiplicity {at} {row} {x} {sum} {degree}\n")
+}
+
 /// The line of a table that has not as many rows as its rank.
 fn count_line(alloc: Global, at: u32, rows: u32, rank: u32) -> Result<String, Memory>
     ensures line { IfOk result (λ text. string_bytes text ≡ line_of (Cause.Count at rows rank)) }
@@ -130,6 +170,13 @@ fn twist_start(alloc: Global, at: u32, row: u32) -> Result<String, Memory>
     ensures start { IfOk result (λ text. string_bytes text ≡ twist_start at row) }
 {
     format!(in alloc; "refused 9 twist {at} {row} ")
+}
+
+/// The line of a fusion sum that gives no multiplicity, up to the sum.
+fn whole_start(alloc: Global, i: u32, j: u32, k: u32) -> Result<String, Memory>
+    ensures start { IfOk result (λ text. string_bytes text ≡ whole_start i j k) }
+{
+    format!(in alloc; "refused 10 whole {i} {j} {k} ")
 }
 
 /// A value after what stands before it, and the end of the line.
@@ -197,8 +244,17 @@ fn line(alloc: Global, why: &Cause) -> Result<Vec<u8>, Memory>
             "refused 6 conductor {multiple}\n"
         )),
         Cause::Conductor { stated, needed } => bytes(stated_line(alloc, *stated, *needed)),
+        Cause::Modulus(fault) => bytes(modulus_line(alloc, *fault)),
         Cause::Simples { ranks, .. } => bytes(format!(in alloc; "refused 6 simples {ranks}\n")),
         Cause::Shape(fault) => bytes(shape_line(alloc, *fault)),
+        Cause::NoDegree { at, row, s } => bytes(degree_line(alloc, *at, *row, *s)),
+        Cause::Multiplicity {
+            at,
+            row,
+            x,
+            sum,
+            degree,
+        } => { bytes(multiplicity_line(alloc, *at, *row, *x, *sum, *degree)) }
         Cause::Count { at, rows, rank } => bytes(count_line(alloc, *at, *rows, *rank)),
         Cause::Identity {
             name,
@@ -211,6 +267,7 @@ fn line(alloc: Global, why: &Cause) -> Result<Vec<u8>, Memory>
         } => { with_sides(identity_start(alloc, *name, *at, *i, *j, *x)?, left, right) }
         Cause::NoTwist { at, row, value } => with_value(twist_start(alloc, *at, *row)?, value),
         Cause::NoVacuum { rows } => bytes(format!(in alloc; "refused 9 vacuum {rows}\n")),
+        Cause::NotWhole { i, j, k, value } => with_value(whole_start(alloc, *i, *j, *k)?, value),
         Cause::Overflow { site } => bytes(overflow_line(alloc, *site)),
     }
 }

@@ -1,3 +1,5 @@
+//! The lines of the matrix S.
+
 ghost use Rattle.std.specs.Prelude.{◌≡◌, ◌<◌, ◌++◌, length, map, string_bytes, IfOk, OnOk, OnErr};
 ghost use Rattle.cyclotomic.specs.CyclotomicRing.{cyclotomic_value};
 ghost use Rattle.qd_ring.specs.RowLists.{row_at};

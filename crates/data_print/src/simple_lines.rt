@@ -1,3 +1,5 @@
+//! The lines of simples.
+
 ghost use Rattle.std.specs.Prelude.{◌≡◌, ◌<◌, ◌++◌, string_bytes, IfOk, OnOk, OnErr};
 ghost use Rattle.twisted.specs.Twist.{size};
 ghost use Rattle.transport.specs.Simples.{count, over_at};

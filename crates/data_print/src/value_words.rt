@@ -1,3 +1,5 @@
+//! Lists of values in lines.
+
 ghost use Rattle.std.specs.Prelude.{◌≡◌, ◌<◌, ◌++◌, length, map, OnOk};
 ghost use Rattle.cyclotomic.specs.CyclotomicRing.{cyclotomic_value};
 ghost use Rattle.qd_ring.specs.RowLists.{row_at};
