@@ -1,28 +1,30 @@
 -- The steps of the check of all tables.
-use Rattle.std.proofs.Common.{◌≡◌, ℕ, ◌+◌, ◌<◌, ◌%◌, true, List, [], ◌∷◌, ◌++◌, length, map, Some, None, Err, refl, sym, ap, subst, ◌∙◌, arith}
+use Rattle.std.proofs.Common.{◌≡◌, ℕ, ◌+◌, ◌<◌, ◌%◌, true, List, [], ◌∷◌, ◌++◌, length, map, Option, None, sym, ap, subst, ◌∙◌, arith, length-append}
 use Rattle.std.specs.Prelude.{ℤ}
 use Rattle.std.specs.List.{range_with_len}
+use Rattle.std.proofs.Math.Seq.{get_or-append_seam}
 use Rattle.std.proofs.lemmas.List.FromFn.{length-map-range_with_len, get_or-map-range_with_len, map-range_with_len_more}
 use Rattle.scan.specs.First.{first}
-use Rattle.scan.proofs.Places.{first_found}
+use Rattle.scan.proofs.Places.{first-zero, first_found, first-ext, first_none-step}
+use Rattle.group_table.specs.Group.{Table}
 use Rattle.classes.specs.Conjugacy.{representatives, representative_at}
-use Rattle.cochain.specs.Cochain.{Cochain}
+use Rattle.classes.proofs.Counting.{classes_at_most}
+use Rattle.cochain.specs.Cochain.{Cochain, IsCocycle}
 use Rattle.cyclotomic.specs.Conductors.{is_conductor}
 use Rattle.twisted.specs.Twist.{TwistedSubgroup}
 use Rattle.slant.specs.Twists.{twist_of}
 use Rattle.qd_doc.specs.Blocks.{Block, block_at}
-use Rattle.table_check.specs.Characters.{Characters, RowsOver, IsShaped}
-use Rattle.table_check.specs.Check.{table_miss}
-use Rattle.table_check.specs.Answers.{Refuses, Checks}
-use Rattle.table_check.specs.declared.miss.Miss.{Miss}
-use Rattle.table_check.specs.declared.refusal.TableRefusal.{TableRefusal}
-use Rattle.table_check.specs.declared.refusal.TableRefusal.TheVariants as refusals
+use Rattle.table_check.specs.Characters.{RowsOver, IsShaped}
 use Rattle.transport.specs.Simples.{HasTables, table_at, no_table}
 use Rattle.qd_steps.specs.declared.refusal.StepRefusal.{StepRefusal}
 use Rattle.qd_steps.specs.declared.refusal.StepRefusal.TheVariants as steps
 use Rattle.qd_steps.specs.Matched.{IsMatched}
-use Rattle.qd_steps.specs.Tables.{class_twist, class_table, class_rows, cause_of_miss, table_cause, tables_cause, tables_of}
+use Rattle.qd_steps.specs.Tables.{class_twist, class_table, class_rows, table_cause, cause_over, first_cause, tables_cause, tables_of}
 use Rattle.qd_steps.specs.Refused.{IsRefusalFor}
+
+-- the twist at the representative of a class is that of the class
+pub twist_at_class : (w : Cochain) (at c : ℕ) (t : Table) (twist : TwistedSubgroup) → t ≡ w.group → at ≡ representative_at t c → twist ≡ twist_of w at → twist ≡ class_twist w c
+twist_at_class w at c t twist same is made = made ∙ ap (twist_of w) (is ∙ ap (λ (u : Table). representative_at u c) same)
 
 -- ---- one class
 module _ (w : Cochain) (blocks : List Block) (c : ℕ) where
@@ -38,28 +40,6 @@ module _ (w : Cochain) (blocks : List Block) (c : ℕ) where
         width = λ i row. matched.width c i (subst (λ n. c < n) (sym matched.count) below) row;
       })
 
-  -- the centraliser of a class is that of its representative
-  pub class_at : (class_twist w c).at ≡ representative_at w.group c
-  unfolding twist_of
-  class_at = refl
-
-  module _ (k : ℕ) (answer : StepRefusal) where
-    missed_refused : (miss : Miss) → table_miss (class_twist w c) (class_table k blocks c) ≡ Some miss → answer ≡ steps.Refused (cause_of_miss (class_twist w c) (class_table k blocks c) miss)
-        → IsRefusalFor (table_cause (class_twist w c) (class_table k blocks c)) answer
-    missed_refused miss missed is = rw (is, missed) refl
-
-    -- where the check refuses the table, the answer is the cause at its first miss
-    pub table_refused : (refusal : TableRefusal k) (at : ℕ) → at ≡ (class_twist w c).at → Checks k (class_twist w c) (block_at blocks c).rows (Err refusal)
-        → ((s : TwistedSubgroup) (table : Characters k) (miss : Miss) → at ≡ s.at → Refuses s table refusal miss → answer ≡ steps.Refused (cause_of_miss s table miss))
-        → (refusal ≡ refusals.Memory → answer ≡ steps.Memory) → IsRefusalFor (table_cause (class_twist w c) (class_table k blocks c)) answer
-    table_refused (refusals.Overflow site) at same (miss, missed, refuses) says memory = missed_refused miss missed (says (class_twist w c) (class_table k blocks c) miss same refuses)
-    table_refused (refusals.Count rows rank) at same (miss, missed, refuses) says memory = missed_refused miss missed (says (class_twist w c) (class_table k blocks c) miss same refuses)
-    table_refused (refusals.Identity name i j x left right) at same (miss, missed, refuses) says memory =
-        missed_refused miss missed (says (class_twist w c) (class_table k blocks c) miss same refuses)
-    table_refused (refusals.NoTwist row value) at same (miss, missed, refuses) says memory = missed_refused miss missed (says (class_twist w c) (class_table k blocks c) miss same refuses)
-    table_refused (refusals.NoVacuum rows) at same (miss, missed, refuses) says memory = missed_refused miss missed (says (class_twist w c) (class_table k blocks c) miss same refuses)
-    table_refused refusals.Memory at same checks says memory = rw (memory refl) tt
-
 -- ---- all classes
 module _ (w : Cochain) (blocks : List Block) where
   -- one table more
@@ -67,36 +47,60 @@ module _ (w : Cochain) (blocks : List Block) where
       → all ≡ map (class_rows w blocks) (range_with_len 0 (c + 1))
   tables_more c front all table pushed before here = rw (pushed, before, here) (sym (map-range_with_len_more (class_rows w blocks) 0 c c (omega arith)))
 
-  pub tables_count : (c : ℕ) (front : List RowsOver) → front ≡ map (class_rows w blocks) (range_with_len 0 c) → length front ≡ c
-  tables_count c front are = ap length are ∙ length-map-range_with_len (class_rows w blocks) 0 c
-
   -- all of them
   pub tables_all : (n : ℕ) (tables : List RowsOver) → n ≡ length (representatives w.group) → tables ≡ map (class_rows w blocks) (range_with_len 0 n) → tables ≡ tables_of w blocks
   unfolding tables_of
   tables_all n tables all are = are ∙ ap (λ m. map (class_rows w blocks) (range_with_len 0 m)) all
 
+  pub tables_length : length (tables_of w blocks) ≡ length (representatives w.group)
+  unfolding tables_of
+  tables_length = length-map-range_with_len (class_rows w blocks) 0 (length (representatives w.group))
+
+  pub tables_at : (c : ℕ) → c < length (representatives w.group) → table_at (tables_of w blocks) c ≡ class_rows w blocks c
+  unfolding tables_of
+  tables_at c below = get_or-map-range_with_len (class_rows w blocks) 0 _ c c no_table below (omega arith)
+
+  pub tables_few : IsCocycle w → (tables : List RowsOver) → tables ≡ tables_of w blocks → length tables < 4294967296
+  tables_few W tables are = omega (arith, ap length are, tables_length, classes_at_most w.group W.cochain.group, W.cochain.small.to_sixty)
+
   -- one for each class, over its twisted centraliser
   pub one_table_each : (tables : List RowsOver) → tables ≡ tables_of w blocks → HasTables w tables
-  unfolding tables_of
   one_table_each tables are =
       rw are
       (record {
-        count = length-map-range_with_len (class_rows w blocks) 0 (length (representatives w.group));
-        over = λ c below. ap (λ (table : RowsOver). table.over) (here c (subst (λ n. c < n) (length-map-range_with_len (class_rows w blocks) 0 (length (representatives w.group))) below));
+        count = tables_length;
+        over = λ c below. ap (λ (table : RowsOver). table.over) (tables_at c (subst (λ n. c < n) tables_length below));
       })
-    where
-      here : (c : ℕ) → c < length (representatives w.group) → table_at (map (class_rows w blocks) (range_with_len 0 (length (representatives w.group)))) c ≡ class_rows w blocks c
-      here c below = get_or-map-range_with_len (class_rows w blocks) 0 _ c c no_table below (omega arith)
 
-  module _ (k : ℕ) where
-    -- no table misses anything
-    pub tables_pass : (n : ℕ) → n ≡ length (representatives w.group) → first n (λ c. table_cause (class_twist w c) (class_table k blocks c)) ≡ None → tables_cause w k blocks ≡ None
-    unfolding tables_cause
-    tables_pass n all none = subst (λ m. first m (λ c. table_cause (class_twist w c) (class_table k blocks c)) ≡ None) all none
+  -- the cause that the tables have is that of the first that misses something
+  pub same_causes : (k : ℕ) → first_cause k (tables_of w blocks) ≡ tables_cause w k blocks
+  unfolding tables_cause
+  same_causes k =
+      ap (λ n. first n (λ c. cause_over k (table_at (tables_of w blocks) c))) tables_length
+      ∙ first-ext (length (representatives w.group)) (λ c. cause_over k (table_at (tables_of w blocks) c)) (λ c. table_cause (class_twist w c) (class_table k blocks c))
+      (λ c below. ap (cause_over k) (tables_at c below))
 
-    -- the first table that misses something
-    pub tables_refused : (c : ℕ) (answer : StepRefusal) → c < length (representatives w.group) → first c (λ c. table_cause (class_twist w c) (class_table k blocks c)) ≡ None
-        → IsRefusalFor (table_cause (class_twist w c) (class_table k blocks c)) answer → IsRefusalFor (tables_cause w k blocks) answer
-    unfolding tables_cause
-    tables_refused c steps.Memory below none refused = tt
-    tables_refused c (steps.Refused cause) below none refused = first_found _ c (λ c. table_cause (class_twist w c) (class_table k blocks c)) cause below none refused
+-- ---- one table after another, of those that are left
+pub none_yet : {A : Type 0} (done : List RowsOver) (at : ℕ → Option A) → done ≡ [] → first (length done) at ≡ None
+none_yet done at none = rw none (first-zero at)
+
+module _ (k : ℕ) (done : List RowsOver) (next : RowsOver) (left all : List RowsOver) (whole : done ++ next ∷ left ≡ all) where
+  -- the next one
+  pub next_at : table_at all (length done) ≡ next
+  next_at = rw (← whole) (get_or-append_seam done next left no_table)
+
+  pub next_below : length done < length all
+  next_below = omega (arith, ap length whole, length-append done (next ∷ left))
+
+  -- it misses nothing
+  pub next_passes : (more : List RowsOver) → more ≡ done ++ next ∷ [] → first (length done) (λ c. cause_over k (table_at all c)) ≡ None → cause_over k next ≡ None
+      → first (length more) (λ c. cause_over k (table_at all c)) ≡ None
+  next_passes more pushed before passed =
+      subst (λ n. first n (λ c. cause_over k (table_at all c)) ≡ None) (omega (arith, ap length pushed, length-append done (next ∷ [])))
+      (first_none-step (length done) (λ c. cause_over k (table_at all c)) before (ap (cause_over k) next_at ∙ passed))
+
+  -- it is the first that misses something
+  pub next_refused : (answer : StepRefusal) → first (length done) (λ c. cause_over k (table_at all c)) ≡ None → IsRefusalFor (cause_over k next) answer → IsRefusalFor (first_cause k all) answer
+  next_refused steps.Memory before refused = tt
+  next_refused (steps.Refused cause) before refused =
+      first_found (length all) (length done) (λ c. cause_over k (table_at all c)) cause next_below before (ap (cause_over k) next_at ∙ refused)

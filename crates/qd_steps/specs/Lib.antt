@@ -1,3 +1,5 @@
 pub mod Matched
 pub mod Tables
+pub mod ByModulus
 pub mod Refused
+pub mod Laws

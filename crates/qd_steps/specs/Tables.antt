@@ -24,7 +24,7 @@ use Rattle.table_check.specs.declared.identity_name.IdentityName.TheVariants as 
 use Rattle.table_check.specs.declared.miss.Clause.{Clause}
 use Rattle.table_check.specs.declared.miss.Clause.TheVariants as clauses
 use Rattle.table_check.specs.declared.miss.Miss.{Miss}
-use Rattle.transport.specs.Simples.{SimplesOver}
+use Rattle.transport.specs.Simples.{SimplesOver, table_at}
 use Rattle.data_print.specs.declared.cause.Cause.{Cause}
 use Rattle.data_print.specs.declared.cause.Cause.TheVariants.{Count, Identity, NoTwist, NoVacuum, Overflow}
 
@@ -80,6 +80,14 @@ module _ {k : ℕ} (s : TwistedSubgroup) (table : Characters k) where
   -- why the table is refused, at its first miss
   abbrev pub table_cause : Option Cause
   table_cause = option_map cause_of_miss (table_miss s table)
+
+-- why these rows over a twisted centraliser are refused as a table
+abbrev pub cause_over : (k : ℕ) → RowsOver → Option Cause
+cause_over k rows = table_cause rows.over (characters_of k rows.rows)
+
+-- why the first of these is refused
+abbrev pub first_cause : (k : ℕ) → List RowsOver → Option Cause
+first_cause k tables = first (length tables) (λ c. cause_over k (table_at tables c))
 
 -- the twisted centraliser of the class with the number c
 abbrev pub class_twist : Cochain → ℕ → TwistedSubgroup

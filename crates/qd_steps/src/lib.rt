@@ -1,10 +1,14 @@
-//! The steps from rows of values to the simples of a twisted quantum double.
+//! The steps from rows of values, stated or lifted, to the simples of a twisted quantum double.
 #![tactic(auto)]
 
 mod block_rows;
+mod class_rows;
 mod class_tables;
+pub mod laws;
+mod lifted;
 mod refusal;
 mod simples;
+mod stated;
 
 pub use refusal::StepRefusal;
-pub use simples::simples_by_rows;
+pub use simples::{simples_by_modulus, simples_by_rows};

@@ -1,13 +1,15 @@
+//! Why there are no simples.
+
 ghost use Rattle.std.specs.Prelude.{◌≡◌};
 ghost use Rattle.qd_steps.specs.declared.refusal.StepRefusal.TheVariants as refusals;
 
 use data_print::Cause;
 use group_table::Memory;
 
-/// Why rows give no simples.
+/// Why rows, stated or lifted, give no simples.
 #[derive(Clone, Copy, Debug, PartialEq, Eq)]
 pub enum StepRefusal {
-    /// The table of a class misses something; this is what the first one misses first.
+    /// A class has no lifted rows, or its table misses something: this is the first such cause.
     Refused(Cause),
     /// There was no memory. It says nothing of the rows.
     Memory,

@@ -1,12 +1,15 @@
-use Rattle.std.proofs.Common.{◌≡◌, None, map}
-use Rattle.std.specs.List.{range_with_len}
+use Rattle.std.proofs.Common.{◌≡◌, ◌++◌, None, length}
+use Rattle.std.specs.Vec.Iter.{into_iter_items}
 use Rattle.scan.specs.First.{first}
-use Rattle.qd_steps.specs.Tables.{class_twist, class_table, class_rows, table_cause}
+use Rattle.transport.specs.Simples.{table_at}
+use Rattle.qd_steps.specs.Tables.{cause_over}
 use Rattle.qd_steps.proofs.class_tables.tables_of.Given as goal
 
--- the tables of the classes before class c, which miss nothing
-abbrev pub invariant-loop-c : goal.invariant-loop-c
-invariant-loop-c g l = record {
-  kept : l.tables ≡ map (class_rows l.w l.blocks) (range_with_len 0 l.c);
-  passed : first l.c (λ c. table_cause (class_twist l.w c) (class_table g.row.K l.blocks c)) ≡ None;
+-- the tables of the classes so far, which miss nothing, and before those that are left
+abbrev pub invariant-loop-class : goal.invariant-loop-class
+invariant-loop-class g l = record {
+  can : (goal.iterator-loop-class g).can_next l.class-iterator;
+  finite : (goal.iterator-loop-class g).is_finite l.class-iterator;
+  kept : l.tables ++ into_iter_items l.class-iterator ≡ l.fn.classes.items;
+  passed : first (length l.tables) (λ c. cause_over g.row.K (table_at l.fn.classes.items c)) ≡ None;
 }

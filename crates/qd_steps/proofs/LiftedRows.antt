@@ -1,0 +1,98 @@
+-- The lifted rows of all classes.
+use Rattle.std.proofs.Common.{◌≡◌, ℕ, ◌<◌, ◌%◌, List, [], length, refl, sym, ap, subst, ◌∙◌, arith}
+use Rattle.std.specs.Prelude.{ℤ}
+use Rattle.std.proofs.lemmas.List.FromFn.{length-map-range_with_len, get_or-map-range_with_len}
+use mathlib.Core.Path.{ap₂}
+use Rattle.group_table.specs.Group.{Table, product, identity_of}
+use Rattle.orders.specs.Order.{exponent_of}
+use Rattle.classes.specs.Conjugacy.{representatives, representative_at, centraliser_of}
+use Rattle.classes.proofs.Conjugacy.{representative_at_is}
+use Rattle.cochain.specs.Cochain.{Cochain, IsCocycle}
+use Rattle.prime_field.specs.declared.mod_ring.ModRing.{ModRing}
+use Rattle.twisted.specs.Twist.{TwistedSubgroup, size}
+use Rattle.slant.specs.Twists.{twist_of}
+use Rattle.qd_ring.specs.RowLists.{row_at}
+use Rattle.dixon_split.specs.CentralLists.{central_value}
+use Rattle.character_lists.specs.CharacterLists.{central_characters}
+use Rattle.char_lift.specs.Ratios.{character_ratios}
+use Rattle.char_lift.specs.Faults.{lifted_row}
+use Rattle.char_lift.proofs.SumLaws.{length-table, table-at}
+use Rattle.table_check.specs.Characters.{RowsOver, IsShaped}
+use Rattle.twist_lift.specs.TwistRows.{characters, twist_rows}
+use Rattle.twist_lift.specs.Laws.{Serves, root_order}
+use Rattle.twist_lift.proofs.TwistLaws.{period_modulus}
+use Rattle.twist_lift.proofs.ServedClasses.{serves_classes}
+use Rattle.qd_doc.specs.Blocks.{Block, block, block_at}
+use Rattle.qd_steps.specs.Matched.{IsMatched}
+use Rattle.qd_steps.specs.Tables.{class_twist, class_rows}
+use Rattle.qd_steps.specs.ByModulus.{lifted_block, lifted_blocks}
+use Rattle.qd_steps.specs.Laws.{ServesCocycle}
+
+-- ---- one twist
+module _ (ring : ModRing) where
+  -- each lifted row has a value for each place
+  pub lifted_width : (s : TwistedSubgroup) (i : ℕ) → i < length (twist_rows ring s) → length (row_at (twist_rows ring s) i) ≡ size s
+  unfolding twist_rows
+  lifted_width s i below =
+      let n = length (central_characters ring s) in
+      let row = λ (r : ℕ). lifted_row s ring.q ring.conductor ring.root (character_ratios s ring.q ring.conductor ring.root (central_value (characters ring s) r)) in
+      ap length (table-at n i row [] (subst (λ m. i < m) (length-table n row) below)) ∙ length-table (size s) _
+
+  -- a field that serves the cocycle serves the twisted centraliser of each element
+  pub served : (w : Cochain) (k at : ℕ) (t : Table) (twist : TwistedSubgroup) → IsCocycle w → ring.conductor ≡ k → k % root_order w ≡ 0 → w.group.order < ring.q → t ≡ w.group → at < t.order
+      → twist ≡ twist_of w at → Serves ring twist
+  served w k at t twist W conductor multiple over same below is =
+      subst (Serves ring) (sym is)
+      (serves_classes ring w W over (ap (λ n. n % root_order w) conductor ∙ multiple) at (subst (λ (u : Table). at < u.order) same below))
+
+  -- lifted rows are shaped as the check wants them
+  pub lifted_shaped : (k : ℕ) (twist : TwistedSubgroup) (rows : List (List (List ℤ))) → ring.conductor ≡ k → Serves ring twist → rows ≡ twist_rows ring twist
+      → IsShaped k (record { over = twist; rows = rows })
+  lifted_shaped k twist rows conductor serves are =
+      subst (λ (found : List (List (List ℤ))). IsShaped k (record { over = twist; rows = found })) (sym are)
+      (subst (λ n. IsShaped n (record { over = twist; rows = twist_rows ring twist })) conductor
+      (record {
+        conductor = ring.entry;
+        multiple = period_modulus ring.conductor twist.modulus (exponent_of twist.group.order (product twist.group) (identity_of twist.group)) serves.period;
+        width = lifted_width twist;
+      }))
+
+-- ---- all classes
+module _ (ring : ModRing) (w : Cochain) where
+  pub lifted_count : length (lifted_blocks ring w) ≡ length (representatives w.group)
+  unfolding lifted_blocks
+  lifted_count = length-map-range_with_len (lifted_block ring w) 0 (length (representatives w.group))
+
+  pub lifted_at : (c : ℕ) → c < length (representatives w.group) → block_at (lifted_blocks ring w) c ≡ lifted_block ring w c
+  unfolding lifted_blocks
+  lifted_at c below = get_or-map-range_with_len (lifted_block ring w) 0 _ c c (block 0 []) below (omega arith)
+
+  -- the lifted rows over the twist of a class are the rows of the class
+  pub lifted_rows_at : (c : ℕ) (twist : TwistedSubgroup) (rows : List (List (List ℤ))) → c < length (representatives w.group) → twist ≡ class_twist w c → rows ≡ twist_rows ring twist
+      → record { over = twist; rows = rows } ≡ class_rows w (lifted_blocks ring w) c
+  lifted_rows_at c twist rows below is are =
+      ap₂ rows_over is (are ∙ ap (twist_rows ring) is ∙ ap (λ (b : Block). b.rows) (sym (lifted_at c below)))
+    where
+      rows_over : TwistedSubgroup → List (List (List ℤ)) → RowsOver
+      rows_over s found = record { over = s; rows = found }
+
+  places : (a : ℕ) → size (twist_of w a) ≡ length (centraliser_of w.group a)
+  unfolding twist_of
+  places a = refl
+
+  -- one block for each class, with a value for each element of its centraliser in each row
+  pub lifted_matched : IsMatched w.group (lifted_blocks ring w)
+  lifted_matched = record {
+    count = lifted_count;
+    representative = λ b below. ap (λ (found : Block). found.representative) (lifted_at b (subst (λ n. b < n) lifted_count below));
+    width = λ b r below row.
+        let here : block_at (lifted_blocks ring w) b ≡ lifted_block ring w b = lifted_at b (subst (λ n. b < n) lifted_count below) in
+        ap (λ (found : Block). length (row_at found.rows r)) here
+        ∙ lifted_width ring (class_twist w b) r (subst (λ (found : Block). r < length found.rows) here row)
+        ∙ places (representative_at w.group b);
+  }
+
+  -- the field serves the twist of each class
+  pub class_serves : ServesCocycle ring w → (c : ℕ) → c < length (representatives w.group) → Serves ring (class_twist w c)
+  class_serves serves c below =
+      serves_classes ring w serves.cocycle serves.over serves.multiple (representative_at w.group c) (representative_at_is w.group serves.cocycle.cochain.group c below).below
