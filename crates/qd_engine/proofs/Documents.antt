@@ -1,4 +1,4 @@
--- The group and the cocycle of a document that passes every test, and the rows of a document with characters.
+-- The group and the cocycle of a document that passes every test, and the rows that a document has.
 use Rattle.std.proofs.Common.{◌≡◌, ℕ, ◌%◌, ◌<◌, ◌≤◌, List, length, get_or, Option, Some, None, refl, ◌∙◌}
 use Rattle.std.proofs.lemmas.List.{get_or-map, length-map}
 use Rattle.std.proofs.Math.Nat.{mod-lt}
@@ -8,8 +8,11 @@ use Rattle.qd_text.specs.Tokens.{Lexeme, tokens}
 use Rattle.qd_doc.specs.Grammar.{stop_of}
 use Rattle.qd_doc.specs.Contents.{document_of, characters_of}
 use Rattle.qd_doc.proofs.Shapes.{document_in_range}
-use Rattle.qd_engine.specs.Words.{form_for, form_of}
-use Rattle.qd_engine.specs.Documents.{document_in, table_of, exponents_of, given_in}
+use Rattle.qd_engine.specs.Words.{form_by, form_for, form_of}
+use Rattle.qd_engine.specs.Documents.{document_in, table_of, exponents_of}
+use Rattle.qd_engine.specs.Sources.{HasRowsFor, HasRowsOf}
+use Rattle.qd_engine.specs.declared.command.RowSource.{RowSource}
+use Rattle.qd_engine.specs.declared.command.RowSource.TheVariants.{Stated, Lifted}
 use Rattle.qd_engine.specs.declared.command.RowReport.{RowReport}
 use Rattle.qd_engine.specs.declared.command.Command.{Command}
 
@@ -38,13 +41,15 @@ module _ (command : Command) (bytes : List ℕ) (document : stop_of (form_of com
         lawful = lawful;
       }
 
--- a document with characters gives rows
-rows_given : (all : List Lexeme) (rows : Option RowReport) (report : RowReport) → rows ≡ Some report
-    → (document_of (form_for rows) all).characters ≡ Some (given_in (document_of (form_for rows) all))
+-- a document has the rows that its form is for
+rows_had : (all : List Lexeme) (source : RowSource) → HasRowsFor source (document_of (form_by source) all).characters
 unfolding document_of characters_of
-rows_given all None report e = absurd cc
-rows_given all (Some other) report e = refl
+rows_had all Stated = refl
+rows_had all (Lifted q) = tt
 
-pub given_is : (command : Command) (bytes : List ℕ) (report : RowReport) → command.rows ≡ Some report
-    → (document_in command bytes).characters ≡ Some (given_in (document_in command bytes))
-given_is command bytes report e = rows_given (tokens bytes) command.rows report e
+rows_had_for : (all : List Lexeme) (rows : Option RowReport) → HasRowsOf rows (document_of (form_for rows) all).characters
+rows_had_for all None = tt
+rows_had_for all (Some report) = rows_had all report.source
+
+pub has_rows : (command : Command) (bytes : List ℕ) → HasRowsOf command.rows (document_in command bytes).characters
+has_rows command bytes = rows_had_for (tokens bytes) command.rows

@@ -1,5 +1,5 @@
 -- What the last step of a chain answers.
-use Rattle.std.proofs.Common.{◌≡◌, ℕ, List, Option, Some, None, Result, Ok, Err, refl, sym, ap, subst, ◌∙◌, inl, inr}
+use Rattle.std.proofs.Common.{◌≡◌, ℕ, List, Option, Some, None, Result, Ok, Err, refl, sym, subst, ◌∙◌, inl, inr}
 use Rattle.std.specs.Prelude.{OnOk, IfErr, slice_get}
 use Rattle.std.specs.Global.{Vec}
 use Rattle.scan.specs.First.{option_or}
@@ -22,11 +22,10 @@ or_nothing : (test : Option Cause) → test ≡ option_or test None
 or_nothing None = refl
 or_nothing (Some cause) = refl
 
--- what follows the last of two tests, where the first says nothing
-pub follow_on : {X : Type 0} (test last : Option Cause) (late : Cause → Type 0) (gives : X → Type 0) (result : Result X Stop) → test ≡ None → Follows last late gives result
-    → Follows (option_or test (option_or last None)) late gives result
-follow_on test last late gives result none follows =
-    subst (λ (t : Option Cause). Follows t late gives result) (or_nothing last ∙ ap (λ (t : Option Cause). option_or t (option_or last None)) (sym none)) follows
+module _ {X : Type 0} (late : Cause → Type 0) (gives : X → Type 0) (result : Result X Stop) where
+  -- what follows a list of tests, where the first says nothing
+  pub follow_next : (test rest : Option Cause) → test ≡ None → Follows rest late gives result → Follows (option_or test rest) late gives result
+  follow_next test rest none follows = subst (λ (t : Option Cause). Follows (option_or t rest) late gives result) (sym none) follows
 
 -- a step past which something may come late
 pub follow_late : (test : Option Cause) (late : Cause → Type 0) (P : Type 0) (result : Result (Unit {0}) Stop) → test ≡ None → OnOk result P → IfErr result (StopsLate late)

@@ -1,3 +1,10 @@
+pub mod NumberWords
+pub mod WordLaws
+pub mod SimpleCounts
+pub mod NumberLines
+pub mod Certificates
+pub mod CertificateTables
+pub mod CertificateTexts
 pub mod MatrixLines
 pub mod Inputs
 pub mod RankLaws
@@ -6,7 +13,14 @@ pub mod Following
 pub mod Documents
 pub mod Shapes
 pub mod ConductorLaws
+pub mod LiftedRows
 pub mod TestLaws
+pub mod StopLaws
+pub mod LiftedCauses
+pub mod LiftedSizes
+pub mod LateLaws
 pub mod Passing
+pub mod HeadlineLaws
 pub mod Meaning
 pub mod Taken
+pub mod CertificateLaws

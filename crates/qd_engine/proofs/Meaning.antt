@@ -23,6 +23,7 @@ use Rattle.qd_engine.specs.declared.answer.Outcome.{Outcome}
 use Rattle.qd_engine.specs.declared.answer.Outcome.TheVariants.{Report, Refused, Memory}
 use Rattle.qd_engine.proofs.TestLaws.{input_accepted}
 use Rattle.qd_engine.proofs.Passing.{rows_give, accepted_passes}
+use Rattle.qd_engine.proofs.HeadlineLaws.{report_is_modular, report_has_rule}
 
 module _ (words : List (List ℕ)) (left : Option (List ℕ)) (failed : Type 0) where
   -- ---- what it had to say means
@@ -53,7 +54,11 @@ module _ (words : List (List ℕ)) (left : Option (List ℕ)) (failed : Type 0) 
         input = agrees;
         short = short;
         accepted = accepted;
-        idempotents = λ report is. rows_give (exponents_of (document_in command bytes)) report.most_simples _ accepted.cocycle (accepted.verified report is);
+        headline = λ report is. record {
+          idempotents = rows_give (exponents_of (document_in command bytes)) _ report accepted.cocycle (accepted.verified report is);
+          modular = report_is_modular (exponents_of (document_in command bytes)) _ report accepted.cocycle (accepted.verified report is);
+          fusion = report_has_rule (exponents_of (document_in command bytes)) _ report accepted.cocycle (accepted.verified report is);
+        };
         report = subst (Appends writing.before writing.after) reports.text_is added;
       }
 

@@ -1,14 +1,17 @@
 -- What the tests of an input say: nothing, or a cause of their own; and what holds where none says anything.
-use Rattle.std.proofs.Common.{◌≡◌, ℕ, ◌<◌, Bool, true, false, cond, List, length, Option, Some, None, refl, sym, subst}
+use Rattle.std.proofs.Common.{◌≡◌, ℕ, ◌<◌, ◌≤◌, Bool, true, false, cond, List, [], ◌∷◌, length, Option, Some, None, refl, sym, subst}
 use Rattle.std.specs.Prelude.{◌==◌, nat_le, sum, unwrap_or}
-use Rattle.std.specs.Option.{option_map}
+use Rattle.std.specs.Option.{option_map, option_and_then}
 use Rattle.std.proofs.lemmas.Bool.{eqb-true, leb-true}
 use Rattle.scan.specs.First.{option_or}
 use Rattle.scan.proofs.Places.{or_none, first_some, first_none-at}
 use Rattle.classes.specs.Conjugacy.{representatives}
-use Rattle.cochain.specs.Cochain.{Cochain, cocycle_fault}
+use Rattle.cochain.specs.Cochain.{Cochain, IsCocycle, cocycle_fault}
 use Rattle.group_table.specs.Group.{group_fault}
 use Rattle.cyclotomic.specs.Conductors.{least_conductor}
+use Rattle.prime_field.specs.Moduli.{modulus_fault}
+use Rattle.prime_field.specs.declared.mod_ring.ModRing.{ModRing}
+use Rattle.twist_lift.specs.Laws.{root_order}
 use Rattle.twisted.specs.Twist.{TwistedSubgroup}
 use Rattle.transport.specs.Simples.{SimplesOver}
 use Rattle.qd_doc.specs.Grammar.{stop_of}
@@ -27,18 +30,29 @@ use Rattle.table_check.specs.declared.miss.Clause.TheVariants as clauses
 use Rattle.table_check.specs.declared.miss.Miss.{Miss}
 use Rattle.data_print.specs.declared.cause.Cause.{Cause}
 use Rattle.data_print.specs.declared.cause.Cause.TheVariants as causes
-use Rattle.qd_steps.specs.Tables.{failure, site_of, cause_of_miss, table_cause, class_twist, class_table, tables_cause}
-use Rattle.qd_engine.specs.Words.{form_of}
-use Rattle.qd_engine.specs.Documents.{document_in, table_of, exponents_of, given_in, root_order, conductor_of}
+use Rattle.qd_steps.specs.Tables.{failure, site_of, cause_of_miss, table_cause, class_twist, class_table, tables_cause, simples_over}
+use Rattle.qd_steps.specs.ByModulus.{cause_of_lift, lift_cause, lifts_cause, lifted_blocks, modulus_cause}
+use Rattle.qd_steps.proofs.LiftedRows.{lifted_matched}
+use Rattle.twist_lift.specs.TwistRows.{twist_fault}
+use Rattle.char_lift.specs.declared.refusal.LiftRefusal.{LiftRefusal}
+use Rattle.char_lift.specs.declared.refusal.LiftRefusal.TheVariants as lifts
+use Rattle.fusion.specs.Numbers.{whole_fault}
+use Rattle.qd_engine.specs.Words.{have_numbers, most_simples, form_of}
+use Rattle.qd_engine.specs.Documents.{document_in, table_of, exponents_of, given_in, conductor_of}
+use Rattle.qd_engine.specs.Sources.{field_for, lifted_by, blocks_of}
 use Rattle.qd_engine.specs.Shape.{shape_fault}
 use Rattle.qd_engine.specs.Report.{class_ranks}
-use Rattle.qd_engine.specs.Tests.{scan_test, without_conductor, conductor_test, stated_test, simples_test, matching_test, rows_test, document_test, refusal, LatePart, LateRows, Late}
-use Rattle.qd_engine.specs.Causes.{IsVerified, IsAccepted}
+use Rattle.qd_engine.specs.Tests.{first_of_all, whole_test, not_whole, numbers_test, scan_test, without_conductor, conductor_test, simples_test, lifting_test, source_tests, report_test, rows_test, document_test, refusal, LatePart, LateReport, LateRows, Late}
+use Rattle.qd_engine.specs.Causes.{AreGood, IsLifted, HasRows, HasNumbers, IsVerified, IsAccepted}
 use Rattle.qd_engine.specs.declared.command.RowPart.{RowPart}
 use Rattle.qd_engine.specs.declared.command.RowPart.TheVariants as row_parts
+use Rattle.qd_engine.specs.declared.command.RowSource.{RowSource}
+use Rattle.qd_engine.specs.declared.command.RowSource.TheVariants.{Stated, Lifted}
 use Rattle.qd_engine.specs.declared.command.RowReport.{RowReport}
 use Rattle.qd_engine.specs.declared.command.Command.{Command}
-use Rattle.qd_engine.proofs.Documents.{document_group, document_cocycle, given_is}
+use Rattle.qd_engine.proofs.ConductorLaws.{least_is_conductor}
+use Rattle.qd_engine.proofs.Documents.{document_group, document_cocycle}
+use Rattle.qd_engine.proofs.LiftedRows.{valid_field, numbers_of_field}
 use Rattle.qd_engine.proofs.Shapes.{shape_matches}
 
 -- ---- no test of an input says what is said of words and of reading
@@ -97,36 +111,89 @@ said_tables w k blocks =
     let table = class_table k blocks found.place in
     subst IsSaid found.here (said_map (cause_of_miss here table) (table_miss here table) (λ miss. said_miss here table miss (fit_at here table miss))))
 
-said_matching : (report : RowReport) (w : Cochain) (given : Given) → IsSaid (matching_test report w given)
-unfolding matching_test conductor_test
-said_matching report w given =
-    let multiple = root_order w in
-    let k = conductor_of w in
-    let ranks = sum (class_ranks w) in
-    let shape = shape_fault w.group given.blocks in
-    let few = simples_test ranks report.most_simples in
-    let stated = stated_test given.conductor k in
-    said_or (without_conductor multiple (least_conductor multiple)) (option_or stated (option_or few (option_or (option_map causes.Shape shape) None))) (said_conductor multiple (least_conductor multiple))
-    (said_or stated (option_or few (option_or (option_map causes.Shape shape) None)) (said_unless (given.conductor == k) (causes.Conductor given.conductor k) tt)
-    (said_or few (option_or (option_map causes.Shape shape) None) (said_unless (nat_le ranks report.most_simples) (causes.Simples ranks report.most_simples) tt)
-    (said_or (option_map causes.Shape shape) None (said_map causes.Shape shape (λ fault. tt)) tt)))
+-- every test of a list says nothing, or a cause of its own
+AreSaid : List (Option Cause) → Type 0
+AreSaid [] = Unit {0}
+AreSaid (test ∷ tests) = IsSaid test × AreSaid tests
 
-said_rows : (w : Cochain) (report : Option RowReport) (given : Option Given) → IsSaid (rows_test w report given)
-said_rows w None given = tt
-said_rows w (Some report) None = tt
-said_rows w (Some report) (Some given) =
-    let tables = tables_cause w (conductor_of w) given.blocks in
-    said_or (matching_test report w given) (option_or tables None) (said_matching report w given) (said_or tables None (said_tables w (conductor_of w) given.blocks) tt)
+said_all : (tests : List (Option Cause)) → AreSaid tests → IsSaid (first_of_all tests)
+unfolding AreSaid
+said_all [] said = tt
+said_all (test ∷ tests) (here, later) = said_or test (first_of_all tests) here (said_all tests later)
+
+said_few : (ranks most : ℕ) → IsSaid (simples_test ranks most)
+said_few ranks most = said_unless (nat_le ranks most) (causes.Simples ranks most) tt
+
+said_lift : (at : ℕ) (fault : Option LiftRefusal) → IsSaid (option_and_then (cause_of_lift at) fault)
+said_lift at None = tt
+said_lift at (Some lifts.Memory) = tt
+said_lift at (Some refusal) = tt
+
+said_lifts : (ring : ModRing) (w : Cochain) → IsSaid (lifts_cause ring w)
+unfolding lifts_cause
+said_lifts ring w =
+    said_found _
+    (λ cause e.
+    let found = first_some _ (lift_cause ring w) cause e in
+    subst IsSaid found.here (said_lift _ (twist_fault ring (class_twist w found.place))))
+
+said_lifting : (w : Cochain) (field : Option ModRing) → IsSaid (lifting_test w field)
+unfolding modulus_cause
+said_lifting w None = tt
+said_lifting w (Some ring) =
+    said_or (lifts_cause ring w) (tables_cause w ring.conductor (lifted_blocks ring w)) (said_lifts ring w) (said_tables w ring.conductor (lifted_blocks ring w))
+
+said_if : (b : Bool) (test : Option Cause) → IsSaid test → IsSaid (cond b test None)
+said_if true test is = is
+said_if false test is = tt
+
+said_numbers : (k : ℕ) (s : SimplesOver) (parts : List RowPart) → IsSaid (numbers_test k s parts)
+said_numbers k s parts = said_if (have_numbers parts) (whole_test k s) (said_map (not_whole k s) (whole_fault k s) (λ fault. tt))
+
+said_source : (source : RowSource) (w : Cochain) (given : Given) (parts : List RowPart) → AreSaid (source_tests source w given parts)
+unfolding AreSaid
+said_source Stated w given parts = (
+  said_unless (given.conductor == conductor_of w) (causes.Conductor given.conductor (conductor_of w)) tt,
+  (
+    said_few _ (most_simples parts),
+    (
+      said_map causes.Shape (shape_fault w.group given.blocks) (λ fault. tt),
+      (
+        said_tables w (conductor_of w) given.blocks,
+        tt,
+      ),
+    ),
+  ),
+)
+said_source (Lifted q) w given parts = (
+  said_map causes.Modulus (modulus_fault q w.group.order (conductor_of w)) (λ fault. tt),
+  (
+    said_few _ (most_simples parts),
+    (
+      said_lifting w (field_for q w),
+      (
+        said_numbers (conductor_of w) (simples_over w (lifted_by w (field_for q w))) parts,
+        tt,
+      ),
+    ),
+  ),
+)
+
+said_rows : (w : Cochain) (given : Given) (report : Option RowReport) → IsSaid (rows_test w given report)
+unfolding report_test conductor_test AreSaid
+said_rows w given None = tt
+said_rows w given (Some report) =
+    said_all (conductor_test w ∷ source_tests report.source w given report.parts)
+    (said_conductor (root_order w) (least_conductor (root_order w)), said_source report.source w given report.parts)
 
 said_document : (command : Command) (document : Document) → IsSaid (document_test command document)
-unfolding document_test
+unfolding document_test AreSaid
 said_document command document =
     let w = exponents_of document in
     let group = group_fault (table_of document) in
     let cocycle = cocycle_fault w in
-    let rows = rows_test w command.rows document.characters in
-    said_or (option_map causes.Group group) (option_or (option_map causes.Cocycle cocycle) (option_or rows None)) (said_map causes.Group group (λ fault. tt))
-    (said_or (option_map causes.Cocycle cocycle) (option_or rows None) (said_map causes.Cocycle cocycle (λ fault. tt)) (said_or rows None (said_rows w command.rows document.characters) tt))
+    said_all (option_map causes.Group group ∷ option_map causes.Cocycle cocycle ∷ rows_test w (given_in document) command.rows ∷ [])
+    (said_map causes.Group group (λ fault. tt), (said_map causes.Cocycle cocycle (λ fault. tt), (said_rows w (given_in document) command.rows, tt)))
 
 said_refusal : (command : Command) (bytes : List ℕ) → IsSaid (refusal command bytes)
 unfolding refusal
@@ -143,17 +210,20 @@ part_late_is : (k : ℕ) (s : SimplesOver) (part : RowPart) (cause : Cause) → 
 part_late_is k s row_parts.S cause (site, is, over) = subst IsOfInput (sym is) tt
 part_late_is k s part cause late = absurd late
 
-rows_late_is : (w : Cochain) (report : Option RowReport) (given : Option Given) (cause : Cause) → LateRows w report given cause → IsOfInput cause
-rows_late_is w None given cause late = absurd late
-rows_late_is w (Some report) None cause late = absurd late
-rows_late_is w (Some report) (Some given) cause (i, part, at, late) = part_late_is _ _ part cause late
+report_late_is : (source : RowSource) (k : ℕ) (s : SimplesOver) (parts : List RowPart) (cause : Cause) → LateReport source k s parts cause → IsOfInput cause
+report_late_is Stated k s parts cause (i, part, at, late) = part_late_is k s part cause late
+report_late_is (Lifted q) k s parts cause late = absurd late
+
+rows_late_is : (w : Cochain) (given : Given) (report : Option RowReport) (cause : Cause) → LateRows w given report cause → IsOfInput cause
+rows_late_is w given None cause late = absurd late
+rows_late_is w given (Some report) cause late = report_late_is report.source _ _ report.parts cause late
 
 pub late_is : (command : Command) (document : Document) (cause : Cause) → Late command document cause → IsOfInput cause
-late_is command document cause late = rows_late_is _ command.rows document.characters cause late
+late_is command document cause late = rows_late_is _ (given_in document) command.rows cause late
 
 -- ---- where no test says anything
 
-map_none : {F : Type 0} (C : F → Cause) (o : Option F) → option_map C o ≡ None → o ≡ None
+pub map_none : {F : Type 0} (C : F → Cause) (o : Option F) → option_map C o ≡ None → o ≡ None
 map_none C None e = refl
 map_none C (Some fault) e = absurd cc
 
@@ -161,7 +231,7 @@ unless_none : (b : Bool) (cause : Cause) → cond b None (Some cause) ≡ None �
 unless_none true cause e = refl
 unless_none false cause e = absurd cc
 
-conductor_found : (multiple : ℕ) (found : Option ℕ) → without_conductor multiple found ≡ None → found ≡ Some (unwrap_or found 0)
+pub conductor_found : (multiple : ℕ) (found : Option ℕ) → without_conductor multiple found ≡ None → found ≡ Some (unwrap_or found 0)
 conductor_found multiple None e = absurd cc
 conductor_found multiple (Some k) e = refl
 
@@ -172,22 +242,53 @@ tables_good w k blocks none c below =
     let passed = first_none-at _ c (λ c. table_cause (class_twist w c) (class_table k blocks c)) none below in
     nothing_missed (class_twist w c) (class_table k blocks c) (map_none (cause_of_miss (class_twist w c) (class_table k blocks c)) _ passed)
 
-rows_verified : (w : Cochain) (report : RowReport) (given : Given) → rows_test w (Some report) (Some given) ≡ None → IsVerified report.most_simples w given
-unfolding matching_test conductor_test conductor_of
-rows_verified w report given none =
-    let (matching, after) = or_none _ _ none in
-    let (conductor, after_conductor) = or_none _ _ matching in
-    let (stated, after_stated) = or_none _ _ after_conductor in
-    let (few, after_few) = or_none _ _ after_stated in
+-- the tables of lifted rows are good, where the modulus is valid
+lifted_verified : (q : ℕ) (w : Cochain) → IsCocycle w → least_conductor (root_order w) ≡ Some (conductor_of w) → modulus_fault q w.group.order (conductor_of w) ≡ None
+    → lifting_test w (field_for q w) ≡ None → IsLifted q w × AreGood w (conductor_of w) (lifted_by w (field_for q w))
+unfolding modulus_cause
+lifted_verified q w cocycle conductor valid none =
+    let k = conductor_of w in
+    let (ring, field) = (valid_field q k w.group.order (least_is_conductor _ _ conductor).0 valid).1 in
+    let (lifted, tables) = or_none _ _ (subst (λ (f : Option ModRing). lifting_test w f ≡ None) field none) in
+    let blocks = lifted_blocks ring w in
+    let good : AreGood w k blocks =
     record {
-      conductor = conductor_found _ _ conductor;
-      stated = eqb-true _ _ (unless_none _ _ stated);
-      few = leb-true _ _ (unless_none _ _ few);
-      rows = record {
-        matched = shape_matches _ _ (map_none causes.Shape _ (or_none _ _ after_few).0);
-        good = tables_good w _ given.blocks (or_none _ _ after).0;
-      };
-    }
+      matched = lifted_matched ring w;
+      good = tables_good w k blocks (subst (λ n. tables_cause w n blocks ≡ None) (numbers_of_field q k ring field).1 tables);
+    } in
+    (record { valid = valid; ring = ring; field = field; lifted = lifted }, subst (λ (f : Option ModRing). AreGood w k (lifted_by w f)) (sym field) good)
+
+-- the fusion numbers that are asked for are there
+numbers_there : (k : ℕ) (s : SimplesOver) (parts : List RowPart) → numbers_test k s parts ≡ None → have_numbers parts ≡ true → whole_fault k s ≡ None
+numbers_there k s parts none asked = map_none (not_whole k s) (whole_fault k s) (subst (λ b. cond b (whole_test k s) None ≡ None) asked none)
+
+source_verified : (source : RowSource) (w : Cochain) (given : Given) (parts : List RowPart) → IsCocycle w → least_conductor (root_order w) ≡ Some (conductor_of w)
+    → first_of_all (source_tests source w given parts) ≡ None
+    → HasRows source w given × (sum (class_ranks w) ≤ most_simples parts) × AreGood w (conductor_of w) (blocks_of source w given)
+    × HasNumbers source (conductor_of w) (simples_over w (blocks_of source w given)) parts
+source_verified Stated w given parts cocycle conductor none =
+    let (stated, after_stated) = or_none _ _ none in
+    let (few, after_few) = or_none _ _ after_stated in
+    let (shape, after_shape) = or_none _ _ after_few in (
+      eqb-true _ _ (unless_none _ _ stated),
+      leb-true _ _ (unless_none _ _ few),
+      record { matched = shape_matches _ _ (map_none causes.Shape _ shape); good = tables_good w _ given.blocks (or_none _ _ after_shape).0 },
+      tt,
+    )
+source_verified (Lifted q) w given parts cocycle conductor none =
+    let (modulus, after_modulus) = or_none _ _ none in
+    let (few, after_few) = or_none _ _ after_modulus in
+    let (lifting, after_lifting) = or_none _ _ after_few in
+    let (lifted, good) = lifted_verified q w cocycle conductor (map_none causes.Modulus _ modulus) lifting in
+    (lifted, leb-true _ _ (unless_none _ _ few), good, numbers_there _ _ parts (or_none _ _ after_lifting).0)
+
+rows_verified : (w : Cochain) (given : Given) (report : RowReport) → IsCocycle w → report_test w given report ≡ None → IsVerified w given report
+unfolding report_test conductor_test conductor_of
+rows_verified w given report cocycle none =
+    let (conductor, after_conductor) = or_none _ _ none in
+    let found = conductor_found _ _ conductor in
+    let (source, few, rows, numbers) = source_verified report.source w given report.parts cocycle found after_conductor in
+    record { conductor = found; source = source; few = few; rows = rows; numbers = numbers }
 
 pub input_accepted : (command : Command) (bytes : List ℕ) → stop_of (form_of command) bytes ≡ None → refusal command bytes ≡ None → IsAccepted command bytes
 unfolding refusal document_test
@@ -196,14 +297,14 @@ input_accepted command bytes document none =
     let passes = (or_none _ _ (or_none (scan_test (stop_of (form_of command) bytes)) _ none).1).0 in
     let (group_passes, after_group) = or_none (option_map causes.Group (group_fault (table_of d))) _ passes in
     let (cocycle_passes, after_cocycle) = or_none (option_map causes.Cocycle (cocycle_fault (exponents_of d))) _ after_group in
-    let rows_pass = (or_none (rows_test (exponents_of d) command.rows d.characters) _ after_cocycle).0 in
+    let rows_pass = (or_none (rows_test (exponents_of d) (given_in d) command.rows) _ after_cocycle).0 in
     let group = map_none causes.Group _ group_passes in
+    let cocycle = document_cocycle command bytes document group (map_none causes.Cocycle _ cocycle_passes) in
     record {
       document = document;
       group = document_group command bytes document group;
-      cocycle = document_cocycle command bytes document group (map_none causes.Cocycle _ cocycle_passes);
+      cocycle = cocycle;
       verified = λ report is.
-          rows_verified (exponents_of d) report (given_in d)
-          (subst (λ (r : Option RowReport). rows_test (exponents_of d) r (Some (given_in d)) ≡ None) is
-          (subst (λ (g : Option Given). rows_test (exponents_of d) command.rows g ≡ None) (given_is command bytes report is) rows_pass));
+          rows_verified (exponents_of d) (given_in d) report cocycle
+          (subst (λ (r : Option RowReport). rows_test (exponents_of d) (given_in d) r ≡ None) is rows_pass);
     }

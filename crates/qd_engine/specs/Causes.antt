@@ -12,13 +12,24 @@ use Rattle.cyclotomic.specs.Conductors.{is_conductor, least_conductor}
 use Rattle.classes.specs.Conjugacy.{representatives}
 use Rattle.table_check.specs.Good.{IsGood}
 use Rattle.table_check.specs.Idempotents.{AreIdempotents}
+use Rattle.prime_field.specs.Moduli.{modulus_fault}
+use Rattle.prime_field.specs.declared.mod_ring.ModRing.{ModRing}
+use Rattle.twist_lift.specs.Laws.{root_order}
 use Rattle.qd_steps.specs.Matched.{IsMatched}
-use Rattle.qd_steps.specs.Tables.{class_twist, class_table}
-use Rattle.qd_engine.specs.Words.{command_of, read_of, form_of}
-use Rattle.qd_engine.specs.Documents.{document_in, table_of, exponents_of, given_in, root_order, conductor_of}
+use Rattle.qd_steps.specs.ByModulus.{lifts_cause}
+use Rattle.transport.specs.Simples.{SimplesOver}
+use Rattle.fusion.specs.Numbers.{whole_fault}
+use Rattle.qd_steps.specs.Tables.{class_twist, class_table, simples_over}
+use Rattle.qd_engine.specs.Words.{command_of, read_of, have_numbers, most_simples, form_of}
+use Rattle.qd_engine.specs.Documents.{document_in, table_of, exponents_of, given_in, conductor_of}
+use Rattle.qd_engine.specs.Sources.{field_for, blocks_of}
 use Rattle.qd_engine.specs.Report.{class_ranks, report_in}
 use Rattle.qd_engine.specs.Tests.{refusal, Late}
 use Rattle.qd_engine.specs.Answers.{Said, Whole, Cut, status_of}
+use Rattle.qd_engine.specs.Headline.{AreModularData, HasFusionRule}
+use Rattle.qd_engine.specs.declared.command.RowSource.{RowSource}
+use Rattle.qd_engine.specs.declared.command.RowSource.TheVariants.{Stated, Lifted}
+use Rattle.qd_engine.specs.declared.command.RowPart.{RowPart}
 use Rattle.qd_engine.specs.declared.command.RowReport.{RowReport}
 use Rattle.qd_engine.specs.declared.command.Command.{Command}
 use Rattle.qd_engine.specs.declared.answer.Outcome.{Outcome}
@@ -61,26 +72,44 @@ pub record AreGood (w : Cochain) (k : ℕ) (blocks : List Block) : Type 0 where
   pub matched : IsMatched w.group blocks
   pub good : (c : ℕ) → c < length (representatives w.group) → IsGood (class_twist w c) (class_table k blocks c)
 
--- the rows that a document gives are of the conductor that is needed, which it states; there are no more simples than this;
--- and the rows are good tables
-pub record IsVerified (most : ℕ) (w : Cochain) (given : Given) : Type 0 where
+-- q is a valid modulus, and by it each candidate of each class has its degree and its multiplicities
+pub record IsLifted (q : ℕ) (w : Cochain) : Type 0 where
+  pub valid : modulus_fault q w.group.order (conductor_of w) ≡ None
+  pub ring : ModRing
+  pub field : field_for q w ≡ Some ring
+  pub lifted : lifts_cause ring w ≡ None
+
+-- the source gives rows of the conductor: the one that is stated is the one that is needed, or the rows are lifted
+abbrev pub HasRows : RowSource → Cochain → Given → Type 0
+HasRows Stated w given = given.conductor ≡ conductor_of w
+HasRows (Lifted q) w given = IsLifted q w
+
+-- where fusion numbers are asked for of lifted rows, each fusion sum of their simples gives one
+abbrev pub HasNumbers : RowSource → (k : ℕ) → SimplesOver → List RowPart → Type 0
+HasNumbers Stated k s parts = ⊤
+HasNumbers (Lifted q) k s parts = have_numbers parts ≡ true → whole_fault k s ≡ None
+
+-- there is a conductor, and the source gives rows of it; there are no more simples than the command takes; the rows are good
+-- tables; and their simples have the fusion numbers that are asked for
+pub record IsVerified (w : Cochain) (given : Given) (report : RowReport) : Type 0 where
   pub conductor : least_conductor (root_order w) ≡ Some (conductor_of w)
-  pub stated : given.conductor ≡ conductor_of w
-  pub few : sum (class_ranks w) ≤ most
-  pub rows : AreGood w (conductor_of w) given.blocks
+  pub source : HasRows report.source w given
+  pub few : sum (class_ranks w) ≤ most_simples report.parts
+  pub rows : AreGood w (conductor_of w) (blocks_of report.source w given)
+  pub numbers : HasNumbers report.source (conductor_of w) (simples_over w (blocks_of report.source w given)) report.parts
 
 -- a fact about the cocycle and the rows of a document, for a command with rows
-abbrev pub OfRows : Command → Document → (RowReport → Cochain → Given → Type 0) → Type 0
+abbrev pub OfRows : Command → Document → (Cochain → Given → RowReport → Type 0) → Type 0
 OfRows command document P =
-    (report : RowReport) → command.rows ≡ Some report → P report (exponents_of document) (given_in document)
+    (report : RowReport) → command.rows ≡ Some report → P (exponents_of document) (given_in document) report
 
 -- the input is a document of the form that the command reads; its table is a group, and its exponents are a normalised
--- 3-cocycle of it; for a command with rows, those that it gives are good tables
+-- 3-cocycle of it; for a command with rows, these are good tables
 pub record IsAccepted (command : Command) (bytes : List ℕ) : Type 0 where
   pub document : stop_of (form_of command) bytes ≡ None
   pub group : IsGroup (table_of (document_in command bytes))
   pub cocycle : IsCocycle (exponents_of (document_in command bytes))
-  pub verified : OfRows command (document_in command bytes) (λ report w given. IsVerified report.most_simples w given)
+  pub verified : OfRows command (document_in command bytes) IsVerified
 
 -- what holds where the program has this to say. Want of memory says nothing
 abbrev pub MeansSo : List (List ℕ) → Option (List ℕ) → Type 0 → Outcome → Type 0
@@ -101,8 +130,29 @@ pub record GiveIdempotents (w : Cochain) (k : ℕ) (blocks : List Block) : Type 
   pub idempotents : (c : ℕ) → c < length (representatives w.group)
       → AreIdempotents (class_twist w c) (class_table k blocks c) conductor
 
--- The program is done: the words are a command, the input is accepted, the rows of a command that has rows give the
--- idempotents, and the sink has exactly the report of that.
+-- the rows of a report give simples whose numbers are modular data
+abbrev pub GiveModularData : Cochain → Given → RowReport → Type 0
+GiveModularData w given report = AreModularData (conductor_of w) (simples_over w (blocks_of report.source w given))
+
+-- where fusion numbers are asked for of lifted rows, those of their simples are a fusion rule
+abbrev pub HasRule : RowSource → (k : ℕ) → SimplesOver → List RowPart → Type 0
+HasRule Stated k s parts = ⊤
+HasRule (Lifted q) k s parts = have_numbers parts ≡ true → HasFusionRule k s
+
+-- the fusion numbers that a report has are a fusion rule
+abbrev pub GiveFusionRule : Cochain → Given → RowReport → Type 0
+GiveFusionRule w given report =
+    HasRule report.source (conductor_of w) (simples_over w (blocks_of report.source w given)) report.parts
+
+-- The headline, of the rows of a report: for each class they give nonzero orthogonal central idempotents of its twisted group algebra
+-- that add up to one, as many as its rank; the numbers of their simples are modular data; and the fusion numbers are a fusion rule
+pub record GiveDouble (w : Cochain) (given : Given) (report : RowReport) : Type 0 where
+  pub idempotents : GiveIdempotents w (conductor_of w) (blocks_of report.source w given)
+  pub modular : GiveModularData w given report
+  pub fusion : GiveFusionRule w given report
+
+-- The program is done: the words are a command, the input is accepted, the headline holds of a command that has rows, and the sink
+-- has exactly the report of that.
 pub record IsDone (words : List (List ℕ)) (left before after : Option (List ℕ)) : Type 0 where
   pub command : Command
   pub asked : command_of words ≡ Some command
@@ -110,5 +160,5 @@ pub record IsDone (words : List (List ℕ)) (left before after : Option (List �
   pub input : Agrees (read_of words left) bytes
   pub short : length bytes ≤ INPUT_LIMIT
   pub accepted : IsAccepted command bytes
-  pub idempotents : OfRows command (document_in command bytes) (λ report w given. GiveIdempotents w (conductor_of w) given.blocks)
+  pub headline : OfRows command (document_in command bytes) GiveDouble
   pub report : Appends before after (report_in command bytes)

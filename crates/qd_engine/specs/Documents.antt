@@ -1,9 +1,9 @@
 -- What a document says: its table, its exponents, and the rows that it gives.
-use Rattle.std.specs.Prelude.{ℕ, ◌*◌, List, [], unwrap_or}
-use Rattle.orders.specs.Order.{exponent_of}
+use Rattle.std.specs.Prelude.{ℕ, List, [], Option, unwrap_or}
 use Rattle.cyclotomic.specs.Conductors.{least_conductor}
-use Rattle.group_table.specs.Group.{Table, product, identity_of}
+use Rattle.group_table.specs.Group.{Table}
 use Rattle.cochain.specs.Cochain.{Cochain, cochain_of}
+use Rattle.twist_lift.specs.Laws.{root_order}
 use Rattle.qd_text.specs.Tokens.{tokens}
 use Rattle.qd_doc.specs.Contents.{document_of}
 use Rattle.qd_doc.specs.declared.document.Document.{Document}
@@ -21,14 +21,13 @@ table_of document = record { order = document.order; entries = document.table }
 abbrev pub exponents_of : Document → Cochain
 exponents_of document = cochain_of (table_of document) document.roots document.exponents
 
--- the rows that a document gives. Where it gives none, it is one without characters, of which this is not asked
+-- the rows that a document gives, where it gives some; else no blocks, of which no command reports
+abbrev pub given_or_none : Option Given → Given
+given_or_none characters = unwrap_or characters (record { conductor = 0; blocks = [] })
+
 abbrev pub given_in : Document → Given
-given_in document = unwrap_or document.characters (record { conductor = 0; blocks = [] })
+given_in document = given_or_none document.characters
 
--- the number of roots times the exponent of the group, of which the conductor has to be a multiple
-abbrev pub root_order : Cochain → ℕ
-root_order w = w.roots * exponent_of w.group.order (product w.group) (identity_of w.group)
-
--- the conductor: the least in the table that is such a multiple; 0 where there is none
+-- the conductor: the least in the table that is a multiple of the number of roots times the exponent of the group; 0 where there is none
 unfoldable pub conductor_of : Cochain → ℕ
 conductor_of w = unwrap_or (least_conductor (root_order w)) 0

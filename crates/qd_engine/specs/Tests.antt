@@ -17,13 +17,22 @@ use Rattle.cyclotomic.specs.Conductors.{least_conductor}
 use Rattle.modular_st.specs.Numerators.{IsOverflow}
 use Rattle.transport.specs.Simples.{SimplesOver}
 use Rattle.qd_ring.specs.declared.site.Site.{Site}
-use Rattle.qd_steps.specs.Tables.{tables_cause, simples_over}
-use Rattle.qd_engine.specs.Words.{command_of, form_of}
-use Rattle.qd_engine.specs.Documents.{document_in, table_of, exponents_of, root_order, conductor_of}
+use Rattle.prime_field.specs.Moduli.{modulus_fault}
+use Rattle.prime_field.specs.declared.mod_ring.ModRing.{ModRing}
+use Rattle.twist_lift.specs.Laws.{root_order}
+use Rattle.transport.specs.Fusion.{fusion_sum}
+use Rattle.fusion.specs.Numbers.{whole_fault}
+use Rattle.qd_steps.specs.Tables.{plain_of, tables_cause, simples_over}
+use Rattle.qd_steps.specs.ByModulus.{modulus_cause}
+use Rattle.qd_engine.specs.Words.{command_of, have_numbers, most_simples, form_of}
+use Rattle.qd_engine.specs.Documents.{document_in, table_of, exponents_of, given_in, conductor_of}
+use Rattle.qd_engine.specs.Sources.{field_for, lifted_by, blocks_of}
 use Rattle.qd_engine.specs.Shape.{shape_fault}
 use Rattle.qd_engine.specs.Report.{class_ranks, report_in}
 use Rattle.qd_engine.specs.declared.command.RowPart.{RowPart}
 use Rattle.qd_engine.specs.declared.command.RowPart.TheVariants as row_parts
+use Rattle.qd_engine.specs.declared.command.RowSource.{RowSource}
+use Rattle.qd_engine.specs.declared.command.RowSource.TheVariants.{Stated, Lifted}
 use Rattle.qd_engine.specs.declared.command.RowReport.{RowReport}
 use Rattle.qd_engine.specs.declared.command.Command.{Command}
 use Rattle.data_print.specs.declared.cause.Cause.{Cause}
@@ -64,19 +73,57 @@ simples_test ranks most = if nat_le ranks most then None else Some (causes.Simpl
 abbrev pub shape_test : Table → List Block → Option Cause
 shape_test t blocks = option_map causes.Shape (shape_fault t blocks)
 
--- the tests of the rows that are stated, before the tables
-unfoldable pub matching_test : RowReport → Cochain → Given → Option Cause
-matching_test report w given =
-    let stated = stated_test given.conductor (conductor_of w) in
-    let few = simples_test (sum (class_ranks w)) report.most_simples in
-    first_of_all (conductor_test w ∷ stated ∷ few ∷ shape_test w.group given.blocks ∷ [])
+-- q is no valid modulus for the order of the group and the conductor
+abbrev pub modulus_test : ℕ → Cochain → Option Cause
+modulus_test q w = option_map causes.Modulus (modulus_fault q w.group.order (conductor_of w))
 
--- all tests of these rows
-abbrev pub rows_test : Cochain → Option RowReport → Option Given → Option Cause
-rows_test w None given = None
-rows_test w (Some report) None = None
-rows_test w (Some report) (Some given) =
-    first_of_all (matching_test report w given ∷ tables_cause w (conductor_of w) given.blocks ∷ [])
+-- the rows that are lifted by a field are refused, or their tables
+abbrev pub lifting_test : Cochain → Option ModRing → Option Cause
+lifting_test w None = None
+lifting_test w (Some ring) = modulus_cause ring w
+
+-- some fusion sum is not the order of the group times a whole number of at least 0; this is the first
+abbrev pub not_whole : (k : ℕ) → SimplesOver → ℕ × ℕ × ℕ → Cause
+not_whole k s (i, j, l) = causes.NotWhole i j l (plain_of k (fusion_sum k s i j l).value)
+
+abbrev pub whole_test : (k : ℕ) → SimplesOver → Option Cause
+whole_test k s = option_map (not_whole k s) (whole_fault k s)
+
+-- the same for a report with these parts, where one of them says something of fusion numbers
+abbrev pub numbers_test : (k : ℕ) → SimplesOver → List RowPart → Option Cause
+numbers_test k s parts = if have_numbers parts then whole_test k s else None
+
+-- the tests of rows that are stated, for a report with these parts
+abbrev pub stated_tests : Cochain → Given → List RowPart → List (Option Cause)
+stated_tests w given parts =
+    stated_test given.conductor (conductor_of w)
+    ∷ simples_test (sum (class_ranks w)) (most_simples parts)
+    ∷ shape_test w.group given.blocks
+    ∷ tables_cause w (conductor_of w) given.blocks
+    ∷ []
+
+-- those of rows that are lifted modulo q
+abbrev pub lifted_tests : Cochain → ℕ → List RowPart → List (Option Cause)
+lifted_tests w q parts =
+    modulus_test q w
+    ∷ simples_test (sum (class_ranks w)) (most_simples parts)
+    ∷ lifting_test w (field_for q w)
+    ∷ numbers_test (conductor_of w) (simples_over w (lifted_by w (field_for q w))) parts
+    ∷ []
+
+-- those of the rows of a source
+abbrev pub source_tests : RowSource → Cochain → Given → List RowPart → List (Option Cause)
+source_tests Stated w given parts = stated_tests w given parts
+source_tests (Lifted q) w given parts = lifted_tests w q parts
+
+-- all tests of the rows of a report, in order
+unfoldable pub report_test : Cochain → Given → RowReport → Option Cause
+report_test w given report = first_of_all (conductor_test w ∷ source_tests report.source w given report.parts)
+
+-- those of a command, where it reports on rows
+abbrev pub rows_test : Cochain → Given → Option RowReport → Option Cause
+rows_test w given None = None
+rows_test w given (Some report) = report_test w given report
 
 -- the table is no group
 abbrev pub group_test : Document → Option Cause
@@ -90,7 +137,7 @@ cocycle_test document = option_map causes.Cocycle (cocycle_fault (exponents_of d
 unfoldable pub document_test : Command → Document → Option Cause
 document_test command document =
     let w = exponents_of document in
-    first_of_all (group_test document ∷ cocycle_test document ∷ rows_test w command.rows document.characters ∷ [])
+    first_of_all (group_test document ∷ cocycle_test document ∷ rows_test w (given_in document) command.rows ∷ [])
 
 -- all tests of an input that is short enough, in order
 abbrev pub tests : Command → List ℕ → List (Option Cause)
@@ -110,13 +157,18 @@ LatePart k s part cause = ⊥
 abbrev pub LateIn : (k : ℕ) → SimplesOver → List RowPart → Cause → Type 0
 LateIn k s parts cause = (i : ℕ) × (part : RowPart) × (slice_get parts i ≡ Some part) × LatePart k s part cause
 
-abbrev pub LateRows : Cochain → Option RowReport → Option Given → Cause → Type 0
-LateRows w None given cause = ⊥
-LateRows w (Some report) None cause = ⊥
-LateRows w (Some report) (Some given) cause = LateIn (conductor_of w) (simples_over w given.blocks) report.parts cause
+-- nothing comes late where the rows are lifted
+abbrev pub LateReport : RowSource → (k : ℕ) → SimplesOver → List RowPart → Cause → Type 0
+LateReport Stated k s parts cause = LateIn k s parts cause
+LateReport (Lifted q) k s parts cause = ⊥
+
+abbrev pub LateRows : Cochain → Given → Option RowReport → Cause → Type 0
+LateRows w given None cause = ⊥
+LateRows w given (Some report) cause =
+    LateReport report.source (conductor_of w) (simples_over w (blocks_of report.source w given)) report.parts cause
 
 abbrev pub Late : Command → Document → Cause → Type 0
-Late command document cause = LateRows (exponents_of document) command.rows document.characters cause
+Late command document cause = LateRows (exponents_of document) (given_in document) command.rows cause
 
 -- the report, where nothing is refused
 abbrev pub report_unless : Option Cause → List ℕ → Result (List ℕ) Cause

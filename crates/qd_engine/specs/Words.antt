@@ -1,17 +1,25 @@
 -- The grammar of the program's words, which follow its name, and the table of its commands.
-use Rattle.std.specs.Prelude.{ℕ, List, [], ◌∷◌, map, codes, Bool, is_some, Option, Some, None, if◌then◌else◌, String, string_bytes}
+use Rattle.std.specs.Prelude.{ℕ, List, [], ◌∷◌, map, codes, Bool, true, false, ◌&&◌, nat_le, is_some, Option, Some, None, if◌then◌else◌, String, string_bytes}
+use Rattle.std.specs.List.{list_any}
+use Rattle.std.specs.Option.{option_and_then}
 use Rattle.std.specs.Global.{Global}
 use Rattle.qd_doc.specs.Kinds.{is_word}
 use Rattle.qd_doc.specs.declared.document.Form.{Form}
 use Rattle.qd_doc.specs.declared.document.Form.TheVariants.{Bare, WithCharacters}
+use Rattle.qd_engine.specs.NumberWords.{number_word}
 use Rattle.qd_engine.specs.declared.command.Part.TheVariants as front_parts
+use Rattle.qd_engine.specs.declared.command.RowPart.{RowPart}
 use Rattle.qd_engine.specs.declared.command.RowPart.TheVariants as row_parts
+use Rattle.qd_engine.specs.declared.command.RowSource.{RowSource}
+use Rattle.qd_engine.specs.declared.command.RowSource.TheVariants.{Stated, Lifted}
 use Rattle.qd_engine.specs.declared.command.RowReport.{RowReport}
 use Rattle.qd_engine.specs.declared.command.Command.{Command}
 
 -- the bytes of each word
 abbrev pub texts : List (String Global) → List (List ℕ)
 texts words = map string_bytes words
+
+-- ---- the reports
 
 -- whether a document has a group and a normalised 3-cocycle of it
 abbrev pub check_command : Command
@@ -26,20 +34,79 @@ abbrev pub verify_command : Command
 verify_command = record {
   parts = front_parts.Head ∷ front_parts.Classes ∷ front_parts.Blank ∷ [];
   rows = Some (record {
-    most_simples = 256;
-    parts = row_parts.Conductor ∷ row_parts.Simples ∷ row_parts.S ∷ row_parts.End ∷ [];
+    source = Stated;
+    parts = row_parts.Conductor ∷ row_parts.Simples ∷ row_parts.S ∷ row_parts.End ∷ row_parts.Blank ∷ row_parts.Blank ∷ row_parts.Blank ∷ [];
   });
 }
 
--- the command that the words ask for: `check`, `classes` or `verify`, alone
-abbrev pub command_of : List (List ℕ) → Option Command
-command_of [] = None
-command_of (word ∷ []) =
+-- the simples by rows that are lifted from a modulus, with these parts after their lines
+abbrev pub lifted : ℕ → List RowPart → Command
+lifted q after = record {
+  parts = front_parts.Head ∷ front_parts.Classes ∷ front_parts.Blank ∷ [];
+  rows = Some (record {
+    source = Lifted q;
+    parts = row_parts.Conductor ∷ row_parts.Modulus ∷ row_parts.Simples ∷ after;
+  });
+}
+
+-- a document with the rows that are lifted from a modulus
+abbrev pub certificate : ℕ → Command
+certificate q = record {
+  parts = front_parts.Blank ∷ front_parts.Blank ∷ front_parts.Blank ∷ [];
+  rows = Some (record {
+    source = Lifted q;
+    parts = row_parts.Document ∷ row_parts.Blank ∷ row_parts.Blank ∷ row_parts.Blank ∷ row_parts.Blank ∷ row_parts.Blank ∷ row_parts.Blank ∷ [];
+  });
+}
+
+-- a part says something of fusion numbers
+abbrev pub has_numbers : RowPart → Bool
+has_numbers row_parts.Fusion = true
+has_numbers (row_parts.Indicators order) = true
+has_numbers part = false
+
+-- some part does
+abbrev pub have_numbers : List RowPart → Bool
+have_numbers parts = list_any has_numbers parts
+
+-- the most simples that a report with these parts takes
+abbrev pub most_simples : List RowPart → ℕ
+most_simples parts = if have_numbers parts then 64 else 256
+
+-- ---- the grammar
+
+-- the command of a word that stands alone
+abbrev pub alone : List ℕ → Option Command
+alone word =
     if is_word word (codes "check") then Some check_command
     else if is_word word (codes "classes") then Some classes_command
     else if is_word word (codes "verify") then Some verify_command
     else None
-command_of (word ∷ next ∷ rest) = None
+
+-- the command of a word that a modulus q follows
+abbrev pub with_modulus : List ℕ → ℕ → Option Command
+with_modulus word q =
+    if is_word word (codes "simples") then Some (lifted q (row_parts.End ∷ row_parts.Blank ∷ row_parts.Blank ∷ row_parts.Blank ∷ []))
+    else if is_word word (codes "data") then Some (lifted q (row_parts.S ∷ row_parts.End ∷ row_parts.Blank ∷ row_parts.Blank ∷ []))
+    else if is_word word (codes "fusion") then Some (lifted q (row_parts.S ∷ row_parts.Fusion ∷ row_parts.End ∷ row_parts.Blank ∷ []))
+    else if is_word word (codes "certificate") then Some (certificate q)
+    else None
+
+-- the command of a word that a modulus q and an order m follow
+abbrev pub with_order : List ℕ → ℕ → ℕ → Option Command
+with_order word q m =
+    if is_word word (codes "indicators") && nat_le 1 m
+    then Some (lifted q (row_parts.S ∷ row_parts.Fusion ∷ row_parts.Indicators m ∷ row_parts.End ∷ []))
+    else None
+
+-- the command that the words ask for: a word alone, or with a modulus, or with a modulus and an order
+abbrev pub command_of : List (List ℕ) → Option Command
+command_of [] = None
+command_of (word ∷ []) = alone word
+command_of (word ∷ modulus ∷ []) = option_and_then (with_modulus word) (number_word modulus)
+command_of (word ∷ modulus ∷ order ∷ []) =
+    option_and_then (λ q. option_and_then (with_order word q) (number_word order)) (number_word modulus)
+command_of (word ∷ modulus ∷ order ∷ next ∷ rest) = None
 
 -- the words are a command, and so the source is read
 abbrev pub reads_by : List (List ℕ) → Bool
@@ -49,10 +116,14 @@ reads_by words = is_some (command_of words)
 abbrev pub read_of : List (List ℕ) → Option (List ℕ) → Option (List ℕ)
 read_of words left = if reads_by words then left else Some []
 
--- the form of document that a command reads: with characters, where it has rows
+-- the form of document that a command reads: with characters, where the document states its rows
+abbrev pub form_by : RowSource → Form
+form_by Stated = WithCharacters
+form_by (Lifted q) = Bare
+
 abbrev pub form_for : Option RowReport → Form
 form_for None = Bare
-form_for (Some report) = WithCharacters
+form_for (Some report) = form_by report.source
 
 abbrev pub form_of : Command → Form
 form_of command = form_for command.rows

@@ -1,9 +1,12 @@
+//! What the program has to say, and how it ends: causes, answers and their statuses.
+
 ghost use Rattle.std.specs.Prelude.{◌≡◌};
 ghost use Rattle.qd_engine.specs.Answers.{said_by, Whole, status_of_cause, status_of};
 
 use cochain::CocycleFault;
 use data_print::{Cause, ShapeFault};
 use group_table::GroupFault;
+use prime_field::ModulusFault;
 use qd_ring::{Plain, Site};
 use qd_text::Expected;
 use table_check::IdentityName;
@@ -53,6 +56,8 @@ pub enum Why {
         stated: u32,
         needed: u32,
     },
+    /// The number is no valid modulus for the order of the group and the conductor.
+    Modulus(ModulusFault),
     /// The sum of the ranks is over the most that the command takes.
     Simples {
         ranks: u32,
@@ -60,6 +65,20 @@ pub enum Why {
     },
     /// The blocks of characters don't match the classes.
     Shape(ShapeFault),
+    /// No degree fits the sum `s`, a residue, of this row of the class of `at`.
+    NoDegree {
+        at: u32,
+        row: u32,
+        s: u32,
+    },
+    /// The multiplicities of this row of the class of `at` at the element `x` add up to `sum`, and not to the degree.
+    Multiplicity {
+        at: u32,
+        row: u32,
+        x: u32,
+        sum: u32,
+        degree: u32,
+    },
     /// The table of the class of `at` has not as many rows as its rank says.
     Count {
         at: u32,
@@ -85,6 +104,13 @@ pub enum Why {
     /// No row of the table of the class of the identity has every value 1.
     NoVacuum {
         rows: u32,
+    },
+    /// The fusion sum of i, j and k is not the order of the group times a whole number of at least 0.
+    NotWhole {
+        i: u32,
+        j: u32,
+        k: u32,
+        value: Plain,
     },
     /// A listed sum does not fit.
     Overflow {
@@ -136,8 +162,25 @@ fn why_of_cause(cause: Cause) -> Why
         Cause::Cocycle(fault) => Why::Cocycle(fault),
         Cause::NoConductor { multiple } => Why::NoConductor { multiple },
         Cause::Conductor { stated, needed } => Why::Conductor { stated, needed },
+        Cause::Modulus(fault) => Why::Modulus(fault),
         Cause::Simples { ranks, most } => Why::Simples { ranks, most },
         Cause::Shape(fault) => Why::Shape(fault),
+        Cause::NoDegree { at, row, s } => Why::NoDegree { at, row, s },
+        Cause::Multiplicity {
+            at,
+            row,
+            x,
+            sum,
+            degree,
+        } => {
+            Why::Multiplicity {
+                at,
+                row,
+                x,
+                sum,
+                degree,
+            }
+        }
         Cause::Count { at, rows, rank } => Why::Count { at, rows, rank },
         Cause::Identity {
             name,
@@ -160,6 +203,7 @@ fn why_of_cause(cause: Cause) -> Why
         }
         Cause::NoTwist { at, row, value } => Why::NoTwist { at, row, value },
         Cause::NoVacuum { rows } => Why::NoVacuum { rows },
+        Cause::NotWhole { i, j, k, value } => Why::NotWhole { i, j, k, value },
         Cause::Overflow { site } => Why::Overflow { site },
     }
 }
@@ -175,8 +219,11 @@ fn status_of_cause(cause: &Cause) -> u8
         Cause::Cocycle(_) => 5,
         Cause::TooLong | Cause::Order { .. } | Cause::Roots { .. } => 6,
         Cause::NoConductor { .. } | Cause::Conductor { .. } | Cause::Simples { .. } => 6,
+        Cause::Modulus(_) => 7,
+        Cause::NoDegree { .. } | Cause::Multiplicity { .. } => 8,
         Cause::Shape(_) | Cause::Count { .. } | Cause::Identity { .. } => 9,
         Cause::NoTwist { .. } | Cause::NoVacuum { .. } => 9,
+        Cause::NotWhole { .. } => 10,
         Cause::Overflow { .. } => 11,
         Cause::Read => 12,
     }

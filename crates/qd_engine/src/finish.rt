@@ -1,3 +1,5 @@
+//! The writing of what there is to say.
+
 ghost use Rattle.std.specs.Prelude.{◌≡◌};
 ghost use Rattle.qd_io.specs.Stream.{Rises};
 ghost use Rattle.qd_engine.specs.Answers.{said_by, status_by};

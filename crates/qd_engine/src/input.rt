@@ -1,3 +1,5 @@
+//! The reading of all that comes in.
+
 ghost use Rattle.std.specs.Prelude.{◌≡◌, ◌≤◌, vec_len, OnOk, IfOk};
 ghost use Rattle.std.specs.Io.KnownBytes.{IsAtEnd};
 ghost use Rattle.qd_io.specs.Stream.{Rises};

@@ -2,14 +2,22 @@
 #![tactic(auto)]
 
 mod answer;
+mod certificate;
 mod command;
+mod conductors;
 mod finish;
+mod indicator_lines;
 mod input;
+pub mod laws;
+mod number_words;
+mod numbers;
 mod ranks;
+mod row_parts;
+mod row_report;
+mod row_tests;
 mod rows;
 mod running;
 mod shape;
-mod stated;
 mod steps;
 mod stop;
 

@@ -1,3 +1,5 @@
+//! The whole program, from its words and its source to its sink.
+
 ghost use Rattle.std.specs.Prelude.{◌≡◌, ℕ, List, true, false, Some, None, Ok, OnOk, IfOk, ◌⊎◌};
 ghost use Rattle.std.specs.Io.KnownBytes.{IsAtEnd};
 ghost use Rattle.qd_io.specs.Stream.{Rises};
@@ -77,8 +79,8 @@ pub fn run<S: Source, W: Sink>(
 ) -> Answer
     ensures status { result.status ≡ status_by (said_by result.why) }
 
-    // Done: the input is a document of a group and a normalised 3-cocycle, for `verify` with good rows, which give orthogonal central
-    // idempotents, and the sink has its report.
+    // Done: the input is a document of a group and a normalised 3-cocycle; the rows of a command that has rows, stated or lifted, are good
+    // tables, which give orthogonal central idempotents and modular data; its fusion numbers are a fusion rule; and the sink has the report.
     ensures done { result.why ≡ Why.Done →
         IsDone (texts words.now.items) (S.left source.old) (W.written sink.old) (W.written sink.new) }
 
@@ -90,8 +92,8 @@ pub fn run<S: Source, W: Sink>(
         (record { before = W.written sink.old; after = W.written sink.new; room = W.room sink.old })
         (Rises (W.faults sink.old) (W.faults sink.new)) (said_by result.why) }
 
-    // Where what is read is known and nothing fails, the answer is what the plan gives, or that there was no memory; in place of a report it
-    // may be a site at which S overflows. So an acceptable input has its report, also over a sink that promises room for it.
+    // Where what is read is known and nothing fails, the answer is what the plan gives, or that there was no memory; in place of a report on
+    // stated rows it may be a site at which S overflows. So an acceptable input has its report, also over a sink that promises room for it.
     ensures decided { (bytes : List ℕ) → read_of (texts words.now.items) (S.left source.old) ≡ Some bytes
         → (Rises (S.faults source.old) (S.faults source.new) → ⊥)
         → (Rises (W.faults sink.old) (W.faults sink.new) → ⊥)

@@ -1,32 +1,32 @@
 //! The steps from the input to the report, each by its test.
 
-ghost use Rattle.std.specs.Prelude.{◌≡◌, ◌≤◌, length, ◌++◌, ℕ, All, None, Some, vec_len, OnOk, IfOk, IfSome};
+ghost use Rattle.std.specs.Prelude.{◌≡◌, ◌≤◌, length, ◌++◌, ℕ, All, None, vec_len, OnOk, IfOk};
 ghost use Rattle.std.specs.Global.{Vec};
 ghost use Rattle.classes.specs.Conjugacy.{representatives};
 ghost use Rattle.group_table.specs.Group.{Table};
 ghost use Rattle.cochain.specs.Cochain.{Cochain};
 ghost use Rattle.qd_text.specs.Tokens.{tokens};
 ghost use Rattle.qd_doc.specs.Grammar.{stop_of};
-ghost use Rattle.qd_doc.specs.Contents.{IsInRange, IsGivenInRange, document_of};
+ghost use Rattle.qd_doc.specs.Contents.{IsInRange, document_of};
 ghost use Rattle.qd_doc.specs.declared.document.Document.{Document};
 ghost use Rattle.qd_io.specs.declared.reading.TheConstants.{INPUT_LIMIT};
 ghost use Rattle.qd_engine.specs.Words.{form_of};
-ghost use Rattle.qd_engine.specs.Documents.{document_in, table_of, exponents_of};
-ghost use Rattle.qd_engine.specs.Report.{class_ranks, part_text, parts_text, rows_text, report_of};
-ghost use Rattle.qd_engine.specs.Tests.{scan_test, group_test, cocycle_test, rows_test, document_test, refusal, LateRows, Late};
+ghost use Rattle.qd_engine.specs.Documents.{document_in, table_of, exponents_of, given_in};
+ghost use Rattle.qd_engine.specs.Sources.{HasRowsOf};
+ghost use Rattle.qd_engine.specs.Report.{class_ranks, part_text, parts_text, report_of};
+ghost use Rattle.qd_engine.specs.Tests.{scan_test, group_test, cocycle_test, rows_test, document_test, refusal, Late};
 ghost use Rattle.qd_engine.specs.Follows.{Tests, Follows};
 ghost use Rattle.qd_engine.specs.Endings.{Reports};
 
-use crate::command::{Command, Part, RowReport, form_of};
+use crate::command::{Command, Part, form_of};
 use crate::ranks::class_ranks;
-use crate::rows::append_numbers;
-use crate::stated::matched_conductor;
+use crate::row_report::append_rows;
 use crate::stop::Stop;
 use classes::Classes;
 use cochain::{Cocycle, CocycleRefusal};
 use data_print::{Cause, append_classes, append_head};
 use group_table::{Group, GroupRefusal, Nats};
-use qd_doc::{DocRefusal, Document, Form, Given, parse};
+use qd_doc::{DocRefusal, Document, Form, parse};
 use std::alloc::{AllocError, Global};
 
 /// The document that the bytes spell, of this form.
@@ -117,54 +117,6 @@ fn append_parts(
     Ok(())
 }
 
-/// Adds the report on the rows that a document gives.
-fn append_stated(
-    out: &mut Vec<u8>,
-    report: &RowReport,
-    w: Cocycle,
-    classes: Classes,
-    ranks: &Nats,
-    given: &Given,
-) -> Result<(), Stop>
-    requires given { IsGivenInRange given.now }
-    requires group { classes ≡ w.group }
-    requires ranks { ranks.now ≡ class_ranks w }
-    requires few { length ranks.now ≤ 60 }
-    requires small { All (λ rank. rank ≤ 60) ranks.now }
-    ensures follows { Follows (rows_test w (Some report.now) (Some given.now))
-        (LateRows w (Some report.now) (Some given.now))
-        (λ done. out.new.items ≡ out.old.items ++ rows_text w (Some report.now) (Some given.now)) result }
-{
-    let k = matched_conductor(&w, &classes, ranks, given, report)?;
-    append_numbers(out, k, &report.parts, w, classes, &given.blocks)
-}
-
-/// Adds the report on rows, where the command has one and the document gives rows.
-fn append_rows(
-    out: &mut Vec<u8>,
-    report: &Option<RowReport>,
-    w: Cocycle,
-    classes: Classes,
-    ranks: &Nats,
-    characters: &Option<Given>,
-) -> Result<(), Stop>
-    requires given { IfSome characters.now IsGivenInRange }
-    requires group { classes ≡ w.group }
-    requires ranks { ranks.now ≡ class_ranks w }
-    requires few { length ranks.now ≤ 60 }
-    requires small { All (λ rank. rank ≤ 60) ranks.now }
-    ensures follows { Follows (rows_test w report.now characters.now) (LateRows w report.now characters.now)
-        (λ done. out.new.items ≡ out.old.items ++ rows_text w report.now characters.now) result }
-{
-    match report {
-        None => Ok(()),
-        Some(report) => match characters {
-            None => Ok(()),
-            Some(given) => append_stated(out, report, w, classes, ranks, given),
-        },
-    }
-}
-
 /// The report of a command on a document and its cocycle, or why there is none.
 fn report(
     alloc: Global,
@@ -173,8 +125,9 @@ fn report(
     w: Cocycle,
 ) -> Result<Vec<u8>, Stop>
     requires shaped { IsInRange document.now }
+    requires stated { HasRowsOf command.now.rows document.now.characters }
     requires cocycle { w ≡ exponents_of document.now }
-    ensures follows { Follows (rows_test (exponents_of document.now) command.now.rows document.now.characters)
+    ensures follows { Follows (rows_test (exponents_of document.now) (given_in document.now) command.now.rows)
         (Late command.now document.now)
         (λ (text : Vec ℕ). text.items ≡ report_of command.now document.now) result }
 {
@@ -197,6 +150,7 @@ fn report(
 #[tactic(auto, unfolding(crate::specs::Tests::document_test))]
 fn report_on(alloc: Global, command: &Command, document: &Document) -> Result<Vec<u8>, Stop>
     requires shaped { IsInRange document.now }
+    requires stated { HasRowsOf command.now.rows document.now.characters }
     ensures follows { Follows (document_test command.now document.now) (Late command.now document.now)
         (λ (text : Vec ℕ). text.items ≡ report_of command.now document.now) result }
 {

@@ -1,3 +1,5 @@
+//! Why there is no report.
+
 ghost use Rattle.std.specs.Prelude.{◌≡◌};
 ghost use Rattle.qd_engine.specs.declared.stop.Stop.TheVariants as stops;
 

@@ -1,3 +1,5 @@
+//! Whole runs over sources and sinks in memory.
+
 use super::*;
 use qd_io::{MemSink, MemSource, SureSink, SureSource};
 use std::alloc::{AllocError, Global};
@@ -20,6 +22,20 @@ const VERIFIED: &str = "group order 2 identity 0 exponent 2\ncocycle roots 2\n\
     simple 2 class 1 degree 1 dimension 1 twist 3\nchi 2 1 -1z1\nsimple 3 class 1 degree 1 dimension 1 twist 1\nchi 3 1 1z1\n\
     S over 2\nS 0 1 1 1 1\nS 1 1 1 -1 -1\nS 2 1 -1 -1 1\nS 3 1 -1 1 -1\nend\n";
 
+/// The report of `data 5` on the twisted group of order two, up to its end.
+const LIFTED: &str = "group order 2 identity 0 exponent 2\ncocycle roots 2\n\
+    class 0 at 0 size 1 centraliser 2 rank 2\nclass 1 at 1 size 1 centraliser 2 rank 2\nsimples 4\nconductor 4\n\
+    modulus 5 root 2\n\
+    simple 0 class 0 degree 1 dimension 1 twist 0\nchi 0 1 1\nsimple 1 class 0 degree 1 dimension 1 twist 0\nchi 1 1 -1\n\
+    simple 2 class 1 degree 1 dimension 1 twist 3\nchi 2 1 -1z1\nsimple 3 class 1 degree 1 dimension 1 twist 1\nchi 3 1 1z1\n\
+    S over 2\nS 0 1 1 1 1\nS 1 1 1 -1 -1\nS 2 1 -1 -1 1\nS 3 1 -1 1 -1\n";
+
+const NUMBERS: &str =
+    "N 0 0 0 1\nN 0 1 1 1\nN 0 2 2 1\nN 0 3 3 1\nN 1 0 1 1\nN 1 1 0 1\nN 1 2 3 1\nN 1 3 2 1\n\
+    N 2 0 2 1\nN 2 1 3 1\nN 2 2 0 1\nN 2 3 1 1\nN 3 0 3 1\nN 3 1 2 1\nN 3 2 1 1\nN 3 3 0 1\n";
+
+const INDICATORS: &str = "indicators 2 over 4\nnu 0 4\nnu 1 4\nnu 2 -4\nnu 3 -4\n";
+
 const VERIFIED_TRIVIAL: &str = "group order 2 identity 0 exponent 2\ncocycle roots 1\n\
     class 0 at 0 size 1 centraliser 2 rank 2\nclass 1 at 1 size 1 centraliser 2 rank 2\nsimples 4\nconductor 4\n\
     simple 0 class 0 degree 1 dimension 1 twist 0\nchi 0 1 1\nsimple 1 class 0 degree 1 dimension 1 twist 0\nchi 1 1 -1\n\
@@ -32,9 +48,11 @@ const TWISTED: &str =
 
 const TRIVIAL: &str = "qdouble 1\norder 2\ntable\n0 1\n1 0\nroots 1\nomega trivial\n";
 
-fn words(alloc: Global, word: &str) -> Result<Vec<String>, AllocError> {
+fn words(alloc: Global, list: &[&str]) -> Result<Vec<String>, AllocError> {
     let mut words = Vec::new(alloc);
-    words.push(String::from_str(alloc, word)?)?;
+    for word in list {
+        words.push(String::from_str(alloc, word)?)?;
+    }
     Ok(words)
 }
 
@@ -54,7 +72,7 @@ fn reports_on_a_document(rt: HostRuntime) -> Result<(), Fail> {
     for (word, report) in rows {
         let mut source = SureSource::new(Vec::from_slice(alloc, SEMION.as_bytes())?);
         let mut sink = SureSink::new(alloc, report.len())?;
-        let answer = run(alloc, &words(alloc, word)?, &mut source, &mut sink);
+        let answer = run(alloc, &words(alloc, &[word])?, &mut source, &mut sink);
         assert_eq!(rt;
             answer,
             Answer {
@@ -70,7 +88,7 @@ fn reports_on_a_document(rt: HostRuntime) -> Result<(), Fail> {
 #[test]
 fn tells_of_streams_that_fail(rt: HostRuntime) -> Result<(), Fail> {
     let alloc = rt.alloc();
-    let words = words(alloc, "check")?;
+    let words = words(alloc, &["check"])?;
     let never: [u32; 0] = [];
 
     // What is read, which calls of the source and of the sink fail, and what comes of it.
@@ -128,6 +146,24 @@ fn asks_for_a_command(rt: HostRuntime) -> Result<(), Fail> {
     Ok(())
 }
 
+/// What the program answers and writes to these words and a document.
+fn assert_run(
+    rt: &impl Abort,
+    alloc: Global,
+    list: &[&str],
+    document: &str,
+    status: u8,
+    written: &str,
+) -> Result<(), Fail> {
+    let never: [u32; 0] = [];
+    let mut source = source(alloc, document, &never)?;
+    let mut sink = sink(alloc, &never)?;
+    let answer = run(alloc, &words(alloc, list)?, &mut source, &mut sink);
+    assert_eq!(rt; answer.status, status);
+    assert_eq!(rt; sink.written().as_slice(), written.as_bytes());
+    Ok(())
+}
+
 /// What `verify` answers and writes to a document that ends with these rows.
 fn assert_verify(
     rt: &impl Abort,
@@ -138,12 +174,36 @@ fn assert_verify(
     written: &str,
 ) -> Result<(), Fail> {
     let text = format!(in alloc; "{document}{rows}end\n")?;
-    let never: [u32; 0] = [];
-    let mut source = source(alloc, text.as_str(), &never)?;
-    let mut sink = sink(alloc, &never)?;
-    let answer = run(alloc, &words(alloc, "verify")?, &mut source, &mut sink);
-    assert_eq!(rt; answer.status, status);
-    assert_eq!(rt; sink.written().as_slice(), written.as_bytes());
+    assert_run(rt, alloc, &["verify"], text.as_str(), status, written)
+}
+
+#[test]
+fn lifts_the_rows_of_a_modulus(rt: HostRuntime) -> Result<(), Fail> {
+    let alloc = rt.alloc();
+    let data = format!(in alloc; "{LIFTED}end\n")?;
+    assert_run(&rt, alloc, &["data", "5"], SEMION, 0, data.as_str())?;
+    let fusion = format!(in alloc; "{LIFTED}{NUMBERS}end\n")?;
+    assert_run(&rt, alloc, &["fusion", "5"], SEMION, 0, fusion.as_str())?;
+    let indicators = format!(in alloc; "{LIFTED}{NUMBERS}{INDICATORS}end\n")?;
+    assert_run(
+        &rt,
+        alloc,
+        &["indicators", "5", "2"],
+        SEMION,
+        0,
+        indicators.as_str(),
+    )?;
+
+    // The words after the first, the status, and the line.
+    let rows = [
+        ("2", 7, "refused 7 range 2\n"),
+        ("9", 7, "refused 7 unlisted 9\n"),
+        ("7", 7, "refused 7 root 7 4\n"),
+        ("-5", 2, "refused 2 usage\n"),
+    ];
+    for (modulus, status, line) in rows {
+        assert_run(&rt, alloc, &["simples", modulus], SEMION, status, line)?;
+    }
     Ok(())
 }
 

@@ -1,5 +1,6 @@
 use Rattle.std.proofs.Common.{◌≡◌, ◌≤◌, ◌++◌, None, length, sym, ap, subst, ◌∙◌}
 use Rattle.cochain.specs.Cochain.{Cochain}
+use Rattle.qd_engine.specs.Documents.{given_in}
 use Rattle.qd_engine.specs.Report.{part_text, parts_text, rows_text}
 use Rattle.qd_engine.specs.Tests.{rows_test}
 use Rattle.qd_engine.proofs.RankLaws.{class_ranks_few, length-class_ranks}
@@ -15,11 +16,11 @@ pub returns : goal.returns
 returns c =
     let (none, rows) = c.in_ok-append_rows.ensures.follows in
     let command = c.args.command.now in
-    let characters = c.args.document.now.characters in
-    let text = rows ∙ ap (λ front. front ++ rows_text c.args.w command.rows characters)
+    let given = given_in c.args.document.now in
+    let text = rows ∙ ap (λ front. front ++ rows_text c.args.w given command.rows)
     (c.in_ok-append_parts.ensures.added ∙ ap (λ front. front ++ parts_text (part_text c.args.w) command.parts) c.new-out.ensures.items) in
     record {
       follows = subst
-          (λ (w : Cochain). (rows_test w command.rows characters ≡ None) × (c.append_rows.new.out.items ≡ parts_text (part_text w) command.parts ++ rows_text w command.rows characters))
+          (λ (w : Cochain). (rows_test w given command.rows ≡ None) × (c.append_rows.new.out.items ≡ parts_text (part_text w) command.parts ++ rows_text w given command.rows))
           c.requires.cocycle (none, text);
     }

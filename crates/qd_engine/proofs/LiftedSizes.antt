@@ -1,0 +1,64 @@
+-- The values of lifted rows are small: each is a sum of as many roots of unity as its row has for degree, and that is at most 7.
+use Rattle.std.proofs.Common.{◌≡◌, ℕ, ◌<◌, ◌≤◌, true, Option, Some, None, sym, subst, arith}
+use Rattle.classes.specs.Conjugacy.{representative_at}
+use Rattle.classes.proofs.Conjugacy.{representative_at_is}
+use Rattle.cochain.specs.Cochain.{Cochain, IsCocycle}
+use Rattle.cyclotomic.specs.Conductors.{is_conductor, least_conductor}
+use Rattle.cyclotomic.specs.CyclotomicRing.{CyclotomicValue}
+use Rattle.cyclotomic.specs.Fit.{value_size}
+use Rattle.prime_field.specs.declared.mod_ring.ModRing.{ModRing}
+use Rattle.qd_ring.proofs.RootSumLaws.{roots_size}
+use Rattle.root_tables.specs.RootRows.{IsRootRow, AreRootRows}
+use Rattle.root_tables.proofs.TableRoots.{degree_few}
+use Rattle.slant.specs.Twists.{twist_of}
+use Rattle.slant.proofs.TwistLaws.{twist_lawful}
+use Rattle.table_check.specs.Characters.{RowsOver, characters_of}
+use Rattle.twist_lift.specs.Laws.{root_order}
+use Rattle.twisted.specs.Twist.{size}
+use Rattle.qd_steps.specs.Tables.{class_twist, class_table}
+use Rattle.qd_steps.specs.ByModulus.{lifts_cause, lifted_blocks}
+use Rattle.qd_steps.specs.Laws.{ServesCocycle}
+use Rattle.qd_steps.proofs.ModulusCauses.{lifted_root_rows}
+use Rattle.qd_engine.specs.Documents.{document_in, exponents_of, given_in, conductor_of}
+use Rattle.qd_engine.specs.Sources.{lifted_by}
+use Rattle.qd_engine.specs.Causes.{IsLifted, HasRows}
+use Rattle.qd_engine.specs.LiftedLaws.{ValuesAreSmall, LiftedAreSmall, LiftedSizes}
+use Rattle.qd_engine.specs.declared.command.RowSource.{RowSource}
+use Rattle.qd_engine.proofs.ConductorLaws.{least_is_conductor}
+use Rattle.qd_engine.proofs.LiftedRows.{numbers_of_field, field_serves, table_here, tables_number}
+
+-- a value of a row of roots over at most 60 places
+root_row_small : (k m : ℕ) (value : ℕ → CyclotomicValue k) → is_conductor k ≡ true → m ≤ 60 → IsRootRow k m value → (x : ℕ) → x < m → value_size (value x) ≤ 7
+root_row_small k m value conductor few row x below =
+    let of_degree : value_size (value x) ≤ row.degree = roots_size k conductor row.degree (value x) (row.roots x below) in
+    omega (arith, of_degree, degree_few row.degree m row.square few)
+
+-- the tables of a field
+field_small : (ring : ModRing) (w : Cochain) → is_conductor ring.conductor ≡ true → ServesCocycle ring w → lifts_cause ring w ≡ None
+    → ValuesAreSmall w ring.conductor (lifted_blocks ring w)
+unfolding twist_of
+field_small ring w conductor serves lifted c below i x i_below x_below =
+    let k = ring.conductor in
+    let blocks = lifted_blocks ring w in
+    let lawful = twist_lawful w serves.cocycle (representative_at w.group c) (representative_at_is w.group serves.cocycle.cochain.group c below).below in
+    let roots = lifted_root_rows ring w serves lifted c (subst (λ n. c < n) (sym (tables_number w blocks)) below) in
+    let here : AreRootRows (class_twist w c) (class_table k blocks c) =
+    subst (λ (t : RowsOver). AreRootRows t.over (characters_of k t.rows)) (table_here w blocks c below) roots in
+    root_row_small k (size (class_twist w c)) ((class_table k blocks c).chi i) conductor lawful.small.to_sixty (here.row i i_below) x x_below
+
+-- the tables of a valid modulus
+modulus_small : (q : ℕ) (w : Cochain) → IsCocycle w → least_conductor (root_order w) ≡ Some (conductor_of w) → IsLifted q w → LiftedAreSmall q w
+modulus_small q w cocycle conductor lifted =
+    let k = conductor_of w in
+    let ring = lifted.ring in
+    let same = (numbers_of_field q k ring lifted.field).1 in
+    let is_entry = subst (λ n. is_conductor n ≡ true) (sym same) (least_is_conductor (root_order w) k conductor).0 in
+    let serves = field_serves q w ring cocycle conductor lifted.valid lifted.field in
+    subst (λ (f : Option ModRing). ValuesAreSmall w k (lifted_by w f)) (sym lifted.field)
+    (subst (λ n. ValuesAreSmall w n (lifted_blocks ring w)) same (field_small ring w is_entry serves lifted.lifted))
+
+pub lifted_sizes : LiftedSizes
+lifted_sizes command q lifts bytes accepted =
+    let w = exponents_of (document_in command bytes) in
+    let verified = accepted.verified lifts.report lifts.reports in
+    modulus_small q w accepted.cocycle verified.conductor (subst (λ (source : RowSource). HasRows source w (given_in (document_in command bytes))) lifts.source verified.source)

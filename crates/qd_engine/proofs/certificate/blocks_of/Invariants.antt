@@ -1,0 +1,13 @@
+use Rattle.std.proofs.Common.{◌≡◌, All, map}
+use Rattle.std.specs.List.{range_with_len}
+use Rattle.qd_doc.specs.Blocks.{Block}
+use Rattle.qd_doc.specs.Contents.{IsValueOf}
+use Rattle.qd_engine.specs.Certificate.{certified_block}
+use Rattle.qd_engine.proofs.certificate.blocks_of.Given as goal
+
+-- the blocks of the classes before c
+abbrev pub invariant-loop-c : goal.invariant-loop-c
+invariant-loop-c g l = record {
+  added : l.blocks ≡ map (certified_block g.row.K l.simples) (range_with_len 0 l.c);
+  values : All (λ (block : Block). All (λ row. All (IsValueOf g.row.K) row) block.rows) l.blocks;
+}

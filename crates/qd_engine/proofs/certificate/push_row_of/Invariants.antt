@@ -1,0 +1,12 @@
+use Rattle.std.proofs.Common.{◌≡◌, [], ◌∷◌, ◌++◌, All}
+use Rattle.qd_doc.specs.Blocks.{last_rows, with_last_rows}
+use Rattle.qd_doc.specs.Contents.{IsValueOf}
+use Rattle.qd_engine.proofs.Certificates.{front_of_row}
+use Rattle.qd_engine.proofs.certificate.push_row_of.Given as goal
+
+-- the values at the places before p are added
+abbrev pub invariant-loop-p : goal.invariant-loop-p
+invariant-loop-p g l = record {
+  added : l.blocks ≡ with_last_rows l.fn.blocks (last_rows l.fn.blocks ++ front_of_row g.row.K l.simples l.i l.p ∷ []);
+  values : All (IsValueOf g.row.K) (front_of_row g.row.K l.simples l.i l.p);
+}

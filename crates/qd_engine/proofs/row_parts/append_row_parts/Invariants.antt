@@ -1,0 +1,8 @@
+use Rattle.std.proofs.Common.{◌≡◌, ◌++◌, take}
+use Rattle.qd_engine.specs.Rows.{source_of}
+use Rattle.qd_engine.specs.Report.{row_part_text, parts_text}
+use Rattle.qd_engine.proofs.row_parts.append_row_parts.Given as goal
+
+-- the parts before this one
+abbrev pub invariant-loop-part : goal.invariant-loop-part
+invariant-loop-part g l = l.out.items ≡ l.fn.out.items ++ parts_text (row_part_text (source_of l.rows) g.row.K l.simples) (take l.part-index l.parts)

@@ -1,0 +1,27 @@
+use Rattle.std.proofs.Common.{◌≡◌, ◌++◌, ℕ, None, subst}
+use Rattle.std.specs.Prelude.{sum}
+use Rattle.group_table.specs.Group.{Table}
+use Rattle.qd_steps.specs.Tables.{tables_cause, simples_over}
+use Rattle.qd_engine.specs.Report.{row_part_text, parts_text}
+use Rattle.qd_engine.specs.Words.{most_simples}
+use Rattle.qd_engine.specs.Tests.{stated_test, simples_test, shape_test, LateReport}
+use Rattle.qd_engine.specs.Follows.{Follows}
+use Rattle.qd_engine.specs.declared.command.RowSource.TheVariants.{Stated}
+use Rattle.scan.specs.First.{option_or}
+use Rattle.qd_engine.proofs.Following.{follow_next}
+use Rattle.qd_engine.proofs.row_report.append_stated.Goals as goal
+
+pub returns : goal.returns
+returns c =
+    let s = simples_over c.args.w c.args.given.now.blocks in
+    let parts = c.args.report.now.parts in
+    let result = c.append_over.result in
+    let over = subst
+    (λ (k : ℕ). Follows (option_or (tables_cause c.args.w k c.args.given.now.blocks) None) (LateReport Stated k s parts)
+    (λ done. c.append_over.new.out.items ≡ c.args.out.now.items ++ parts_text (row_part_text Stated k s) parts) result)
+    c.requires.needed c.append_over.ensures.follows in
+    let stated = subst (λ (k : ℕ). stated_test c.args.given.now.conductor k ≡ None) c.requires.needed c.in_ok-stated_is.ensures.tested.0 in
+    let few = subst (λ ranks. simples_test (sum ranks) (most_simples parts) ≡ None) c.requires.ranks
+    (subst (λ most. simples_test (sum c.args.ranks.now) most ≡ None) c.most_simples.ensures.most c.in_ok-few_simples.ensures.tested.0) in
+    let shape = subst (λ (t : Table). shape_test t c.args.given.now.blocks ≡ None) c.requires.group c.in_ok-matching.ensures.tested.0 in
+    record { follows = follow_next _ _ result _ _ stated (follow_next _ _ result _ _ few (follow_next _ _ result _ _ shape over)) }

@@ -1,0 +1,10 @@
+use Rattle.std.proofs.Common.{sym, ap, ◌∙◌}
+use Rattle.std.specs.Option.{option_map}
+use Rattle.data_print.specs.declared.cause.Cause.TheVariants.{Shape}
+use Rattle.qd_engine.proofs.Shapes.{shape_matches}
+use Rattle.qd_engine.proofs.row_tests.matching.Goals as goal
+
+pub returns-in-None : goal.returns-in-None
+returns-in-None c =
+    let none = sym c.shape_fault.ensures.fault ∙ c.in-None.is in
+    record { tested = (ap (option_map Shape) none, shape_matches _ _ none) }

@@ -1,0 +1,7 @@
+-- What follows of the grammar of words.
+use Rattle.std.specs.Prelude.{◌≡◌, ℕ, List, slice_get, slice_index, Some, None}
+use Rattle.qd_engine.specs.Words.{command_of}
+
+-- words of which one begins with `-` are no command
+abbrev pub DashIsNoCommand : Type 0
+DashIsNoCommand = (words : List (List ℕ)) (i : ℕ) (word : List ℕ) → slice_get words i ≡ Some word → slice_index word 0 ≡ 45 → command_of words ≡ None
