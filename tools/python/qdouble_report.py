@@ -1,7 +1,7 @@
 #!/usr/bin/env python3
 """Reads a report of qdouble into one object, and prints S and T in the form that another program reads.
 
-    qdouble verify < document | qdouble_report.py FORM [--check] [FILE]
+    qdouble data 5 < document | qdouble_report.py FORM [--check] [FILE]
 
 FORM is one of
 
@@ -280,7 +280,7 @@ def as_csv(report: Report) -> str:
             number = complex(value) / report.order
             lines.append(f"S,{i},{j},{number.real!r},{number.imag!r},({value})/{report.order}")
     for i, (number, simple) in enumerate(zip(report.t(), report.simples)):
-        lines.append(f"T,{i},{i},{number.real!r},{number.imag!r},z{simple.twist}")
+        lines.append(f"T,{i},{i},{number.real!r},{number.imag!r},{Value(report.conductor, ((simple.twist, 1),))}")
     return "\n".join(lines) + "\n"
 
 
@@ -388,7 +388,7 @@ def main() -> int:
         text = open(given.file, encoding="ascii").read() if given.file else sys.stdin.read()
         report = read_report(text)
         if (given.form in OF_MATRICES or given.check) and not report.s_numerators:
-            raise NoReport("this report has no S; `verify` prints it")
+            raise NoReport("this report has no S; `data`, `fusion`, `indicators` and `verify` print it")
         shown = FORMS[given.form](report)
         failed = False
         if given.check:
