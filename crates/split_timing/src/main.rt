@@ -1,6 +1,6 @@
-// Splits the untwisted group algebra of a group many times, to be timed from outside, and prints a number that depends on all
-// values of all answers. The words are the order of the group, the prime, the conductor and how many times; the entries of the
-// multiplication table stand on standard input, row after row.
+//! Splits the untwisted group algebra of a group many times, to be timed from outside, and prints a number that depends on all
+//! values of all answers. The words are the order of the group, the prime, the conductor and how many times; the entries of the
+//! multiplication table stand on standard input, row after row.
 #![tactic(auto)]
 
 ghost use Rattle.std.specs.Prelude.{◌≡◌, true};
@@ -16,7 +16,7 @@ use std::process::ExitCode;
 use std::{env, io};
 use twisted::Twist;
 
-/// The numbers in a text, as far as they are below 2^32 and for at most so many words.
+/// The numbers that the words of a text are, each by `number`, for at most so many words.
 fn numbers(alloc: Global, text: &str, most: u32) -> Result<Nats, Memory> {
     let mut numbers = Nats::empty(alloc);
     for word in text.split_whitespace() {
