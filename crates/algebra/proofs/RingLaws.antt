@@ -94,7 +94,3 @@ pub ruleset sum_rules = (nought_add, add_nought, add_assoc, add_comm, add_left_c
 
 -- sorts products alone
 pub ruleset product_rules = (mul_one, one_mul, mul_nought, nought_mul, mul_assoc, mul_comm, mul_left_comm)
-
-module _ {A : Type 0} (R : CommRing A) where
-  square_of_sum : (x y : A) → R.mul (R.add x y) (R.add x y) ≡ R.add (R.mul x x) (R.add (R.add (R.mul x y) (R.mul y x)) (R.mul y y))
-  square_of_sum x y = simp (ring_rules, R)

@@ -241,11 +241,6 @@ module _ (t : Table) (G : IsGroup t) where
   pub class_represents : (g : ℕ) → g < t.order → representative_at t (class_of t g) ≡ representative_of t g
   class_represents g p = eqb-true _ _ (class_found g p).passes
 
-  -- conjugate elements are in the same class
-  pub class_of_conjugate : (k g : ℕ) → k < t.order → g < t.order → class_of t (conjugate t k g) ≡ class_of t g
-  unfolding class_of
-  class_of_conjugate k g p q = rw (representative_of_conjugate k g p q) refl
-
   pub members_are : (a : ℕ) → All (IsMember t a) (members_of t a)
   unfolding members_of
   members_are a =

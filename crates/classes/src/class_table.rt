@@ -1,3 +1,5 @@
+//! The conjugacy classes of a group, as a table.
+
 ghost use Rattle.std.specs.Prelude.{◌≡◌, ℕ, ◌*◌, ◌<◌, ◌≤◌, length, slice_index, IfOk};
 ghost use Rattle.group_table.specs.Group.{IsGroup, IsSmall};
 ghost use Rattle.classes.specs.Conjugacy.{conjugate, representative_of, transporter_of, representatives, representative_at, class_of, members_of, centraliser_of};

@@ -1,3 +1,5 @@
+//! The table of conductors, and the least conductor that is a multiple of a number.
+
 ghost use Rattle.std.specs.Prelude.{◌≡◌, ◌≢◌, ◌%◌, ◌==◌, true, None, Some, MatchResult, IfErr, find, map};
 ghost use Rattle.std.specs.Option.{option_map_or};
 ghost use Rattle.cyclotomic.specs.Conductors.{is_conductor, least_conductor, phi_of};

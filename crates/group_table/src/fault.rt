@@ -1,3 +1,5 @@
+//! Why a table is no group.
+
 ghost use Rattle.std.specs.Prelude.{◌≡◌};
 ghost use Rattle.group_table.specs.declared.fault.GroupRefusal.TheVariants as refusals;
 

@@ -1,3 +1,5 @@
+//! Finite groups, and what may be asked of them.
+
 ghost use Rattle.std.specs.Prelude.{◌≡◌, ◌*◌, ◌<◌, ◌≤◌, length, Some, None, IfOk, IfErr};
 ghost use Rattle.orders.specs.Group.{power};
 ghost use Rattle.orders.specs.Order.{order_of, exponent_of, IsOrder, IsExponent};

@@ -1,3 +1,5 @@
+//! Lists of natural numbers of 32 bits.
+
 ghost use Rattle.std.specs.Prelude.{◌≡◌, ℕ, ◌+◌, ◌^◌, ◌<◌, Bool, List, [], ◌∷◌, ◌++◌, ◌↔◌, IsTrue, length, slice_index, vec_len, IfOk, OnOk, OnErr};
 ghost use Rattle.group_table.specs.Numbers.{passing_below};
 

@@ -3,7 +3,6 @@ use Rattle.std.proofs.Common.{◌≡◌, ℕ, zero-add, ◌+◌, ◌-◌, ◌%�
 use Rattle.std.proofs.Math.Nat.{mod-lt}
 use Rattle.algebra.specs.Groups.{Group, conj}
 use Rattle.algebra.specs.Congruences.{Same}
-use Rattle.algebra.specs.Convolution.{IsTwoCocycle}
 use Rattle.algebra.proofs.CongruenceLaws.{same_refl, same_of, same_sym, same_trans, same_mod, same_add, same_add_multiple, same_lin, same_equal}
 use Rattle.algebra.proofs.GroupLaws.{group_rules, conj_is, conj_rules, conj_op, conj_symmetric, commuting_of_conj, conj_inv}
 use Rattle.phases.specs.ThreeCocycle.{ThreeCocycle}
@@ -225,13 +224,3 @@ module _ {G : Type 0} (P : Group G) (n : ℕ) (w : G → G → G → ℕ) (W : T
       (same_add (same_add (kappa_is a (P.op d c) x) (same_sym (same_add (kappa_is a d y) (kappa_is a c x))))
       (same_add (theta_associative a d c x) (same_add (same_sym (theta_associative a d y c)) (theta_associative a z d c))))
       (simp (twice, over_c, over_d, commutes_d, commutes_z) (omega arith))
-
--- the slant product at a, on a group of elements that commute with a
-module _ {G K : Type 0} (P : Group G) (n : ℕ) (w : G → G → G → ℕ) (W : ThreeCocycle P n w) (Q : Group K) (element : K → G) where
-  pub theta_is_two_cocycle : (a : G) → ((p r : K) → element (Q.op p r) ≡ P.op (element p) (element r)) → element Q.one ≡ P.one → ((p : K) → conj P a (element p) ≡ a) →
-      IsTwoCocycle Q n (λ p r. theta P n w a (element p) (element r))
-  theta_is_two_cocycle a respects_op respects_one commutes = record {
-    law = λ x y z. simp respects_op (simp commutes at (theta_associative P n w W a (element x) (element y) (element z)));
-    at_one_left = λ x. same_of n (ap (λ e. theta P n w a e (element x)) respects_one ∙ theta_first_one P n w W a (element x));
-    at_one_right = λ x. same_of n (ap (λ e. theta P n w a (element x) e) respects_one ∙ theta_second_one P n w W a (element x));
-  }

@@ -1,3 +1,5 @@
+//! Sums, differences and products of residues.
+
 ghost use Rattle.std.specs.Prelude.{◌≡◌, ◌+◌, ◌*◌, ◌%◌, ◌<◌, true, length};
 ghost use Rattle.prime_field.specs.Moduli.{is_modulus};
 ghost use Rattle.prime_field.specs.Field.{field, field_residue};

@@ -1,3 +1,5 @@
+//! The least root of a cyclotomic polynomial modulo a prime.
+
 ghost use Rattle.std.specs.Prelude.{◌≡◌, ◌<◌, ◌≤◌, ◌++◌, [], ◌∷◌, pos, true};
 ghost use Rattle.cyclotomic.specs.Conductors.{is_conductor};
 ghost use Rattle.cyclotomic.specs.Cyclotomic.{cyclotomic};

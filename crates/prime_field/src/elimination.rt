@@ -1,3 +1,5 @@
+//! Elimination, one equation at a time: the basis of the vectors that fulfil all equations so far.
+
 ghost use Rattle.std.specs.Prelude.{◌≡◌, ◌≢◌, ℕ, suc, ◌+◌, ◌*◌, ◌/◌, ◌%◌, nat_eq, if◌then◌else◌, ◌<◌, ◌≤◌, true, List, length, slice_index, IfOk, IfSome, IfNone};
 ghost use Rattle.algebra.specs.Below.{Below};
 ghost use Rattle.prime_field.specs.Moduli.{is_modulus};

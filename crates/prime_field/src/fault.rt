@@ -1,3 +1,5 @@
+//! The conditions of a modulus, as faults.
+
 /// The first condition of a modulus that a number doesn't meet.
 #[derive(Clone, Copy, Debug, PartialEq, Eq)]
 pub enum ModulusFault {

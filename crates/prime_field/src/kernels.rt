@@ -1,3 +1,5 @@
+//! The kernel of a matrix, by its basis in reduced form.
+
 ghost use Rattle.std.specs.Prelude.{◌≡◌, ℕ, ◌+◌, ◌*◌, ◌/◌, ◌%◌, ◌<◌, ◌≤◌, ◌==◌, not, true, length, slice_index, IfOk};
 ghost use Rattle.algebra.specs.Below.{Below};
 ghost use Rattle.group_table.specs.Numbers.{passing_below};

@@ -1,3 +1,5 @@
+//! Square matrices of residues.
+
 ghost use Rattle.std.specs.Prelude.{◌≡◌, ◌≢◌, ◌⊎◌, ℕ, ◌<◌, ◌≤◌, IfOk};
 ghost use Rattle.prime_field.specs.SquareMatrix.{entry, IsSquare};
 

@@ -1,3 +1,5 @@
+//! The minimal polynomial of a matrix, by its powers.
+
 ghost use Rattle.std.specs.Prelude.{◌≡◌, ◌≢◌, ℕ, ◌+◌, ◌-◌, ◌*◌, ◌/◌, ◌%◌, ◌<◌, ◌≤◌, true, length, slice_index, slice_range, IfOk};
 ghost use Rattle.prime_field.specs.Moduli.{is_modulus};
 ghost use Rattle.prime_field.specs.Field.{field};

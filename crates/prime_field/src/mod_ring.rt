@@ -1,3 +1,5 @@
+//! The field of residues modulo a listed prime.
+
 ghost use Rattle.std.specs.Prelude.{◌≡◌, ◌≢◌, ◌*◌, ◌%◌, ◌<◌, ◌==◌, true, None, Some, IfOk, IfErr, IfSome, IfNone};
 ghost use Rattle.algebra.specs.Sums.{power};
 ghost use Rattle.cyclotomic.specs.Conductors.{is_conductor};

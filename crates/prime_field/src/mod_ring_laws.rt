@@ -1,3 +1,5 @@
+//! The field of residues as a ring object.
+
 ghost use Rattle.std.specs.Prelude.{◌≡◌, ◌<◌, refl};
 ghost use Rattle.algebra.specs.Below.{Below};
 ghost use Rattle.qd_ring.specs.Fit.{no_limits};

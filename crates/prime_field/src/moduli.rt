@@ -1,3 +1,5 @@
+//! The primes that may be moduli.
+
 ghost use Rattle.std.specs.Prelude.{◌≡◌, ◌==◌};
 ghost use Rattle.std.specs.List.{list_any};
 ghost use Rattle.prime_field.specs.Moduli.{is_modulus};

@@ -1,3 +1,5 @@
+//! Polynomials modulo a prime, and their roots.
+
 ghost use Rattle.std.specs.Prelude.{◌≡◌, ◌≢◌, ℕ, ◌<◌, ◌≤◌, ◌%◌, List, length, slice_index, true};
 ghost use Rattle.group_table.specs.Numbers.{passing_below};
 ghost use Rattle.prime_field.specs.Evaluation.{value_at, is_root};

@@ -1,3 +1,5 @@
+//! The list of the values of a function.
+
 ghost use Rattle.std.specs.Prelude.{◌≡◌, ℕ, ◌<◌, IfOk};
 ghost use Rattle.prime_field.specs.ResidueLists.{IsTabulated};
 

@@ -1,3 +1,5 @@
+//! Copies of the front of a slice.
+
 ghost use Rattle.std.specs.Prelude.{◌≡◌, min, length, take};
 
 /// Copies at most `most` bytes from the front of `from` to the front of `to`, and answers how many.

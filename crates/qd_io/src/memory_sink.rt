@@ -1,3 +1,5 @@
+//! A sink into memory that can be made to fail.
+
 ghost use Rattle.std.specs.Prelude.{◌≡◌, ◌<◌, ◌≤◌, [], length, MatchBool, Ok, Some, None, IfOk, OnErr, IsErr};
 ghost use Rattle.std.specs.Io.KnownBytes.{WriteAppends};
 ghost use Rattle.qd_io.specs.Stream.{Rises, KeepsRoom};

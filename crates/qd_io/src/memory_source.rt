@@ -1,3 +1,5 @@
+//! A source in memory that can be made to fail.
+
 ghost use Rattle.std.specs.Prelude.{◌≡◌, ◌≤◌, length, MatchBool, Ok, Some, IfOk, OnErr, IsErr};
 ghost use Rattle.std.specs.Io.KnownBytes.{ReadConsumes};
 ghost use Rattle.qd_io.specs.Stream.{Rises};

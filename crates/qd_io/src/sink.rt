@@ -1,3 +1,5 @@
+//! Sinks: where bytes go.
+
 ghost use Rattle.std.specs.Prelude.{◌≡◌, ℕ, ◌<◌, ◌≤◌, List, Option, length, IfOk, OnErr};
 ghost use Rattle.std.specs.Io.KnownBytes.{WriteAppends};
 ghost use Rattle.qd_io.specs.Stream.{Rises, KeepsRoom};

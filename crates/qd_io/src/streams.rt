@@ -1,3 +1,5 @@
+//! Standard input as a source, standard output as a sink.
+
 ghost use Rattle.std.specs.Prelude.{◌≡◌, ℕ, ◌<◌, ◌≤◌, length, IfSome, None};
 
 use crate::sink::Sink;

@@ -1,3 +1,5 @@
+//! A source in memory that never fails, and a sink in memory that promises room.
+
 ghost use Rattle.std.specs.Prelude.{◌≡◌, ◌-◌, ◌<◌, ◌≤◌, ◌↔◌, [], ◌++◌, length, drop, min, Ok, Some, None, IfOk, IfErr, OnErr, OnOk, IsOk};
 ghost use Rattle.std.specs.Io.KnownBytes.{ReadConsumes, WriteAppends};
 ghost use Rattle.qd_io.specs.Stream.{Rises, KeepsRoom};

@@ -1,3 +1,5 @@
+//! Writing a text whole.
+
 ghost use Rattle.std.specs.Prelude.{◌≡◌, ◌≤◌, ℕ, length, Some, IsOk, OnOk, OnErr};
 ghost use Rattle.std.specs.Io.KnownBytes.{Appends};
 ghost use Rattle.qd_io.specs.Stream.{Rises, AppendsFront, HasRoom};

@@ -1,3 +1,5 @@
+//! Values of a cyclotomic ring, with coefficients that fit.
+
 ghost use Rattle.std.specs.Prelude.{◌≡◌, ◌-◌, ◌*◌, ◌^◌, ◌≤◌, ◌<◌, ◌&&◌, ◌%◌, ℤ, pos, true, [], ◌∷◌, nat_abs, is_some, IfSome, IfNone};
 ghost use Rattle.std.specs.Int.{IsGcd};
 ghost use Rattle.cyclotomic.specs.Polynomial.{coefficient};

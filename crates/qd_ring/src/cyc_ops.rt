@@ -1,3 +1,5 @@
+//! The operators of values.
+
 ghost use Rattle.std.specs.Prelude.{◌≡◌, true};
 ghost use Rattle.cyclotomic.specs.Cyclotomic.{cyclotomic};
 ghost use Rattle.cyclotomic.specs.Ring.{value_sum, value_negative, value_product};

@@ -1,3 +1,5 @@
+//! The ring object of cyclotomic values.
+
 ghost use Rattle.std.specs.Prelude.{◌≡◌, true};
 ghost use Rattle.cyclotomic.specs.Conductors.{is_conductor};
 

@@ -1,3 +1,5 @@
+//! That cyclotomic values are a ring object.
+
 ghost use Rattle.std.specs.Prelude.{◌≡◌, true, IsTrue, ◌↔◌};
 ghost use Rattle.cyclotomic.specs.CyclotomicRing.{CyclotomicValue, cyclotomic_ring, cyclotomic_value};
 ghost use Rattle.cyclotomic.proofs.Orthogonality.{x_root};

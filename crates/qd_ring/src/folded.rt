@@ -1,3 +1,5 @@
+//! Listed sums of products, added up in one buffer.
+
 ghost use Rattle.std.specs.Prelude.{◌≡◌, ◌+◌, ◌*◌, ℕ, true, false, Some, IsTrue};
 ghost use Rattle.cyclotomic.specs.Conductors.{is_conductor};
 ghost use Rattle.cyclotomic.specs.Ring.{value_nought, value_sum};

@@ -1,3 +1,5 @@
+//! A coefficient at a power of the variable.
+
 /// A whole-number coefficient at a power of x.
 #[derive(Clone, Copy, PartialEq, Eq, Default, Debug)]
 pub struct Monomial {

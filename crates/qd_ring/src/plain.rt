@@ -1,3 +1,5 @@
+//! Values as their coefficients alone, and why a token is no value.
+
 /// A value without its conductor: the coefficients of 1, x, x^2, .., from the lowest power.
 #[derive(Clone, Copy, PartialEq, Eq, PartialOrd, Ord, Hash, Debug)]
 pub struct Plain {

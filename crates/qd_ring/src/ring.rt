@@ -1,3 +1,5 @@
+//! Ring objects: what later layers compute over.
+
 ghost use Rattle.std.specs.Prelude.{◌≡◌, ℕ, ◌+◌, ◌<◌, ◌↔◌, true, IsTrue, IfSome, is_some};
 ghost use Rattle.algebra.specs.Structures.{CommRing};
 ghost use Rattle.algebra.specs.Sums.{power};

@@ -1,3 +1,5 @@
+//! Roots of unity, as exponents.
+
 ghost use Rattle.std.specs.Prelude.{◌≡◌, ◌+◌, ◌-◌, ◌%◌, ◌<◌, true};
 ghost use Rattle.std.proofs.Math.Bool.{Bool-set};
 ghost use Rattle.cyclotomic.specs.Conductors.{is_conductor};

@@ -1,3 +1,5 @@
+//! Rows of values.
+
 ghost use Rattle.std.specs.Prelude.{◌≡◌, ◌+◌, ◌-◌, ◌^◌, ◌<◌, ℤ, List, [], ◌∷◌, ◌++◌, length, slice_index_or, true, OnOk, OnErr};
 ghost use Rattle.cyclotomic.specs.Conductors.{is_conductor};
 ghost use Rattle.qd_ring.specs.RowLists.{row_at, with_value};

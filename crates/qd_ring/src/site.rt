@@ -1,3 +1,5 @@
+//! The places of listed sums, for the sum that overflows.
+
 /// The kind of a listed sum.
 #[derive(Clone, Copy, PartialEq, Eq, Hash, Debug)]
 pub enum Part {

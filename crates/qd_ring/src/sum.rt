@@ -1,3 +1,5 @@
+//! Listed sums over any ring object.
+
 ghost use Rattle.std.specs.Prelude.{◌≡◌, ◌<◌, ℕ, Bool, true, map, All, Option, IfSome, IfNone, is_some};
 ghost use Rattle.algebra.specs.Sums.{sum_list, sum_below, power};
 ghost use Rattle.qd_ring.specs.Fit.{term_fits, sum_overflows, IsTerm};

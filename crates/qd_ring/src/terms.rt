@@ -1,3 +1,5 @@
+//! Values in sparse form.
+
 ghost use Rattle.std.specs.Prelude.{◌≡◌, ℕ, ◌+◌, ◌<◌, ◌≤◌, nat_abs, true, All, IfSome, is_some};
 ghost use Rattle.cyclotomic.specs.Conductors.{is_conductor};
 ghost use Rattle.cyclotomic.specs.Cyclotomic.{cyclotomic};

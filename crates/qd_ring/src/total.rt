@@ -1,3 +1,5 @@
+//! Listed sums, added up term by term.
+
 ghost use Rattle.std.specs.Prelude.{◌≡◌, ◌<◌, ◌+◌, ℕ, Option, Some, None, IfSome, IfNone, true};
 ghost use Rattle.cyclotomic.specs.Conductors.{is_conductor};
 ghost use Rattle.cyclotomic.specs.CyclotomicRing.{cyclotomic_value};

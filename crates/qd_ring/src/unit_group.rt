@@ -1,3 +1,5 @@
+//! Groups of units, as a trait.
+
 ghost use Rattle.std.specs.Prelude.{◌≡◌};
 ghost use Rattle.algebra.specs.Structures.{CommGroup};
 

@@ -1,3 +1,5 @@
+//! Reading the text of a value.
+
 ghost use Rattle.std.specs.Prelude.{nat_abs, nat_lt, ℤ, List, true, ◌↔◌, IfOk, ◌≡◌, ◌≤◌, ◌+◌, ◌<◌, ◌^◌, min, pos, length, take, drop, replicate, None, Some, IfNone, IfSome, ◌==◌, ◌-◌, false, slice_index};
 ghost use Rattle.std.specs.List.{list_all, prefix_len};
 ghost use Rattle.qd_ring.specs.ValueReading.{is_digit, number, sign_len, numeral_len, power_of, term_of, signed, coefficients_of};

@@ -1,3 +1,5 @@
+//! Writing the text of a value.
+
 ghost use Rattle.std.specs.Prelude.{◌≡◌, ◌<◌, ◌++◌, nat_abs, int_lt, false, ℤ, pos, length, take, OnOk, OnErr};
 ghost use Rattle.qd_ring.specs.ValueText.{sign_text, power_text, term_text, terms_text, value_text, numeral};
 

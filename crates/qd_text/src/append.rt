@@ -1,3 +1,5 @@
+//! Writing words and numbers at the end of a text.
+
 ghost use Rattle.std.specs.Prelude.{◌≡◌, ◌++◌, OnOk, OnErr};
 ghost use Rattle.std.specs.Fmt.{decimal};
 

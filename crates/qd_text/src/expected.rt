@@ -1,3 +1,5 @@
+//! What may stand at a place of a document, for its refusal.
+
 ghost use Rattle.std.specs.Prelude.{◌≡◌};
 ghost use Rattle.qd_text.specs.Words.{word_of};
 

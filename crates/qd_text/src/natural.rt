@@ -1,3 +1,5 @@
+//! Natural numbers of 32 bits, read from digits.
+
 ghost use Rattle.std.specs.Prelude.{◌≡◌, ℕ, ◌^◌, min};
 ghost use Rattle.std.specs.List.{list_all};
 ghost use Rattle.qd_text.specs.Numbers.{is_digit, value, number_of};

@@ -1,3 +1,5 @@
+//! Tokens of a text, between blanks and comments.
+
 ghost use Rattle.std.specs.Prelude.{◌≡◌, ◌≤◌, ◌+◌, ◌<◌, ◌^◌, ◌||◌, [], ◌∷◌, Bool, false, vec_len, length, take, drop, IfSome, IfNone, slice_index, IsTrue};
 ghost use Rattle.std.specs.List.{prefix_len};
 ghost use Rattle.qd_text.specs.Tokens.{is_separator, is_token_byte, in_comment, tokens_from, lexeme_of, IsWithin};

@@ -1,5 +1,5 @@
-// The program `qdouble`: its words, standard input and standard output are handed to `qd_engine::run`, and the
-// process ends with the status of the answer.
+//! The program `qdouble`: its words, standard input and standard output are handed to `qd_engine::run`, and the
+//! process ends with the status of the answer.
 #![tactic(auto)]
 
 mod words;

@@ -1,5 +1,5 @@
-// Does one operation of the cyclotomic rings many times, to be timed from outside, and prints a number that depends on
-// all results. The words are an operation (`mul`, `add` or `times`), a conductor (12 or 64) and how many times.
+//! Does one operation of the cyclotomic rings many times, to be timed from outside, and prints a number that depends on
+//! all results. The words are an operation (`mul`, `add` or `times`), a conductor (12 or 64) and how many times.
 #![tactic(auto)]
 
 ghost use Rattle.std.specs.Prelude.{◌≡◌, true};

@@ -13,10 +13,6 @@ module _ {A B : Type 0} (F : CommRing A) (Z : CommRing B) (r : ℕ) (E : HasBasi
   combination : (ℕ → A) → B
   combination f = sum_below Z r (λ t. Z.mul (E.of (f t)) (E.at t))
 
-  combination_ext : (f g : ℕ → A) → ((t : ℕ) → t < r → f t ≡ g t) → combination f ≡ combination g
-  unfolding combination
-  combination_ext f g h = sum_ext Z r (λ t. Z.mul (E.of (f t)) (E.at t)) (λ t. Z.mul (E.of (g t)) (E.at t)) (λ t k. ap (λ a. Z.mul (E.of a) (E.at t)) (h t k))
-
   spanned : (z : B) → z ≡ combination (E.coordinate z)
   unfolding combination
   spanned z = sym (E.spans z)

@@ -1,3 +1,5 @@
+//! Rows with the conjugates of their values, each made once.
+
 ghost use Rattle.std.specs.Prelude.{◌≡◌, ◌<◌, length, map, vec_len, Some, None, IfOk, OnOk};
 ghost use Rattle.twisted.specs.Twist.{size};
 ghost use Rattle.table_check.specs.Characters.{characters_of, IsShaped};

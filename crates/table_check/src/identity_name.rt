@@ -1,3 +1,5 @@
+//! The names of the equations of a good table.
+
 /// The clause of a good table that an equation belongs to.
 #[derive(Clone, Copy, Debug, PartialEq, Eq, Hash)]
 pub enum IdentityName {

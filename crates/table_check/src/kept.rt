@@ -1,3 +1,5 @@
+//! Values kept with their sparse forms.
+
 ghost use Rattle.std.specs.Prelude.{◌≡◌};
 ghost use Rattle.cyclotomic.specs.CyclotomicRing.{cyclotomic_value};
 ghost use Rattle.qd_ring.specs.SparseValues.{value_of_terms};

@@ -1,3 +1,5 @@
+//! The places of the check, in their order.
+
 /// A clause on a table of characters, in the order in which they are checked.
 #[derive(Clone, Copy, Debug, PartialEq, Eq)]
 pub enum Clause {

@@ -1,3 +1,5 @@
+//! Why a table is not accepted.
+
 ghost use Rattle.std.specs.Prelude.{◌≡◌};
 
 use crate::identity_name::IdentityName;

@@ -1,3 +1,5 @@
+//! Rows of a table with what they are sorted by.
+
 use qd_ring::Cyc;
 
 /// A row of the table of a class, with what simples are compared by: field after field.

@@ -1,3 +1,5 @@
+//! The simples of a twisted quantum double, in their order.
+
 ghost use Rattle.std.specs.Prelude.{◌≡◌, ◌≤◌, ◌<◌, length, IfOk, IfErr};
 ghost use Rattle.std.specs.Result.{result_ok};
 ghost use Rattle.group_table.specs.Group.{product};

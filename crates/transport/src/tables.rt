@@ -1,3 +1,5 @@
+//! Good tables for all classes.
+
 ghost use Rattle.std.specs.Prelude.{◌≡◌, ◌+◌, ◌^◌, ◌<◌, true, [], ◌∷◌, ◌++◌, length, OnOk, OnErr};
 ghost use Rattle.cyclotomic.specs.Conductors.{is_conductor};
 ghost use Rattle.table_check.specs.Characters.{RowsOver};

@@ -26,9 +26,6 @@ module _ {G : Type 0} (P : Group G) where
   pub carry_back : (c x : G) → carry P (P.inv c) (carry P c x) ≡ x
   carry_back c x = simp (carry_is, group_rules, P)
 
-  pub carry_there : (c x : G) → carry P c (carry P (P.inv c) x) ≡ x
-  carry_there c x = simp (carry_is, group_rules, P)
-
   -- c x c^-1 = x exactly where c and x commute
   pub carry_of_commuting : (c x : G) → P.op c x ≡ P.op x c → carry P c x ≡ x
   carry_of_commuting c x h = op_cancel_right P c (carry P c x) x (carry_move c x ∙ h)

@@ -78,9 +78,6 @@ module _ (s : TwistedSubgroup) (twist : IsTwist s) where
   some_root = omega (arith, twist.modulus.from_one)
 
   -- the places
-  abbrev pub Place : Type 0
-  Place = Below (size s)
-
   abbrev pub places : Finite (Below (size s))
   places = finite_below (size s) some_place
 

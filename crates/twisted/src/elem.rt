@@ -1,3 +1,5 @@
+//! Elements of the twisted group algebra.
+
 ghost use Rattle.std.specs.Prelude.{◌≡◌, ℕ, ◌<◌, All, length, slice_get, slice_set, Some, IfOk};
 ghost use Rattle.twisted.specs.Twist.{size};
 

@@ -1,3 +1,5 @@
+//! Class sums.
+
 ghost use Rattle.std.specs.Prelude.{◌≡◌, ℕ, ◌<◌, ◌%◌, true, All, length, IfOk};
 ghost use Rattle.twisted.specs.Twist.{size};
 ghost use Rattle.twisted.specs.Regular.{is_regular};

@@ -1,3 +1,5 @@
+//! Twists: subgroups with a normalised 2-cocycle.
+
 ghost use Rattle.std.specs.Prelude.{◌≡◌, ◌≢◌, ℕ, ◌<◌, IfOk, IfSome, IfNone};
 ghost use Rattle.twisted.specs.Twist.{size, element, place_of, phase, IsTwist};
 

@@ -1,3 +1,5 @@
+//! Tests of values: products, conjugates, and what fits.
+
 ghost use Rattle.std.specs.Prelude.{◌≡◌, true};
 ghost use Rattle.cyclotomic.specs.Conductors.{is_conductor};
 

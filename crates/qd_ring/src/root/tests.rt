@@ -1,3 +1,5 @@
+//! Tests of roots of unity.
+
 use crate::root::Root;
 use crate::unit_group::UnitGroup;
 use std::test::Fail;

@@ -1,3 +1,5 @@
+//! Tests of rows of values.
+
 use crate::cyc::Cyc;
 use crate::rows::Rows;
 use std::test::Fail;

@@ -1,3 +1,5 @@
+//! Tests of listed sums, over two ring objects.
+
 ghost use Rattle.std.specs.Prelude.{ℕ, ◌≡◌, ◌+◌, ◌*◌, ◌%◌, ◌<◌, true, refl};
 ghost use Rattle.algebra.specs.Below.{Below, below_equal};
 ghost use Rattle.algebra.specs.Residues.{residue};

@@ -1,3 +1,5 @@
+//! Tests of the text of a value, written and read.
+
 use crate::plain::{Plain, ValueFault};
 use crate::value_reader::read_plain;
 use crate::value_text::append_plain;
