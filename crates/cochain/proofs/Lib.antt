@@ -4,3 +4,4 @@ pub mod Sentences
 pub mod Formula
 pub mod Lawful
 pub mod Gauged
+pub mod ZeroRows

@@ -1,3 +1,4 @@
 pub mod Cochain
 pub mod Refusal
 pub mod Gauge
+pub mod ZeroRows

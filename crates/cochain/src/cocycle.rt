@@ -1,3 +1,5 @@
+//! Normalised 3-cocycles, made of exponents or by a gauge.
+
 ghost use Rattle.std.specs.Prelude.{◌≡◌, ◌*◌, ◌<◌, length, None, IfOk, IfErr};
 ghost use Rattle.cochain.specs.Cochain.{Cochain, cochain_of, value, cocycle_fault, IsRoots, IsCocycle};
 ghost use Rattle.cochain.specs.Refusal.{Refuses};
@@ -43,7 +45,7 @@ impl Cocycle {
     {
         let _order = group.order();
         let cochain = ThreeCochain::new(alloc, group, roots, exponents)?;
-        match cocycle_fault(&cochain) {
+        match cocycle_fault(alloc, &cochain)? {
             Some(fault) => Err(CocycleRefusal::Fault(fault)),
             None => Ok(Cocycle { cochain }),
         }

@@ -1,3 +1,5 @@
+//! Why exponents are no cocycle, and why a cocycle was not gauged.
+
 ghost use Rattle.std.specs.Prelude.{◌≡◌};
 ghost use Rattle.cochain.specs.declared.fault.CocycleRefusal.TheVariants.{Memory};
 ghost use Rattle.cochain.specs.declared.fault.GaugeRefusal.TheVariants as gauges;

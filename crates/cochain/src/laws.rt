@@ -1,11 +1,14 @@
 //! The two laws of a normalised 3-cocycle over all places, each with the least place at which it fails.
 
-ghost use Rattle.std.specs.Prelude.{◌≡◌, ◌+◌, ◌*◌, ◌%◌, ◌^◌, ◌<◌, ◌≤◌, ◌==◌};
+ghost use Rattle.std.specs.Prelude.{◌≡◌, ◌+◌, ◌*◌, ◌%◌, ◌^◌, ◌<◌, ◌≤◌, ◌==◌, IfOk};
 ghost use Rattle.cochain.specs.Cochain.{is_normal_at, normal_fault_in, normal_fault, is_closed_at, closure_fault_in, closure_fault_at, closure_fault, cocycle_fault};
+ghost use Rattle.cochain.specs.ZeroRows.{MarksZeroRows};
 
 use crate::fault::CocycleFault;
 use crate::three_cochain::ThreeCochain;
+use crate::zero_rows::{has_zero_rows, mark_zero_rows};
 use scan::first_below;
+use std::alloc::{AllocError, Global};
 
 fn is_normal_at(w: &ThreeCochain, g: u32, h: u32, k: u32) -> bool
     requires g_below { g < w.now.group.order }
@@ -83,28 +86,53 @@ fn closure_fault_in(w: &ThreeCochain, g: u32, h: u32, k: u32) -> Option<CocycleF
     })
 }
 
-fn closure_fault(w: &ThreeCochain) -> Option<CocycleFault>
-    ensures first { result ≡ closure_fault w.now }
+/// The same, with no look at each place where the marks of the rows say that the law holds at all.
+#[tactic(auto, using(crate::proofs::ZeroRows::closed_in_zero_rows))]
+fn closure_fault_past(
+    w: &ThreeCochain,
+    marks: &[bool],
+    g: u32,
+    h: u32,
+    k: u32,
+) -> Option<CocycleFault>
+    requires marks { MarksZeroRows w.now marks.now }
+    requires g_below { g < w.now.group.order }
+    requires h_below { h < w.now.group.order }
+    requires k_below { k < w.now.group.order }
+    ensures first { result ≡ closure_fault_in w.now g h k }
 {
-    let n = w.group().order();
-    first_below(n, |g| first_below(n, |h| closure_fault_at(w, g, h)))
+    if has_zero_rows(w, marks, g, h, k) {
+        None
+    } else {
+        closure_fault_in(w, g, h, k)
+    }
 }
 
-fn closure_fault_at(w: &ThreeCochain, g: u32, h: u32) -> Option<CocycleFault>
+fn closure_fault_at(w: &ThreeCochain, marks: &[bool], g: u32, h: u32) -> Option<CocycleFault>
+    requires marks { MarksZeroRows w.now marks.now }
     requires g_below { g < w.now.group.order }
     requires h_below { h < w.now.group.order }
     ensures first { result ≡ closure_fault_at w.now g h }
 {
-    first_below(w.group().order(), |k| closure_fault_in(w, g, h, k))
+    first_below(w.group().order(), |k| closure_fault_past(w, marks, g, h, k))
+}
+
+fn closure_fault(w: &ThreeCochain, marks: &[bool]) -> Option<CocycleFault>
+    requires marks { MarksZeroRows w.now marks.now }
+    ensures first { result ≡ closure_fault w.now }
+{
+    let n = w.group().order();
+    first_below(n, |g| first_below(n, |h| closure_fault_at(w, marks, g, h)))
 }
 
 /// The first law that a cochain breaks, at its least place.
 #[tactic(auto, unfolding(crate::specs::Cochain::cocycle_fault))]
-pub fn cocycle_fault(w: &ThreeCochain) -> Option<CocycleFault>
-    ensures first { result ≡ cocycle_fault w.now }
+pub fn cocycle_fault(alloc: Global, w: &ThreeCochain) -> Result<Option<CocycleFault>, AllocError>
+    ensures first { IfOk result (λ fault. fault ≡ cocycle_fault w.now) }
 {
+    let marks = mark_zero_rows(alloc, w)?;
     match normal_fault(w) {
-        Some(fault) => Some(fault),
-        None => closure_fault(w),
+        Some(fault) => Ok(Some(fault)),
+        None => Ok(closure_fault(w, &marks)),
     }
 }

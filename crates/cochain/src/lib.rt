@@ -6,6 +6,7 @@ mod cocycle;
 mod fault;
 mod laws;
 mod three_cochain;
+mod zero_rows;
 
 pub use coboundary::exponents_by;
 pub use cocycle::Cocycle;

@@ -1,3 +1,5 @@
+//! Cochains of three arguments, by their exponents.
+
 ghost use Rattle.std.specs.Prelude.{◌≡◌, ◌*◌, ◌<◌, ◌≤◌, ◌+◌, length, slice_index, IfOk};
 ghost use Rattle.group_table.specs.Group.{IsGroup, IsSmall};
 ghost use Rattle.cochain.specs.Cochain.{cochain_of, value, IsRoots, IsCochain};
@@ -67,6 +69,7 @@ impl ThreeCochain {
     /// The group of its arguments.
     pub fn group(&self) -> &Group
         ensures group { result.now ≡ self.now.group }
+        ensures cochain { IsCochain self.now }
     {
         &self.group
     }
