@@ -1,0 +1,9 @@
+pub mod Actions
+pub mod Least
+pub mod Passing
+pub mod Stabilisers
+pub mod Listings
+pub mod Sums
+pub mod Fronts
+pub mod FormedSums
+pub mod AddedSums

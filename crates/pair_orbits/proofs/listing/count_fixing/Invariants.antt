@@ -1,0 +1,8 @@
+use Rattle.std.proofs.Common.{◌≡◌, ◌==◌, length}
+use Rattle.group_table.specs.Numbers.{passing_below}
+use Rattle.pair_orbits.specs.PairOrbits.{conjugate_pair}
+use Rattle.pair_orbits.proofs.listing.count_fixing.Given as goal
+
+-- those below c are counted
+abbrev pub invariant-loop-c : goal.invariant-loop-c
+invariant-loop-c l = l.count ≡ length (passing_below l.c (λ c. conjugate_pair l.group c l.p == l.p))

@@ -1,0 +1,4 @@
+pub mod PairOrbits
+pub mod Listing
+pub mod Laws
+pub mod FormedSums
