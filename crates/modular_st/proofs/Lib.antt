@@ -1,6 +1,10 @@
 mod AllAts
 mod Terms
-mod Kept
+mod Smalls
+mod KeptFits
+mod KeptValues
+mod KeptRows
+mod KeptSums
 mod RowsMade
 pub mod Entries
 mod MatrixLaws

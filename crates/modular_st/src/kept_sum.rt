@@ -1,168 +1,85 @@
 //! The numerators of S from the conjugates that are kept.
 
-ghost use Rattle.std.specs.Prelude.{◌≡◌, ◌<◌, ◌+◌, ◌*◌, ◌==◌, ◌&&◌, Some, IfSome, IsTrue};
-ghost use Rattle.group_table.specs.Group.{product};
-ghost use Rattle.classes.specs.Conjugacy.{class_of};
+ghost use Rattle.std.specs.Prelude.{◌≡◌, ◌*◌, ◌<◌, List, length, true, Some, IfSome};
+ghost use Rattle.classes.specs.Conjugacy.{representatives};
+ghost use Rattle.cyclotomic.specs.Conductors.{is_conductor};
+ghost use Rattle.pair_orbits.specs.declared.pair.Pair.{Pair};
 ghost use Rattle.qd_ring.specs.Formed.{Forms};
-ghost use Rattle.qd_ring.specs.Folding.{folded_value, IsFolded};
-ghost use Rattle.transport.specs.Simples.{count, class_at};
-ghost use Rattle.transport.specs.SSums.{commute, s_sum};
-ghost use Rattle.modular_st.specs.Numerators.{s_term};
-ghost use Rattle.modular_st.specs.Conjugates.{AreKept};
+ghost use Rattle.transport.specs.Simples.{count};
+ghost use Rattle.transport.specs.SSums.{s_sum};
+ghost use Rattle.modular_st.specs.Dots.{dot_product};
+ghost use Rattle.modular_st.specs.Conjugates.{IsKeptRow, AreKeptRows, AreKept};
 
-use crate::conjugates::{is_in_class, kept};
-use crate::numerator::{commute, order, sum};
+use crate::conjugates::KeptConjugates;
+use crate::numerator::sum;
 use qd_ring::{Cyc, Folded, Root, Terms};
 use transport::Simples;
 
-/// Whether `h` is in the class of simple `j` and commutes with `g`.
-fn meets<const K: u32>(simples: &Simples<K>, j: u32, g: u32, h: u32) -> bool
-    requires j_below { j < count K simples.now }
-    requires g_below { g < simples.now.cocycle.group.order }
-    requires h_below { h < simples.now.cocycle.group.order }
-    ensures meets { result ≡ ((class_of simples.now.cocycle.group h == class_at K simples.now j) && commute simples.now.cocycle.group g h) }
+/// The sum of the products of two rows, where they may be folded.
+fn dot_product<const K: u32>(left: &Vec<Terms<K>>, right: &Vec<Terms<K>>) -> Option<Cyc<K>>
+    requires conductor { is_conductor K ≡ true }
+    requires width { length left.now.items ≡ length right.now.items }
+    ensures forms { IfSome result (λ sum. Forms (dot_product K left.now.items right.now.items) (Some sum)) }
 {
-    is_in_class(simples, j, h) && commute(simples.cocycle().group(), g, h)
-}
-
-/// Adds the term of simples `i` and `j` for `g` and `h` of their classes, which commute, where there is room for it.
-fn add_term<const K: u32>(
-    folded: &mut Folded<K>,
-    simples: &Simples<K>,
-    conjugates: &Vec<Vec<Terms<K>>>,
-    i: u32,
-    j: u32,
-    g: u32,
-    h: u32,
-) -> bool
-    requires kept { AreKept K simples.now conjugates.now.items }
-    requires i_below { i < count K simples.now }
-    requires j_below { j < count K simples.now }
-    requires g_below { g < simples.now.cocycle.group.order }
-    requires h_below { h < simples.now.cocycle.group.order }
-    requires g_class { class_of simples.now.cocycle.group g ≡ class_at K simples.now i }
-    requires h_class { class_of simples.now.cocycle.group h ≡ class_at K simples.now j }
-    requires commute { product simples.now.cocycle.group g h ≡ product simples.now.cocycle.group h g }
-    ensures folded { let n = simples.now.cocycle.group.order in let term = s_term K simples.now i j in
-        IsTrue result → IsFolded K term (g * n + h) (folded_value K folded.old) folded.old.bound → IsFolded K term (g * n + (h + 1)) (folded_value K folded.new) folded.new.bound }
-{
-    let _order = order(simples);
-    folded.add_product(
-        kept(simples, conjugates, i, g, h),
-        kept(simples, conjugates, j, h, g),
-        Root::new(0),
-    )
-}
-
-/// Adds the term for `g`, which is in the class of simple `i`, and `h`; it is left out where it is 0.
-fn add_pair<const K: u32>(
-    folded: &mut Folded<K>,
-    simples: &Simples<K>,
-    conjugates: &Vec<Vec<Terms<K>>>,
-    i: u32,
-    j: u32,
-    g: u32,
-    h: u32,
-) -> bool
-    requires kept { AreKept K simples.now conjugates.now.items }
-    requires i_below { i < count K simples.now }
-    requires j_below { j < count K simples.now }
-    requires g_below { g < simples.now.cocycle.group.order }
-    requires h_below { h < simples.now.cocycle.group.order }
-    requires g_class { class_of simples.now.cocycle.group g ≡ class_at K simples.now i }
-    ensures folded { let n = simples.now.cocycle.group.order in let term = s_term K simples.now i j in
-        IsTrue result → IsFolded K term (g * n + h) (folded_value K folded.old) folded.old.bound → IsFolded K term (g * n + (h + 1)) (folded_value K folded.new) folded.new.bound }
-{
-    if meets(simples, j, g, h) {
-        add_term(folded, simples, conjugates, i, j, g, h)
-    } else {
-        true
-    }
-}
-
-/// Adds the terms for `g`, which is in the class of simple `i`, and each element.
-fn add_row<const K: u32>(
-    folded: &mut Folded<K>,
-    simples: &Simples<K>,
-    conjugates: &Vec<Vec<Terms<K>>>,
-    i: u32,
-    j: u32,
-    g: u32,
-) -> bool
-    requires kept { AreKept K simples.now conjugates.now.items }
-    requires i_below { i < count K simples.now }
-    requires j_below { j < count K simples.now }
-    requires g_below { g < simples.now.cocycle.group.order }
-    requires g_class { class_of simples.now.cocycle.group g ≡ class_at K simples.now i }
-    ensures folded { let n = simples.now.cocycle.group.order in let term = s_term K simples.now i j in
-        IsTrue result → IsFolded K term (g * n) (folded_value K folded.old) folded.old.bound → IsFolded K term ((g + 1) * n) (folded_value K folded.new) folded.new.bound }
-{
-    let order = order(simples);
-    for h in 0..order {
-        if !add_pair(folded, simples, conjugates, i, j, g, h) {
-            return false;
-        }
-    }
-    true
-}
-
-/// Adds the terms for `g` and each element, which are 0 where `g` isn't in the class of simple `i`.
-fn add_element<const K: u32>(
-    folded: &mut Folded<K>,
-    simples: &Simples<K>,
-    conjugates: &Vec<Vec<Terms<K>>>,
-    i: u32,
-    j: u32,
-    g: u32,
-) -> bool
-    requires kept { AreKept K simples.now conjugates.now.items }
-    requires i_below { i < count K simples.now }
-    requires j_below { j < count K simples.now }
-    requires g_below { g < simples.now.cocycle.group.order }
-    ensures folded { let n = simples.now.cocycle.group.order in let term = s_term K simples.now i j in
-        IsTrue result → IsFolded K term (g * n) (folded_value K folded.old) folded.old.bound → IsFolded K term ((g + 1) * n) (folded_value K folded.new) folded.new.bound }
-{
-    if is_in_class(simples, i, g) {
-        add_row(folded, simples, conjugates, i, j, g)
-    } else {
-        true
-    }
-}
-
-/// The sum of the terms of simples `i` and `j`, where they may be folded.
-fn folded_sum<const K: u32>(
-    simples: &Simples<K>,
-    conjugates: &Vec<Vec<Terms<K>>>,
-    i: u32,
-    j: u32,
-) -> Option<Cyc<K>>
-    requires kept { AreKept K simples.now conjugates.now.items }
-    requires i_below { i < count K simples.now }
-    requires j_below { j < count K simples.now }
-    ensures forms { IfSome result (λ sum. Forms (s_sum K simples.now i j) (Some sum)) }
-{
-    let order = order(simples);
     let mut folded = Folded::zero();
-    for g in 0..order {
-        if !add_element(&mut folded, simples, conjugates, i, j, g) {
+    for q in 0..left.len() {
+        if !folded.add_product(&left[q], &right[q], Root::new(0)) {
             return None;
         }
     }
     Some(folded.finish())
 }
 
-/// The sum of the terms of simples `i` and `j`.
-pub fn kept_sum<const K: u32>(
+/// The row of simple `i` and the class `d`.
+fn row_at<'a, const K: u32>(
     simples: &Simples<K>,
-    conjugates: &Vec<Vec<Terms<K>>>,
+    rows: &'a Vec<Vec<Terms<K>>>,
+    i: u32,
+    d: u32,
+) -> &'a Vec<Terms<K>>
+    requires count { length rows.now.items ≡ count K simples.now * length (representatives simples.now.cocycle.group) }
+    requires i_below { i < count K simples.now }
+    requires d_below { d < length (representatives simples.now.cocycle.group) }
+    ensures row { (pairs : List Pair) → AreKeptRows K simples.now pairs rows.now.items → IsKeptRow K simples.now pairs i d result.now.items }
+{
+    let _count = simples.count();
+    let classes = simples.classes().count();
+    &rows[(i * classes + d) as usize]
+}
+
+/// The sum of the terms of simples `i` and `j`, each listed pair as often as it has conjugates, where it may be folded.
+fn folded_sum<const K: u32>(
+    simples: &Simples<K>,
+    conjugates: &KeptConjugates<K>,
     i: u32,
     j: u32,
 ) -> Option<Cyc<K>>
-    requires kept { AreKept K simples.now conjugates.now.items }
+    requires kept { AreKept K simples.now conjugates.now }
+    requires i_below { i < count K simples.now }
+    requires j_below { j < count K simples.now }
+    ensures forms { IfSome result (λ sum. Forms (s_sum K simples.now i j) (Some sum)) }
+{
+    let _count = simples.count();
+    let left = row_at(simples, &conjugates.at_pairs, i, simples.class(j));
+    let right = row_at(simples, &conjugates.at_exchanged, j, simples.class(i));
+    dot_product(left, right)
+}
+
+/// The sum of the terms of simples `i` and `j`: folded, or else term by term.
+pub fn kept_sum<const K: u32>(
+    simples: &Simples<K>,
+    conjugates: &Option<KeptConjugates<K>>,
+    i: u32,
+    j: u32,
+) -> Option<Cyc<K>>
+    requires kept { IfSome conjugates.now (AreKept K simples.now) }
     requires i_below { i < count K simples.now }
     requires j_below { j < count K simples.now }
     ensures forms { Forms (s_sum K simples.now i j) result }
 {
+    let Some(conjugates) = conjugates else {
+        return sum(simples, i, j);
+    };
     match folded_sum(simples, conjugates, i, j) {
         Some(folded) => Some(folded),
         None => sum(simples, i, j),

@@ -1,4 +1,4 @@
-ghost use Rattle.std.specs.Prelude.{ℕ, ◌≡◌, ◌<◌, ◌+◌, ◌^◌, [], ◌∷◌, ◌++◌, length, slice_index_or, IfOk, IfErr, OnOk};
+ghost use Rattle.std.specs.Prelude.{ℕ, ◌≡◌, ◌<◌, ◌+◌, ◌^◌, [], ◌∷◌, ◌++◌, length, slice_index_or, IfOk, IfErr, IfSome, OnOk};
 ghost use Rattle.cyclotomic.specs.CyclotomicRing.{cyclotomic_value};
 ghost use Rattle.qd_ring.specs.RowLists.{row_at};
 ghost use Rattle.transport.specs.Simples.{count};
@@ -8,11 +8,11 @@ ghost use Rattle.modular_st.specs.SMatrices.{values_of_rows, s_front, s_rows};
 ghost use Rattle.modular_st.specs.Refusal.{Refuses};
 ghost use Rattle.modular_st.specs.ModularMatrices.{entries_of, IsSymmetric, HoldsDimensions, IsUnitary};
 
-use crate::conjugates::conjugates;
+use crate::conjugates::{KeptConjugates, conjugates};
 use crate::kept_sum::kept_sum;
 use crate::numerator::s_site;
 use crate::refusal::StRefusal;
-use qd_ring::{Cyc, Rows, Terms};
+use qd_ring::{Cyc, Rows};
 use std::alloc::Global;
 use std::marker::Model;
 use transport::Simples;
@@ -53,11 +53,11 @@ impl<const K: u32> SMatrix<K> {
 /// The entry at simples `i` and `j`.
 fn entry<const K: u32>(
     simples: &Simples<K>,
-    conjugates: &Vec<Vec<Terms<K>>>,
+    conjugates: &Option<KeptConjugates<K>>,
     i: u32,
     j: u32,
 ) -> Result<Cyc<K>, StRefusal>
-    requires kept { AreKept K simples.now conjugates.now.items }
+    requires kept { IfSome conjugates.now (AreKept K simples.now) }
     requires i_below { i < count K simples.now }
     requires j_below { j < count K simples.now }
     ensures entry { IfOk result (λ value. cyclotomic_value K value.coefficients ≡ (s_sum K simples.now i j).value) }
@@ -73,10 +73,10 @@ fn entry<const K: u32>(
 fn append_row<const K: u32>(
     rows: &mut Rows<K>,
     simples: &Simples<K>,
-    conjugates: &Vec<Vec<Terms<K>>>,
+    conjugates: &Option<KeptConjugates<K>>,
     i: u32,
 ) -> Result<(), StRefusal>
-    requires kept { AreKept K simples.now conjugates.now.items }
+    requires kept { IfSome conjugates.now (AreKept K simples.now) }
     requires i_below { i < count K simples.now }
     requires room { length rows.old + 1 < 2 ^ 32 }
     ensures added { OnOk result (values_of_rows K rows.new ≡ values_of_rows K rows.old ++ s_front K simples.now i (count K simples.now) ∷ []) }
@@ -88,6 +88,24 @@ fn append_row<const K: u32>(
         rows.push_value(value)?;
     }
     Ok(())
+}
+
+/// The rows of all simples.
+fn numerator_rows<const K: u32>(
+    alloc: Global,
+    simples: &Simples<K>,
+    conjugates: &Option<KeptConjugates<K>>,
+) -> Result<Rows<K>, StRefusal>
+    requires kept { IfSome conjugates.now (AreKept K simples.now) }
+    ensures rows { IfOk result (λ rows. values_of_rows K rows ≡ s_rows K simples.now) }
+    ensures refused { IfErr result (λ refusal. Refuses K simples.now refusal) }
+{
+    let count = simples.count();
+    let mut rows = Rows::empty(alloc);
+    for i in 0..count {
+        append_row(&mut rows, simples, conjugates, i)?;
+    }
+    Ok(rows)
 }
 
 /// The matrix S, times the order of the group: the entry at simples `i` and `j` is the sum over all `g` and `h` that commute of the
@@ -104,11 +122,8 @@ pub fn s_matrix<const K: u32>(alloc: Global, simples: &Simples<K>) -> Result<SMa
     ensures dimensions { IfOk result (λ matrix. HoldsDimensions K simples.now (entries_of K matrix)) }
     ensures unitary { IfOk result (λ matrix. IsUnitary K simples.now (entries_of K matrix)) }
 {
-    let count = simples.count();
+    let _count = simples.count();
     let conjugates = conjugates(alloc, simples)?;
-    let mut rows = Rows::empty(alloc);
-    for i in 0..count {
-        append_row(&mut rows, simples, &conjugates, i)?;
-    }
+    let rows = numerator_rows(alloc, simples, &conjugates)?;
     Ok(SMatrix { rows })
 }

@@ -10,6 +10,8 @@ mod groups;
 #[cfg(test)]
 mod made;
 #[cfg(test)]
+mod orbits_by_hand;
+#[cfg(test)]
 mod phases_by_hand;
 #[cfg(test)]
 mod semions;

@@ -7,7 +7,7 @@ ghost use Rattle.slant.specs.Twists.{twist_of};
 use crate::made::semion_cocycle;
 use classes::Classes;
 use cochain::Cocycle;
-use modular_st::{SMatrix, s_matrix, s_numerator, twist_exponent};
+use modular_st::{Pair, SMatrix, commuting_pairs, s_matrix, s_numerator, twist_exponent};
 use qd_ring::{Cyc, Root, Rows};
 use slant::twist_at;
 use std::alloc::Global;
@@ -157,4 +157,19 @@ fn s_of_semions(rt: HostRuntime) {
     assert_eq!(rt; simples.count(), 4);
     assert_eq!(rt; twist_exponent(&simples, 2), 3);
     assert_eq!(rt; twist_exponent(&simples, 3), 1);
+}
+
+#[test]
+fn pairs_of_semions(rt: HostRuntime) {
+    let simples = semion(&rt, rt.alloc(), [[0, 0], [0, 2]], [[0, 3], [0, 1]]);
+    let pairs = commuting_pairs(rt.alloc(), &simples).expect(&rt, "memory");
+    assert_eq!(rt; pairs.len(), 4);
+    assert_eq!(rt;
+        pairs.at(2),
+        Pair {
+            g: 1,
+            h: 0,
+            weight: 1
+        }
+    );
 }

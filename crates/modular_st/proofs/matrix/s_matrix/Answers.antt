@@ -1,69 +1,28 @@
-use Rattle.std.proofs.Common.{◌+◌, ◌<◌, ◌++◌, ◌∷◌, [], arith, ap, sym, ◌∙◌, length, zero-add}
-use Rattle.std.proofs.lemmas.List.{length-map}
-use Rattle.std.proofs.lemmas.List.FromFn.{map-range_with_len_more, length-map-range_with_len}
-use Rattle.transport.specs.Simples.{count}
-use Rattle.modular_st.specs.SMatrices.{row_values, s_front}
 use Rattle.modular_st.specs.ModularMatrices.{entries_of}
 use Rattle.modular_st.proofs.MatrixLaws.{matrix_symmetric, matrix_dimensions, matrix_unitary}
-use Rattle.modular_st.proofs.Entries.{rows_done, matrix_rows, matrix_width, matrix_entry}
+use Rattle.modular_st.proofs.Entries.{matrix_rows, matrix_width, matrix_entry}
 use Rattle.modular_st.proofs.matrix.s_matrix.Goals as goal
 
-pub append_row-requires : goal.append_row-requires
-append_row-requires g c =
-    let s = c.args.simples.now in
-    let rows = sym (length-map c.loop-i.rows (row_values g.row.K)) ∙ ap length c.loop-i.invariant
-    ∙ length-map-range_with_len (λ i. s_front g.row.K s i (count g.row.K s)) 0 c.loop-i.i in
-    let inside : c.loop-i.i < count g.row.K s = omega (arith, c.loop-i-test.true, c.count-count.ensures.count) in
-    let few : length c.loop-i.rows + 1 < 4294967296 = omega (arith, rows, c.loop-i-test.true, c.count-count.ensures.count, c.count-count.ensures.few) in
-    (omega arith, (omega arith, (omega arith, (c.in_ok-conjugates.ensures.kept, (inside, few)))))
-
-pub loop-i-preserved : goal.loop-i-preserved
-loop-i-preserved g c =
-    let s = c.args.simples.now in
-    let row = s_front g.row.K s c.loop-i.i (count g.row.K s) in
-    c.in_ok-append_row.ensures.added ∙ ap (λ rows. rows ++ row ∷ []) c.loop-i.invariant
-    ∙ sym (map-range_with_len_more (λ i. s_front g.row.K s i (count g.row.K s)) 0 c.loop-i.i c.loop-i.i (zero-add c.loop-i.i))
-
-pub returns-clause-matrix : goal.returns-clause-matrix
-returns-clause-matrix g c =
-    rows_done g.row.K c.args.simples.now c.loop-i.rows c.loop-i.i c.loop-i.invariant
-    (omega (arith, c.loop-i-test.false, c.loop-i.auto, c.count-count.ensures.count))
-
 pub returns-clause-rows : goal.returns-clause-rows
-returns-clause-rows g c =
-    matrix_rows g.row.K c.args.simples.now c.loop-i.rows
-    (rows_done g.row.K c.args.simples.now c.loop-i.rows c.loop-i.i c.loop-i.invariant
-    (omega (arith, c.loop-i-test.false, c.loop-i.auto, c.count-count.ensures.count)))
+returns-clause-rows g c = matrix_rows g.row.K c.args.simples.now c.in_ok-rows.rows c.in_ok-rows.ensures.rows
 
 pub returns-clause-columns : goal.returns-clause-columns
-returns-clause-columns g c =
-    matrix_width g.row.K c.args.simples.now c.loop-i.rows
-    (rows_done g.row.K c.args.simples.now c.loop-i.rows c.loop-i.i c.loop-i.invariant
-    (omega (arith, c.loop-i-test.false, c.loop-i.auto, c.count-count.ensures.count)))
+returns-clause-columns g c = matrix_width g.row.K c.args.simples.now c.in_ok-rows.rows c.in_ok-rows.ensures.rows
 
 pub returns-clause-entries : goal.returns-clause-entries
-returns-clause-entries g c =
-    matrix_entry g.row.K c.args.simples.now c.loop-i.rows
-    (rows_done g.row.K c.args.simples.now c.loop-i.rows c.loop-i.i c.loop-i.invariant
-    (omega (arith, c.loop-i-test.false, c.loop-i.auto, c.count-count.ensures.count)))
+returns-clause-entries g c = matrix_entry g.row.K c.args.simples.now c.in_ok-rows.rows c.in_ok-rows.ensures.rows
 
 pub returns-clause-symmetric : goal.returns-clause-symmetric
 returns-clause-symmetric g c =
-    matrix_symmetric g.row.K c.args.simples.now c.count-count.ensures.simples (entries_of g.row.K c.loop-i.rows)
-    (matrix_entry g.row.K c.args.simples.now c.loop-i.rows
-    (rows_done g.row.K c.args.simples.now c.loop-i.rows c.loop-i.i c.loop-i.invariant
-    (omega (arith, c.loop-i-test.false, c.loop-i.auto, c.count-count.ensures.count))))
+    matrix_symmetric g.row.K c.args.simples.now c.count-count.ensures.simples (entries_of g.row.K c.in_ok-rows.rows)
+    (matrix_entry g.row.K c.args.simples.now c.in_ok-rows.rows c.in_ok-rows.ensures.rows)
 
 pub returns-clause-dimensions : goal.returns-clause-dimensions
 returns-clause-dimensions g c =
-    matrix_dimensions g.row.K c.args.simples.now c.count-count.ensures.simples (entries_of g.row.K c.loop-i.rows)
-    (matrix_entry g.row.K c.args.simples.now c.loop-i.rows
-    (rows_done g.row.K c.args.simples.now c.loop-i.rows c.loop-i.i c.loop-i.invariant
-    (omega (arith, c.loop-i-test.false, c.loop-i.auto, c.count-count.ensures.count))))
+    matrix_dimensions g.row.K c.args.simples.now c.count-count.ensures.simples (entries_of g.row.K c.in_ok-rows.rows)
+    (matrix_entry g.row.K c.args.simples.now c.in_ok-rows.rows c.in_ok-rows.ensures.rows)
 
 pub returns-clause-unitary : goal.returns-clause-unitary
 returns-clause-unitary g c =
-    matrix_unitary g.row.K c.args.simples.now c.count-count.ensures.simples (entries_of g.row.K c.loop-i.rows)
-    (matrix_entry g.row.K c.args.simples.now c.loop-i.rows
-    (rows_done g.row.K c.args.simples.now c.loop-i.rows c.loop-i.i c.loop-i.invariant
-    (omega (arith, c.loop-i-test.false, c.loop-i.auto, c.count-count.ensures.count))))
+    matrix_unitary g.row.K c.args.simples.now c.count-count.ensures.simples (entries_of g.row.K c.in_ok-rows.rows)
+    (matrix_entry g.row.K c.args.simples.now c.in_ok-rows.rows c.in_ok-rows.ensures.rows)

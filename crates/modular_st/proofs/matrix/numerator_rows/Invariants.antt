@@ -2,7 +2,7 @@ use Rattle.std.proofs.Common.{◌≡◌, map}
 use Rattle.std.specs.List.{range_with_len}
 use Rattle.transport.specs.Simples.{count}
 use Rattle.modular_st.specs.SMatrices.{values_of_rows, s_front}
-use Rattle.modular_st.proofs.matrix.s_matrix.Given as goal
+use Rattle.modular_st.proofs.matrix.numerator_rows.Given as goal
 
 -- the rows before i
 abbrev pub invariant-loop-i : goal.invariant-loop-i

@@ -1,0 +1,31 @@
+-- A conjugate as it is kept: as often as its weight says, in sparse form.
+use Rattle.std.proofs.Common.{◌≡◌, ◌^◌, ◌<◌, ℕ, true, List, Option, Some, None, IfSome, ◌∙◌, ap₂}
+use Rattle.cyclotomic.specs.Conductors.{is_conductor}
+use Rattle.cyclotomic.specs.Cyclotomic.{cyclotomic}
+use Rattle.cyclotomic.specs.Ring.{value_product}
+use Rattle.cyclotomic.specs.CyclotomicRing.{CyclotomicValue, conjugate}
+use Rattle.pair_orbits.specs.declared.pair.Pair.{Pair}
+use Rattle.qd_ring.specs.declared.monomial.Monomial.{Monomial}
+use Rattle.qd_ring.specs.Formed.{whole}
+use Rattle.qd_ring.specs.SparseValues.{value_of_terms, total_of_terms}
+use Rattle.transport.specs.Simples.{SimplesOver}
+use Rattle.transport.specs.FullCharacters.{full_character}
+use Rattle.transport.proofs.Wholes.{times_whole}
+use Rattle.modular_st.specs.Conjugates.{IsSmall, conjugate_at}
+use Rattle.modular_st.proofs.Smalls.{small_by_terms}
+
+module _ (k : ℕ) (s : SimplesOver) (i : ℕ) (pair : Pair) (number value weighted : CyclotomicValue k)
+    (whole_is : number ≡ whole k pair.weight) (value_is : value ≡ conjugate k (full_character k s i pair.g pair.h).value)
+    (weighted_is : weighted ≡ value_product (cyclotomic k) number value) where
+  conjugate_is : weighted ≡ conjugate_at k s i pair
+  conjugate_is = weighted_is ∙ ap₂ (value_product (cyclotomic k)) whole_is value_is ∙ times_whole k pair.weight (conjugate k (full_character k s i pair.g pair.h).value)
+
+  pub kept_value : (answer : Option (List Monomial)) → IfSome answer (λ terms. value_of_terms k terms ≡ weighted)
+      → IfSome answer (λ terms. value_of_terms k terms ≡ conjugate_at k s i pair)
+  kept_value (Some terms) is = is ∙ conjugate_is
+  kept_value None is = tt
+
+  pub kept_small : is_conductor k ≡ true → (answer : Option (List Monomial)) → IfSome answer (λ terms. value_of_terms k terms ≡ weighted)
+      → IfSome answer (λ terms. total_of_terms terms < 2 ^ 54) → IfSome answer (λ terms. IsSmall k (conjugate_at k s i pair))
+  kept_small entry (Some terms) is few = small_by_terms k entry terms (conjugate_at k s i pair) (is ∙ conjugate_is) few
+  kept_small entry None is few = tt
