@@ -9,7 +9,7 @@ use Rattle.fusion_web.specs.Entries.{WebEntries, count_of, most_nodes}
 use Rattle.transport.specs.Simples.{SimplesOver, count}
 use Rattle.fusion.specs.Numbers.{fusion_number}
 use Rattle.fusion.specs.Fronts.{triple, HasCount, IsFront}
-use Rattle.fusion.proofs.Kept.{pair_below}
+use Rattle.fusion.proofs.Places.{pair_below}
 
 -- three simples
 record Same (i j l a b c : ℕ) : Type 0 where

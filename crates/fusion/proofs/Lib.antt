@@ -1,8 +1,10 @@
 mod Lists
-mod Kept
-mod Terms
-mod TensorParts
-mod InnerParts
+mod Places
+mod MemberSums
+mod TensorSums
+mod OrbitSums
+mod Invariance
+mod PlainParts
 mod Quotients
 mod Faults
 mod Bounds

@@ -1,18 +1,17 @@
-//! The full characters of all simples with their conjugates, made once, in sparse form.
+//! The full characters of all simples, made once, in sparse form.
 
-ghost use Rattle.std.specs.Prelude.{◌≡◌, ◌<◌, IfOk, IfErr, Some};
+ghost use Rattle.std.specs.Prelude.{◌≡◌, ◌<◌, IfOk, IfErr};
 ghost use Rattle.std.specs.Result.{result_ok};
-ghost use Rattle.group_table.specs.Group.{product};
 ghost use Rattle.classes.specs.Conjugacy.{class_of};
 ghost use Rattle.qd_ring.specs.Formed.{Forms};
 ghost use Rattle.transport.specs.Simples.{count, class_at};
-ghost use Rattle.fusion.specs.Kept.{full_term, IsFullValue, IsFullRow, IsClassRow, AreFullValues};
+ghost use Rattle.fusion.specs.Kept.{value_or_nought, full_term, IsFullRow, IsClassRow, AreFullValues};
 ghost use Rattle.fusion.specs.Sites.{IsFullOverflow};
 ghost use Rattle.fusion.specs.Refusal.{Refuses};
 
 use crate::elements::{commute, is_in_class, order};
-use crate::full_value::FullValue;
 use crate::refusal::FusionRefusal;
+use crate::sparse::sparse_or_nought;
 use qd_ring::{Cyc, Site, Terms};
 use std::alloc::Global;
 use transport::Simples;
@@ -33,28 +32,25 @@ fn full_term<const K: u32>(simples: &Simples<K>, i: u32, g: u32, x: u32) -> Resu
     }
 }
 
-/// The full character of simple `i` at `g` and `x` with its conjugate.
+/// It in sparse form; none where it is 0.
 fn full_value<const K: u32>(
+    alloc: Global,
     simples: &Simples<K>,
     i: u32,
     g: u32,
     x: u32,
-) -> Result<FullValue<K>, Site>
+) -> Result<Option<Box<Terms<K>>>, FusionRefusal<K>>
     requires i_below { i < count K simples.now }
     requires g_below { g < simples.now.cocycle.group.order }
     requires x_below { x < simples.now.cocycle.group.order }
-    ensures value { IfOk result (λ kept. IsFullValue K simples.now i g x kept) }
-    ensures site { IfErr result (λ site. IsFullOverflow K simples.now site) }
+    ensures value { IfOk result
+        (λ value. value_or_nought K value ≡ (full_term K simples.now i g x).value) }
+    ensures refused { IfErr result (λ refusal. Refuses K simples.now refusal) }
 {
-    let value = full_term(simples, i, g, x)?;
-    let conjugate = match value.try_conj() {
-        Some(conjugate) => Some(Terms::of(&conjugate)),
-        None => None,
-    };
-    Ok(FullValue {
-        value: Terms::of(&value),
-        conjugate,
-    })
+    match full_term(simples, i, g, x) {
+        Ok(value) => Ok(sparse_or_nought(alloc, &value)?),
+        Err(site) => Err(FusionRefusal::Overflow { site }),
+    }
 }
 
 /// Those of simple `i` at `g` and each element.
@@ -63,18 +59,16 @@ fn full_row<const K: u32>(
     simples: &Simples<K>,
     i: u32,
     g: u32,
-) -> Result<Vec<FullValue<K>>, FusionRefusal<K>>
+) -> Result<Vec<Option<Box<Terms<K>>>>, FusionRefusal<K>>
     requires i_below { i < count K simples.now }
     requires g_below { g < simples.now.cocycle.group.order }
     ensures row { IfOk result (λ row. IsFullRow K simples.now i g row.items) }
     ensures refused { IfErr result (λ refusal. Refuses K simples.now refusal) }
 {
-    let mut row = Vec::new(alloc);
-    for x in 0..order(simples) {
-        match full_value(simples, i, g, x) {
-            Ok(value) => row.push(value)?,
-            Err(site) => return Err(FusionRefusal::Overflow { site }),
-        }
+    let order = order(simples);
+    let mut row = Vec::with_capacity(alloc, order as usize)?;
+    for x in 0..order {
+        row.push(full_value(alloc, simples, i, g, x)?)?;
     }
     Ok(row)
 }
@@ -85,7 +79,7 @@ fn class_row<const K: u32>(
     simples: &Simples<K>,
     i: u32,
     g: u32,
-) -> Result<Vec<FullValue<K>>, FusionRefusal<K>>
+) -> Result<Vec<Option<Box<Terms<K>>>>, FusionRefusal<K>>
     requires i_below { i < count K simples.now }
     requires g_below { g < simples.now.cocycle.group.order }
     ensures row { IfOk result (λ row. IsClassRow K simples.now i g row.items) }
@@ -102,7 +96,7 @@ fn class_row<const K: u32>(
 pub fn full_values<const K: u32>(
     alloc: Global,
     simples: &Simples<K>,
-) -> Result<Vec<Vec<FullValue<K>>>, FusionRefusal<K>>
+) -> Result<Vec<Vec<Option<Box<Terms<K>>>>>, FusionRefusal<K>>
     ensures kept { IfOk result (λ rows. AreFullValues K simples.now rows.items) }
     ensures refused { IfErr result (λ refusal. Refuses K simples.now refusal) }
 {
@@ -115,19 +109,19 @@ pub fn full_values<const K: u32>(
 }
 
 /// What is kept of simple `i` at `g`, which is in its class, and `x`.
-pub fn kept<'a, const K: u32>(
+pub fn full_at<'a, const K: u32>(
     simples: &Simples<K>,
-    values: &'a Vec<Vec<FullValue<K>>>,
+    values: &'a Vec<Vec<Option<Box<Terms<K>>>>>,
     i: u32,
     g: u32,
     x: u32,
-) -> &'a FullValue<K>
+) -> &'a Option<Box<Terms<K>>>
     requires kept { AreFullValues K simples.now values.now.items }
     requires i_below { i < count K simples.now }
     requires g_below { g < simples.now.cocycle.group.order }
     requires x_below { x < simples.now.cocycle.group.order }
     requires class { class_of simples.now.cocycle.group g ≡ class_at K simples.now i }
-    ensures value { IsFullValue K simples.now i g x result.now }
+    ensures value { value_or_nought K result.now ≡ (full_term K simples.now i g x).value }
 {
     let _count = simples.count();
     let order = order(simples);

@@ -1,131 +1,94 @@
-//! The inner products of the tensor character of two simples with the full characters.
+//! The inner products of the tensor character of two simples with the full characters, each as a folded sum over the listed pairs.
 
-ghost use Rattle.std.specs.Prelude.{◌≡◌, ◌+◌, ◌*◌, ◌<◌, false, None, IsTrue};
-ghost use Rattle.classes.specs.Conjugacy.{class_of};
-ghost use Rattle.cyclotomic.specs.CyclotomicRing.{cyclotomic_value};
-ghost use Rattle.qd_ring.specs.Formed.{Forms};
-ghost use Rattle.transport.specs.Simples.{count, class_at};
-ghost use Rattle.transport.specs.Headline.{order_of};
+ghost use Rattle.std.specs.Prelude.{◌≡◌, ◌<◌, true, IfSome, IsTrue};
+ghost use Rattle.cyclotomic.specs.Conductors.{is_conductor};
+ghost use Rattle.cyclotomic.specs.Cyclotomic.{cyclotomic};
+ghost use Rattle.cyclotomic.specs.Ring.{value_sum, value_product};
+ghost use Rattle.cyclotomic.specs.CyclotomicRing.{CyclotomicValue, cyclotomic_value};
+ghost use Rattle.qd_ring.specs.SparseValues.{value_of_terms};
+ghost use Rattle.qd_ring.specs.Folding.{folded_value};
+ghost use Rattle.transport.specs.Simples.{count};
 ghost use Rattle.transport.specs.Fusion.{fusion_sum};
-ghost use Rattle.fusion.specs.Kept.{AreFullValues, AreTensorValues, IsInnerTotal};
+ghost use Rattle.fusion.specs.Kept.{value_or_nought, Answers, AreTensors, AreAllWeighted};
 
-use crate::elements::{commute, is_in_class, order};
-use crate::full::kept;
-use crate::full_value::FullValue;
-use crate::in_place::add_term;
-use qd_ring::{Cyc, Terms, Total};
+use crate::elements::order;
+use crate::plain;
+use crate::weighted::Weighted;
+use qd_ring::{Cyc, Folded, Root, Terms};
 use transport::Simples;
 
-/// Adds the term at `g`, which is in the class of simple `l`, and `x`: the tensor character of simples `i` and `j` times the conjugate of
-/// the full character of `l`. It is left out where they don't commute, or where the tensor character is 0. False where it overflows.
+/// Adds the product of a tensor character and a weighted conjugate; it is left out where the first is 0. False where the second isn't there,
+/// or where there is no room.
 fn add_pair<const K: u32>(
-    total: &mut Total<K>,
-    simples: &Simples<K>,
-    values: &Vec<Vec<FullValue<K>>>,
-    tensors: &Vec<Vec<Option<Box<Terms<K>>>>>,
-    i: u32,
-    j: u32,
-    l: u32,
-    g: u32,
-    x: u32,
+    folded: &mut Folded<K>,
+    tensor: &Option<Box<Terms<K>>>,
+    conjugate: &Option<Terms<K>>,
 ) -> bool
-    requires kept { AreFullValues K simples.now values.now.items }
-    requires tensors { AreTensorValues K simples.now i j tensors.now.items }
-    requires l_below { l < count K simples.now }
-    requires g_below { g < simples.now.cocycle.group.order }
-    requires x_below { x < simples.now.cocycle.group.order }
-    requires class { class_of simples.now.cocycle.group g ≡ class_at K simples.now l }
-    requires total { IsInnerTotal K simples.now i j l (g * order_of simples.now + x) total.now }
-    ensures more { IsTrue result → IsInnerTotal K simples.now i j l (g * order_of simples.now + (x + 1)) total.new }
-    ensures overflow { result ≡ false → Forms (fusion_sum K simples.now i j l) None }
+    requires conductor { is_conductor K ≡ true }
+    ensures value { (u : CyclotomicValue K)
+        → IfSome conjugate.now (λ terms. value_of_terms K terms ≡ u) → IsTrue result
+        → folded_value K folded.new ≡ value_sum (folded_value K folded.old)
+        (value_product (cyclotomic K) (value_or_nought K tensor.now) u) }
 {
-    let _order = order(simples);
-    if !commute(simples, g, x) {
+    let Some(tensor) = tensor else {
         return true;
-    }
-    let Some(conjugate) = &kept(simples, values, l, g, x).conjugate else {
-        return false;
     };
-    match &tensors[g as usize][x as usize] {
-        Some(tensor) => add_term(total, tensor.try_mul(conjugate)),
-        None => true,
+    match conjugate {
+        Some(conjugate) => folded.add_product(tensor, conjugate, Root::new(0)),
+        None => false,
     }
 }
 
-/// Adds the terms at `g`, which is in the class of simple `l`, and each element. False where it overflows.
-fn add_row<const K: u32>(
-    total: &mut Total<K>,
+/// The fusion sum of simples `i`, `j` and `l`, where it may be folded.
+fn folded_sum<const K: u32>(
     simples: &Simples<K>,
-    values: &Vec<Vec<FullValue<K>>>,
-    tensors: &Vec<Vec<Option<Box<Terms<K>>>>>,
-    i: u32,
-    j: u32,
-    l: u32,
-    g: u32,
-) -> bool
-    requires kept { AreFullValues K simples.now values.now.items }
-    requires tensors { AreTensorValues K simples.now i j tensors.now.items }
-    requires l_below { l < count K simples.now }
-    requires g_below { g < simples.now.cocycle.group.order }
-    requires class { class_of simples.now.cocycle.group g ≡ class_at K simples.now l }
-    requires total { IsInnerTotal K simples.now i j l (g * order_of simples.now) total.now }
-    ensures more { IsTrue result → IsInnerTotal K simples.now i j l ((g + 1) * order_of simples.now) total.new }
-    ensures overflow { result ≡ false → Forms (fusion_sum K simples.now i j l) None }
-{
-    for x in 0..order(simples) {
-        if !add_pair(total, simples, values, tensors, i, j, l, g, x) {
-            return false;
-        }
-    }
-    true
-}
-
-/// Adds the terms at `g` and each element, which are 0 where `g` isn't in the class of simple `l`. False where it overflows.
-fn add_element<const K: u32>(
-    total: &mut Total<K>,
-    simples: &Simples<K>,
-    values: &Vec<Vec<FullValue<K>>>,
-    tensors: &Vec<Vec<Option<Box<Terms<K>>>>>,
-    i: u32,
-    j: u32,
-    l: u32,
-    g: u32,
-) -> bool
-    requires kept { AreFullValues K simples.now values.now.items }
-    requires tensors { AreTensorValues K simples.now i j tensors.now.items }
-    requires l_below { l < count K simples.now }
-    requires g_below { g < simples.now.cocycle.group.order }
-    requires total { IsInnerTotal K simples.now i j l (g * order_of simples.now) total.now }
-    ensures more { IsTrue result → IsInnerTotal K simples.now i j l ((g + 1) * order_of simples.now) total.new }
-    ensures overflow { result ≡ false → Forms (fusion_sum K simples.now i j l) None }
-{
-    if is_in_class(simples, l, g) {
-        add_row(total, simples, values, tensors, i, j, l, g)
-    } else {
-        true
-    }
-}
-
-/// The fusion sum of simples `i`, `j` and `l`; `None` exactly where it overflows.
-pub fn fusion_sum<const K: u32>(
-    simples: &Simples<K>,
-    values: &Vec<Vec<FullValue<K>>>,
-    tensors: &Vec<Vec<Option<Box<Terms<K>>>>>,
+    conjugates: &Vec<Vec<Weighted<K>>>,
+    tensors: &Vec<Option<Box<Terms<K>>>>,
     i: u32,
     j: u32,
     l: u32,
 ) -> Option<Cyc<K>>
-    requires kept { AreFullValues K simples.now values.now.items }
-    requires tensors { AreTensorValues K simples.now i j tensors.now.items }
+    requires conjugates { AreAllWeighted K simples.now conjugates.now.items }
+    requires tensors { AreTensors K simples.now i j tensors.now.items }
+    requires i_below { i < count K simples.now }
+    requires j_below { j < count K simples.now }
     requires l_below { l < count K simples.now }
-    ensures forms { Forms (fusion_sum K simples.now i j l) result }
+    ensures value { IfSome result
+        (λ sum. cyclotomic_value K sum.coefficients ≡ (fusion_sum K simples.now i j l).value) }
 {
-    let order = order(simples);
-    let mut total = Total::zero();
-    for g in 0..order {
-        if !add_element(&mut total, simples, values, tensors, i, j, l, g) {
+    let _order = order(simples);
+    let _count = simples.count();
+    let mut folded = Folded::zero();
+    for weighted in &conjugates[l as usize] {
+        if !add_pair(
+            &mut folded,
+            &tensors[weighted.place as usize],
+            &weighted.conjugate,
+        ) {
             return None;
         }
     }
-    Some(total.sum())
+    Some(folded.finish())
+}
+
+/// The fusion sum of simples `i`, `j` and `l`; `None` only where it overflows.
+pub fn fusion_sum<const K: u32>(
+    simples: &Simples<K>,
+    conjugates: &Vec<Vec<Weighted<K>>>,
+    tensors: &Vec<Option<Box<Terms<K>>>>,
+    i: u32,
+    j: u32,
+    l: u32,
+) -> Option<Cyc<K>>
+    requires conjugates { AreAllWeighted K simples.now conjugates.now.items }
+    requires tensors { AreTensors K simples.now i j tensors.now.items }
+    requires i_below { i < count K simples.now }
+    requires j_below { j < count K simples.now }
+    requires l_below { l < count K simples.now }
+    ensures answers { Answers K (fusion_sum K simples.now i j l) result }
+{
+    match folded_sum(simples, conjugates, tensors, i, j, l) {
+        Some(sum) => Some(sum),
+        None => plain::fusion_sum(simples, i, j, l),
+    }
 }

@@ -1,18 +1,22 @@
 //! The fusion numbers of the simples of a twisted quantum double.
 #![tactic(auto)]
 
+mod conjugates;
 mod elements;
 mod full;
-mod full_value;
-mod in_place;
 mod inner;
+mod kept;
 pub mod laws;
+mod listed;
+mod making;
 mod pair;
+mod plain;
 mod quotient;
 mod reads;
 mod refusal;
-mod tensor;
+mod sparse;
 mod web;
+mod weighted;
 
 pub use reads::{dual, plane};
 pub use refusal::FusionRefusal;

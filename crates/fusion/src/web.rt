@@ -6,17 +6,19 @@ ghost use Rattle.fusion_web.specs.Entries.{count_of, most_nodes};
 ghost use Rattle.transport.specs.Simples.{count};
 ghost use Rattle.transport.specs.Headline.{TensorProductsDecompose, IsFusionRule};
 ghost use Rattle.fusion.specs.Numbers.{quotient_at, pair_fault, simple_fault, whole_fault, HoldsFusionNumbers, HoldsSmallNumbers};
-ghost use Rattle.fusion.specs.Kept.{AreFullValues, ArePairNumbers};
+ghost use Rattle.fusion.specs.Kept.{IsKept, ArePairNumbers};
 ghost use Rattle.fusion.specs.Fronts.{triple, HasCount, IsFront};
 ghost use Rattle.fusion.specs.Refusal.{Refuses};
 
+use crate::conjugates::conjugate_rows;
 use crate::elements::order;
 use crate::full::full_values;
-use crate::full_value::FullValue;
+use crate::kept::Kept;
 use crate::pair::pair_numbers;
 use crate::refusal::FusionRefusal;
 use fusion_web::laws::web_laws;
 use fusion_web::{Memory, Web, WebRefusal};
+use pair_orbits::commuting_pairs;
 use std::alloc::Global;
 use transport::{Simples, fusion_laws};
 
@@ -69,11 +71,11 @@ fn add_simple<const K: u32>(
     alloc: Global,
     web: &mut Web,
     simples: &Simples<K>,
-    values: &Vec<Vec<FullValue<K>>>,
+    kept: &Kept<K>,
     i: u32,
 ) -> Result<(), FusionRefusal<K>>
     requires few { count K simples.now ≤ 64 }
-    requires kept { AreFullValues K simples.now values.now.items }
+    requires kept { IsKept K simples.now kept.now }
     requires i_below { i < count K simples.now }
     requires before { first i (simple_fault K simples.now) ≡ None }
     requires front { IsFront K simples.now (triple (count K simples.now) i 0 0) web.old }
@@ -82,10 +84,25 @@ fn add_simple<const K: u32>(
     ensures refused { IfErr result (λ refusal. Refuses K simples.now refusal) }
 {
     for j in 0..simples.count() {
-        let numbers = pair_numbers(alloc, simples, values, i, j)?;
+        let numbers = pair_numbers(alloc, simples, kept, i, j)?;
         add_pair(web, simples, i, j, &numbers)?;
     }
     Ok(())
+}
+
+/// The listed pairs, the full characters and their weighted conjugates.
+fn kept<const K: u32>(alloc: Global, simples: &Simples<K>) -> Result<Kept<K>, FusionRefusal<K>>
+    ensures kept { IfOk result (λ kept. IsKept K simples.now kept) }
+    ensures refused { IfErr result (λ refusal. Refuses K simples.now refusal) }
+{
+    let full = full_values(alloc, simples)?;
+    let pairs = commuting_pairs(alloc, simples.cocycle().group())?;
+    let conjugates = conjugate_rows(alloc, simples, &pairs)?;
+    Ok(Kept {
+        pairs,
+        full,
+        conjugates,
+    })
 }
 
 /// The web of the fusion numbers of at most 64 simples: the inner product of the tensor character of each two with the full character of
@@ -109,10 +126,10 @@ pub fn numbers<const K: u32>(alloc: Global, simples: &Simples<K>) -> Result<Web,
     let _order = order(simples);
     let _vacuum = simples.vacuum();
     let count = simples.count();
-    let values = full_values(alloc, simples)?;
+    let kept = kept(alloc, simples)?;
     let mut web = Web::new(alloc, count)?;
     for i in 0..count {
-        add_simple(alloc, &mut web, simples, &values, i)?;
+        add_simple(alloc, &mut web, simples, &kept, i)?;
     }
     Ok(web)
 }

@@ -1,11 +1,10 @@
-use Rattle.std.proofs.Common.{subst, arith}
-use Rattle.cyclotomic.specs.CyclotomicRing.{cyclotomic_value}
-use Rattle.qd_ring.specs.Totals.{IsTotal}
-use Rattle.fusion.specs.Kept.{inner_part}
+use Rattle.transport.specs.Fusion.{fusion_sum}
+use Rattle.fusion.proofs.PlainParts.{answers_formed, answers_found}
 use Rattle.fusion.proofs.inner.fusion_sum.Goals as goal
 
-pub loop-g-init : goal.loop-g-init
-loop-g-init g c =
-    let term = inner_part g.row.K c.args.simples.now c.args.i c.args.j c.args.l in
-    let zero = c.zero-total.result in
-    subst (λ m. IsTotal term m (cyclotomic_value g.row.K zero.sum.coefficients) zero.sizes) (omega arith) (c.zero-total.ensures.none_added term)
+pub returns-in-Some : goal.returns-in-Some
+returns-in-Some g c = record { answers = answers_found g.row.K (fusion_sum g.row.K c.args.simples.now c.args.i c.args.j c.args.l) c.in-Some.sum c.in-Some.ensures.value }
+
+pub returns-in-None : goal.returns-in-None
+returns-in-None g c =
+    record { answers = answers_formed g.row.K (fusion_sum g.row.K c.args.simples.now c.args.i c.args.j c.args.l) c.fusion_sum.result c.fusion_sum.ensures.forms }

@@ -9,6 +9,6 @@ returns-in-None-clause-refused g c =
     let s = c.args.simples.now in
     record {
       first_is = first_fault k s c.args.i c.args.j c.args.l c.requires.i_below c.requires.j_below c.requires.l_below c.requires.before
-          (ap₂ (whole_quotient k) (sym c.order.ensures.order) (sym (c.in-Some.ensures.forms).stands) ∙ sym c.whole_quotient.ensures.quotient ∙ c.in-None.is);
-      value_is = (c.in-Some.ensures.forms).stands;
+          (ap₂ (whole_quotient k) (sym c.order.ensures.order) (sym (c.in-Some.ensures.answers).stands) ∙ sym c.whole_quotient.ensures.quotient ∙ c.in-None.is);
+      value_is = (c.in-Some.ensures.answers).stands;
     }

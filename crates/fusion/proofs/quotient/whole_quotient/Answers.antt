@@ -1,8 +1,21 @@
-use Rattle.std.proofs.Common.{◌/◌, ◌%◌, Some, ap, sym, ◌∙◌}
+use Rattle.std.proofs.Common.{◌≡◌, ◌/◌, ◌%◌, ◌∷◌, [], Some, ap, sym, ◌∙◌}
+use Rattle.std.specs.Prelude.{pos}
 use Rattle.cyclotomic.specs.CyclotomicRing.{cyclotomic_value}
 use Rattle.fusion.specs.Numbers.{natural_of}
 use Rattle.fusion.proofs.Quotients.{read_back, quotient_found, quotient_rest, quotient_none, quotient_by, quotient_below}
 use Rattle.fusion.proofs.quotient.whole_quotient.Goals as goal
+use Rattle.fusion.proofs.quotient.whole_quotient.Given.{Over}
+use Rattle.fusion.proofs.quotient.whole_quotient.Goals.{After-from-n}
+
+-- the value is the number that was read
+number_is : (g : Over) (c : After-from-n g) → cyclotomic_value g.row.K c.args.value.now.coefficients ≡ cyclotomic_value g.row.K (pos c.in-Some-natural.number ∷ [])
+number_is g c =
+    let k = g.row.K in
+    let a = c.args.value.now in
+    let is = c.in-Some.ensures.whole in
+    let read = read_back k a.conductor a.coefficients a.array a.small c.in-Some.whole is in
+    quotient_by k a.conductor c.args.n (cyclotomic_value k a.coefficients) c.in-Some.whole c.in-Some-natural.number
+    (ap natural_of (sym read) ∙ sym c.natural.ensures.natural ∙ c.in-Some-natural.is) is
 
 pub returns-in_default : goal.returns-in_default
 returns-in_default g c =
@@ -22,26 +35,19 @@ pub returns-then-number-n-eq0 : goal.returns-then-number-n-eq0
 returns-then-number-n-eq0 g c =
     let k = g.row.K in
     let a = c.args.value.now in
-    let u = cyclotomic_value k a.coefficients in
     let number = c.in-Some-natural.number in
-    let is = c.in-Some.ensures.whole in
-    let read = read_back k a.conductor a.coefficients a.array a.small c.in-Some.whole is in
-    let natural = ap natural_of (sym read) ∙ sym c.natural.ensures.natural ∙ c.in-Some-natural.is in
     record {
       quotient = ap (λ n. Some (number / n)) c.from-n.ensures
-          ∙ sym (quotient_found k a.conductor c.args.n u number (quotient_by k a.conductor c.args.n u c.in-Some.whole number natural is) (ap (λ n. number % n) (sym c.from-n.ensures) ∙ c.if-number-n-eq0.true));
+          ∙ sym (quotient_found k a.conductor c.args.n (cyclotomic_value k a.coefficients) number (number_is g (goal.at.returns-then-number-n-eq0 g c).After-from-n)
+          (ap (λ n. number % n) (sym c.from-n.ensures) ∙ c.if-number-n-eq0.true));
     }
 
 pub returns-else-number-n-eq0 : goal.returns-else-number-n-eq0
 returns-else-number-n-eq0 g c =
     let k = g.row.K in
     let a = c.args.value.now in
-    let u = cyclotomic_value k a.coefficients in
     let number = c.in-Some-natural.number in
-    let is = c.in-Some.ensures.whole in
-    let read = read_back k a.conductor a.coefficients a.array a.small c.in-Some.whole is in
-    let natural = ap natural_of (sym read) ∙ sym c.natural.ensures.natural ∙ c.in-Some-natural.is in
     record {
-      quotient = sym (quotient_rest k a.conductor c.args.n u number (quotient_by k a.conductor c.args.n u c.in-Some.whole number natural is)
+      quotient = sym (quotient_rest k a.conductor c.args.n (cyclotomic_value k a.coefficients) number (number_is g (goal.at.returns-else-number-n-eq0 g c).After-from-n)
           (λ divides. c.if-number-n-eq0.false (ap (λ n. number % n) c.from-n.ensures ∙ divides)));
     }

@@ -1,0 +1,12 @@
+use Rattle.std.proofs.Common.{◌≡◌, get_or}
+use Rattle.algebra.specs.Sums.{sum_below}
+use Rattle.cyclotomic.specs.Ring.{value_nought}
+use Rattle.cyclotomic.specs.CyclotomicRing.{cyclotomic_ring}
+use Rattle.fusion.specs.Kept.{members_at, tensor_part}
+use Rattle.fusion.proofs.making.is_made.Given as goal
+
+-- the parts of the members before place q add up to 0
+abbrev pub invariant-loop-q : goal.invariant-loop-q
+invariant-loop-q g l =
+    let k = g.row.K in
+    sum_below (cyclotomic_ring k) l.q (λ q. (tensor_part k l.simples l.i l.j l.g l.x (get_or (members_at k l.simples l.i) q 0)).value) ≡ value_nought
