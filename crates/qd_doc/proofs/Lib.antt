@@ -6,7 +6,11 @@ pub mod Places
 pub mod Lines
 pub mod RoundTrip
 pub mod Shapes
-pub mod BlockSteps
+pub mod LastRows
+pub mod StretchLaws
+pub mod TermLaws
+pub mod ValueLists
+pub mod BlockLists
 pub mod Entries
 pub mod Parts
 pub mod ValueWords

@@ -1,17 +1,15 @@
 -- What the tokens of the section of characters say, one after the other.
-use Rattle.std.proofs.Common.{◌≡◌, ℕ, ◌-◌, ◌+◌, ◌≤◌, ◌<◌, Bool, true, false, ◌&&◌, ◌||◌, ◌==◌, not, cond, nat_eq, List, [], ◌∷◌, ◌++◌, ◌^◌, length, map, get_or, set, codes, Some, None, Result, Ok, Err, refl, sym, ap, ◌∙◌, subst, ◌⊎◌, inl, inr, arith, length-append, append_assoc}
+use Rattle.std.proofs.Common.{◌≡◌, ℕ, ◌+◌, ◌≤◌, ◌<◌, Bool, true, false, ◌&&◌, ◌||◌, ◌==◌, not, cond, nat_eq, List, [], ◌∷◌, ◌++◌, ◌^◌, length, map, codes, Some, None, Result, Ok, Err, refl, sym, ap, ◌∙◌, subst, ◌⊎◌, inl, inr, arith, length-append, append_assoc}
 use Rattle.std.specs.Prelude.{ℤ}
 use Rattle.std.specs.List.{list_all, before_first}
 use Rattle.std.proofs.lemmas.Bool.{ne_eqb, true≢false}
 use Rattle.std.proofs.lemmas.List.{append-nil}
-use Rattle.std.proofs.Math.Seq.{set-append_seam, get_or-append_seam}
 use Rattle.std.proofs.lemmas.List.Sums.{take_while-cons}
-use Rattle.qd_ring.specs.RowLists.{with_value as rows_with_value}
 use Rattle.qd_text.specs.Tokens.{Lexeme}
 use Rattle.qd_text.specs.Numbers.{value, number_of, is_digit}
 use Rattle.qd_text.specs.declared.natural.NumberFault.{NumberFault}
 use Rattle.qd_text.specs.declared.natural.NumberFault.TheVariants as faults
-use Rattle.qd_doc.specs.Blocks.{Block, block, last_rows, with_last_rows, with_row, with_value}
+use Rattle.qd_doc.specs.Blocks.{Block, block}
 use Rattle.qd_doc.specs.Values.{begins_value, coefficients, plain, value_of}
 use Rattle.qd_text.specs.declared.expected.Expected.TheVariants.{End}
 use Rattle.qd_doc.specs.Kinds.{Natural, ClassOrEnd, RowClassOrEnd, ValueRowClassOrEnd, NoToken, is_word, is_class_or_end, is_row_class_or_end, fault_refusal, refusal, number_refusal}
@@ -24,6 +22,7 @@ use Rattle.qd_doc.specs.declared.part.Part.{Part}
 use Rattle.qd_doc.specs.declared.part.Part.TheVariants as parts
 use Rattle.qd_doc.specs.declared.refusal.DocRefusal.TheVariants.{Syntax}
 use Rattle.qd_doc.proofs.ValueWords.{same_word}
+use Rattle.qd_doc.proofs.LastRows.{at_last, last_rows_are, with_row_is, with_value_is}
 
 -- ---- words
 
@@ -222,42 +221,6 @@ pub record Goes (phi : ℕ) (s : State) (text : List ℕ) : Type 0 where
   pub same : (words : List (List ℕ)) → whole phi s (text ∷ words) ≡ whole phi next words
   pub room : (m : ℕ) → AreShort s m → m + 1 < 2 ^ 32 → HasRoom part (blocks_in s)
   pub short : (m : ℕ) → AreShort s m → AreShort next (m + 1)
-
--- ---- the last of a list
-
-len_last : {A : Type 0} (front : List A) (x : A) → length (front ++ x ∷ []) - 1 ≡ length front
-len_last front x = omega (arith, length-append front (x ∷ []))
-
-at_last : {A : Type 0} (front : List A) (x d : A) → get_or (front ++ x ∷ []) (length (front ++ x ∷ []) - 1) d ≡ x
-at_last front x d = ap (λ n. get_or (front ++ x ∷ []) n d) (len_last front x) ∙ get_or-append_seam front x [] d
-
-set_last : {A : Type 0} (front : List A) (x y : A) → set (front ++ x ∷ []) (length (front ++ x ∷ []) - 1) y ≡ front ++ y ∷ []
-set_last front x y = ap (λ n. set (front ++ x ∷ []) n y) (len_last front x) ∙ set-append_seam front x [] y
-
-last_rows_are : (front : List Block) (b : Block) → last_rows (front ++ b ∷ []) ≡ b.rows
-last_rows_are front b = ap (λ (c : Block). c.rows) (at_last front b (block 0 []))
-
-with_last_rows_are : (front : List Block) (number : ℕ) (rows more : List (List (List ℤ))) → with_last_rows (front ++ block number rows ∷ []) more ≡ front ++ block number more ∷ []
-with_last_rows_are front number rows more =
-    ap (λ (b : Block). set (front ++ block number rows ∷ []) (length (front ++ block number rows ∷ []) - 1) (block b.representative more)) (at_last front (block number rows) (block 0 []))
-    ∙ set_last front (block number rows) (block number more)
-
-pub with_row_is : (front : List Block) (number : ℕ) (rows : List (List (List ℤ))) → with_row (front ++ block number rows ∷ []) ≡ front ++ block number (rows ++ [] ∷ []) ∷ []
-with_row_is front number rows =
-    with_last_rows_are front number rows (last_rows (front ++ block number rows ∷ []) ++ [] ∷ [])
-    ∙ ap (λ rows. front ++ block number (rows ++ [] ∷ []) ∷ []) (last_rows_are front (block number rows))
-
-rows_with_value_are : (rows : List (List (List ℤ))) (values : List (List ℤ)) (v : List ℤ) → rows_with_value (rows ++ values ∷ []) v ≡ rows ++ (values ++ v ∷ []) ∷ []
-rows_with_value_are rows values v =
-    ap (λ row. set (rows ++ values ∷ []) (length (rows ++ values ∷ []) - 1) (row ++ v ∷ [])) (at_last rows values [])
-    ∙ set_last rows values (values ++ v ∷ [])
-
-pub with_value_is : (front : List Block) (number : ℕ) (rows : List (List (List ℤ))) (values : List (List ℤ)) (v : List ℤ)
-    → with_value (front ++ block number (rows ++ values ∷ []) ∷ []) v ≡ front ++ block number (rows ++ (values ++ v ∷ []) ∷ []) ∷ []
-with_value_is front number rows values v =
-    with_last_rows_are front number (rows ++ values ∷ []) (rows_with_value (last_rows (front ++ block number (rows ++ values ∷ []) ∷ [])) v)
-    ∙ ap (λ rows. front ++ block number (rows_with_value rows v) ∷ []) (last_rows_are front (block number (rows ++ values ∷ [])))
-    ∙ ap (λ rows. front ++ block number rows ∷ []) (rows_with_value_are rows values v)
 
 -- ---- what a word says
 

@@ -28,7 +28,7 @@ use Rattle.qd_doc.specs.declared.part.Part.TheVariants as parts
 use Rattle.qd_doc.specs.declared.document.Given.{Given}
 use Rattle.qd_doc.specs.declared.document.Form.TheVariants.{Bare, WithCharacters}
 use Rattle.qd_doc.proofs.Entries.{small_entry}
-use Rattle.qd_doc.proofs.Parts.{with_row_is, with_value_is}
+use Rattle.qd_doc.proofs.LastRows.{with_row_is, with_value_is}
 use Rattle.qd_doc.specs.declared.document.Document.{Document}
 use Rattle.qd_doc.specs.declared.refusal.DocRefusal.{DocRefusal}
 use Rattle.qd_doc.specs.declared.refusal.DocRefusal.TheVariants as refusals

@@ -1,4 +1,7 @@
 pub mod Blocks
+pub mod Stretches
+pub mod StoredValues
+pub mod StoredBlocks
 pub mod Values
 pub mod Kinds
 pub mod Numerals

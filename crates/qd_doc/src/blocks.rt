@@ -1,36 +1,38 @@
-ghost use Rattle.std.specs.Prelude.{◌≡◌, ◌+◌, ◌-◌, ◌^◌, ◌<◌, ℤ, List, [], ◌∷◌, ◌++◌, length, slice_index_or, OnOk, OnErr};
+//! Blocks of rows of values.
+
+ghost use Rattle.std.specs.Prelude.{◌≡◌, ◌+◌, ◌-◌, ◌^◌, ◌<◌, ◌≤◌, ℤ, List, [], ◌∷◌, ◌++◌, length, drop, slice_index, slice_index_or, OnOk, OnErr};
 ghost use Rattle.qd_ring.specs.RowLists.{row_at};
 ghost use Rattle.qd_doc.specs.Blocks.{block, block_at, last_rows, with_row, with_value};
+ghost use Rattle.qd_doc.specs.Stretches.{AreInOrder, first_start};
+ghost use Rattle.qd_doc.specs.declared.head.Head.{Head};
 
-use crate::plain_rows::PlainRows;
+use crate::head::{Head, place_of_row, rows_in};
+use crate::stretch::{next_place, range_of};
+use crate::values::Values;
 use group_table::Memory;
 use qd_ring::Plain;
 use std::alloc::Global;
 use std::marker::Model;
 
-/// A block as it is stored.
-#[derive(Debug, Drop)]
-pub struct StoredBlock {
-    pub representative: u32,
-    pub rows: PlainRows,
-}
-
 /// Blocks of rows of values; seen as a list of blocks, each its number and a list of rows, each a
 /// list of values, each the list of its 42 coefficients.
 #[derive(Debug, Drop)]
 pub struct Blocks {
-    blocks: Vec<StoredBlock>,
+    heads: Vec<Head>,
+    rows: Vec<u32>,
+    values: Values,
 }
 
 impl Model for Blocks {
-    ghost use Rattle.std.specs.Prelude.{◌^◌, ◌<◌, List, map, length};
-    ghost use Rattle.qd_doc.specs.Blocks.{Block, block};
+    ghost use Rattle.std.specs.Prelude.{List};
+    ghost use Rattle.qd_doc.specs.Blocks.{Block};
+    ghost use Rattle.qd_doc.specs.StoredBlocks.{stored_blocks, AreBlocks};
 
     ghost Value = { List Block };
 
-    ghost view = { λ list. map (λ stored. block stored.representative stored.rows) list.blocks.items };
+    ghost view = { λ list. stored_blocks list.heads.items list.rows.items list.values };
 
-    ghost invariant = { λ list. length list.blocks.items < 2 ^ 32 };
+    ghost invariant = { λ list. AreBlocks list.heads.items list.rows.items list.values };
 }
 
 impl Blocks {
@@ -39,7 +41,9 @@ impl Blocks {
         ensures empty { result ≡ [] }
     {
         Blocks {
-            blocks: Vec::new(alloc),
+            heads: Vec::new(alloc),
+            rows: Vec::new(alloc),
+            values: Values::empty(alloc),
         }
     }
 
@@ -49,10 +53,11 @@ impl Blocks {
         ensures added { OnOk result (self.new ≡ self.old ++ block representative [] ∷ []) }
         ensures unchanged { OnErr result (self.new ≡ self.old) }
     {
-        let rows = PlainRows::empty(*self.blocks.allocator());
-        self.blocks.push(StoredBlock {
+        next_place(self.heads.len())?;
+        let start = next_place(self.rows.len())?;
+        self.heads.push(Head {
             representative,
-            rows,
+            start,
         })?;
         Ok(())
     }
@@ -64,8 +69,9 @@ impl Blocks {
         ensures added { OnOk result (self.new ≡ with_row self.old) }
         ensures unchanged { OnErr result (self.new ≡ self.old) }
     {
-        let last = self.blocks.len() - 1;
-        self.blocks[last].rows.push_row()
+        next_place(self.rows.len())?;
+        self.rows.push(self.values.len())?;
+        Ok(())
     }
 
     /// Adds a value at the end of the last row of the last block. After `Memory` the blocks are as
@@ -77,8 +83,17 @@ impl Blocks {
         ensures added { OnOk result (self.new ≡ with_value self.old v.coefficients) }
         ensures unchanged { OnErr result (self.new ≡ self.old) }
     {
-        let last = self.blocks.len() - 1;
-        self.blocks[last].rows.push_value(v)
+        self.push_plain(&v)
+    }
+
+    /// The same, of a value that stays where it is.
+    pub fn push_plain(&mut self, v: &Plain) -> Result<(), Memory>
+        requires listed { 0 < length self.old }
+        requires row { 0 < length (last_rows self.old) }
+        ensures added { OnOk result (self.new ≡ with_value self.old v.now.coefficients) }
+        ensures unchanged { OnErr result (self.new ≡ self.old) }
+    {
+        self.values.push(v)
     }
 
     /// How many blocks there are.
@@ -86,7 +101,7 @@ impl Blocks {
         ensures count { result ≡ length self.now }
         ensures small { length self.now < 2 ^ 32 }
     {
-        self.blocks.len() as u32
+        self.heads.len() as u32
     }
 
     /// The number of block `b`.
@@ -94,7 +109,7 @@ impl Blocks {
         requires listed { b < length self.now }
         ensures number { result ≡ (block_at self.now b).representative }
     {
-        self.blocks[b as usize].representative
+        self.heads[b as usize].representative
     }
 
     /// How many rows block `b` has.
@@ -103,7 +118,7 @@ impl Blocks {
         ensures count { result ≡ length (block_at self.now b).rows }
         ensures small { length (block_at self.now b).rows < 2 ^ 32 }
     {
-        self.blocks[b as usize].rows.rows()
+        rows_in(&self.heads, b, self.rows.len() as u32)
     }
 
     /// How many values row `r` of block `b` has.
@@ -113,7 +128,9 @@ impl Blocks {
         ensures count { result ≡ length (row_at (block_at self.now b).rows r) }
         ensures small { length (row_at (block_at self.now b).rows r) < 2 ^ 32 }
     {
-        self.blocks[b as usize].rows.width(r)
+        let place = place_of_row(&self.heads, b, r, self.rows.len() as u32);
+        let (start, end) = range_of(&self.rows, place, self.values.len() as usize);
+        (end - start) as u32
     }
 
     /// The value at place `p` of row `r` of block `b`.
@@ -123,6 +140,8 @@ impl Blocks {
         requires place { p < length (row_at (block_at self.now b).rows r) }
         ensures value { result.coefficients ≡ slice_index_or (row_at (block_at self.now b).rows r) p [] }
     {
-        self.blocks[b as usize].rows.value(r, p)
+        let place = place_of_row(&self.heads, b, r, self.rows.len() as u32);
+        let (start, _) = range_of(&self.rows, place, self.values.len() as usize);
+        self.values.value(start as u32 + p)
     }
 }

@@ -1,3 +1,5 @@
+//! Reading the section of characters.
+
 ghost use Rattle.std.specs.Prelude.{◌≡◌, ◌≢◌, ◌+◌, ◌<◌, ◌≤◌, ◌^◌, ◌||◌, List, [], Bool, length, IfOk, OnOk};
 ghost use Rattle.cyclotomic.specs.Conductors.{phi_of};
 ghost use Rattle.qd_text.specs.Tokens.{tokens_from, lexeme_of, text_of, IsWithin};
@@ -13,7 +15,7 @@ use crate::kind::Kind;
 use crate::part::{Part, Stage};
 use crate::refusal::DocRefusal;
 use crate::steps::{is_text, natural, token, word};
-use qd_ring::{Plain, ValueFault, phi, read_plain};
+use qd_ring::{ValueFault, phi, read_plain};
 use qd_text::{Expected, Memory, Token};
 use std::alloc::Global;
 
@@ -31,14 +33,14 @@ fn begins_value(bytes: &Vec<u8>, token: Token) -> bool
 }
 
 /// The value with `phi` coefficients that a token spells.
-fn value(bytes: &Vec<u8>, token: Token, phi: u32) -> Result<Plain, DocRefusal>
+fn value(bytes: &Vec<u8>, token: Token, phi: u32) -> Result<Part, DocRefusal>
     requires inside { IsWithin bytes.now.items token }
     requires powers { phi ≤ 42 }
     ensures spelled { result ≡ unless (fault_refusal token.start (value_of phi (text_of bytes.now.items token)))
-        (plain (coefficients phi (text_of bytes.now.items token))) }
+        (Part.Value (plain (coefficients phi (text_of bytes.now.items token)))) }
 {
     match read_plain(bytes, token.start, token.len, phi) {
-        Ok(value) => Ok(value),
+        Ok(value) => Ok(Part::Value { value }),
         Err(ValueFault::NotValue) => Err(DocRefusal::Syntax {
             offset: token.start,
             expected: Expected::Value,
@@ -71,9 +73,7 @@ fn value_or_row(bytes: &Vec<u8>, token: Token, phi: u32) -> Result<Part, DocRefu
     ensures said { result ≡ value_or_row phi (lexeme_of bytes.now.items token) }
 {
     if begins_value(bytes, token) {
-        Ok(Part::Value {
-            value: value(bytes, token, phi)?,
-        })
+        value(bytes, token, phi)
     } else {
         row(bytes, token)
     }
@@ -152,27 +152,27 @@ fn part(bytes: &Vec<u8>, at: u32, phi: u32, stage: Stage) -> Result<(Part, u32),
 }
 
 /// Puts what a part says into the blocks.
-fn add(blocks: &mut Blocks, part: Part) -> Result<(), Memory>
-    requires room { HasRoom part blocks.old }
-    ensures added { OnOk result (blocks.new ≡ with_part part blocks.old) }
+fn add(blocks: &mut Blocks, part: &Part) -> Result<(), Memory>
+    requires room { HasRoom part.now blocks.old }
+    ensures added { OnOk result (blocks.new ≡ with_part part.now blocks.old) }
 {
     match part {
         Part::Class | Part::End => Ok(()),
-        Part::Number { number } => blocks.push_block(number),
+        Part::Number { number } => blocks.push_block(*number),
         Part::Row => blocks.push_row(),
-        Part::Value { value } => blocks.push_value(value),
+        Part::Value { value } => blocks.push_plain(value),
     }
 }
 
-fn is_end(part: Part) -> bool
-    ensures end { result ≡ is_end part }
+fn is_end(part: &Part) -> bool
+    ensures end { result ≡ is_end part.now }
 {
     matches!(part, Part::End)
 }
 
 /// What was read last, after a part.
-fn stage_of(part: Part) -> Stage
-    ensures stage { result ≡ stage_of part }
+fn stage_of(part: &Part) -> Stage
+    ensures stage { result ≡ stage_of part.now }
 {
     match part {
         Part::Class => Stage::Class,
@@ -196,11 +196,11 @@ fn blocks(alloc: Global, bytes: &Vec<u8>, at: u32, phi: u32) -> Result<(Blocks, 
     loop {
         let (part, after) = part(bytes, next, phi, stage)?;
         next = after;
-        if is_end(part) {
+        if is_end(&part) {
             return Ok((blocks, next));
         }
-        add(&mut blocks, part)?;
-        stage = stage_of(part);
+        add(&mut blocks, &part)?;
+        stage = stage_of(&part);
     }
 }
 

@@ -1,3 +1,5 @@
+//! What a document says.
+
 use crate::blocks::Blocks;
 use group_table::Nats;
 

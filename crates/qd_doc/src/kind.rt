@@ -1,3 +1,5 @@
+//! Kinds of natural numbers.
+
 /// Which natural numbers may stand at a place.
 #[derive(Clone, Copy, Debug, PartialEq, Eq)]
 pub enum Kind {

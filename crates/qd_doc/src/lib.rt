@@ -5,14 +5,17 @@ mod block_text;
 mod blocks;
 mod characters;
 mod document;
+mod head;
 mod kind;
 mod listing;
 mod part;
-mod plain_rows;
 mod printing;
 mod reading;
 mod refusal;
 mod steps;
+mod stretch;
+mod term;
+mod values;
 
 pub use blocks::Blocks;
 pub use characters::values_are_spelled;

@@ -1,3 +1,5 @@
+//! Reading the numbers of a table, and exponents.
+
 ghost use Rattle.std.specs.Prelude.{◌≡◌, ℕ, ◌+◌, ◌*◌, ◌<◌, ◌≤◌, ◌^◌, List, length, vec_len, replicate, IfOk, OnOk};
 ghost use Rattle.qd_text.specs.Tokens.{tokens_from};
 ghost use Rattle.qd_doc.specs.Reading.{Gives, IsOffset, read_numbers, read_entry, read_entries, read_sparse, read_exponents};

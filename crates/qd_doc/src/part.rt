@@ -1,3 +1,5 @@
+//! The parts of the section of characters.
+
 use qd_ring::Plain;
 
 /// What was read last in the section of characters.

@@ -1,3 +1,5 @@
+//! Reading a document.
+
 ghost use Rattle.std.specs.Prelude.{◌≡◌, ◌<◌, ◌≤◌, ◌^◌, ◌*◌, [], length, vec_len, IfOk};
 ghost use Rattle.qd_text.specs.Tokens.{tokens_from};
 ghost use Rattle.qd_doc.specs.Contents.{Parses, IsInRange};

@@ -1,3 +1,5 @@
+//! Why a text is no document.
+
 ghost use Rattle.std.specs.Prelude.{◌≡◌};
 ghost use Rattle.qd_doc.specs.declared.refusal.DocRefusal.TheVariants.{Memory};
 

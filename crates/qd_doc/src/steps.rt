@@ -1,3 +1,5 @@
+//! Reading one token.
+
 ghost use Rattle.std.specs.Prelude.{◌≡◌, ℕ, ◌+◌, ◌<◌, ◌≤◌, ◌^◌, List, ◌∷◌, [], length, vec_len, IfOk, IfErr, OnOk, Bool};
 ghost use Rattle.qd_text.specs.Tokens.{tokens_from, lexeme_of, text_of, IsWithin};
 ghost use Rattle.qd_text.specs.Numbers.{value};

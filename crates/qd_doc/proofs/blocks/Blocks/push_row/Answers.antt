@@ -1,15 +1,23 @@
-use Rattle.std.proofs.Common.{◌-◌, ◌∙◌}
-use Rattle.qd_doc.proofs.BlockSteps.{last_place, on_ok, on_err, row_added, rows_kept}
+use Rattle.std.proofs.Common.{◌≡◌, ◌<◌, [], ◌∷◌, ◌++◌, ◌∙◌, length, ap, sym, subst, arith}
+use Rattle.qd_doc.specs.Blocks.{with_row}
+use Rattle.qd_doc.specs.StoredBlocks.{AreBlocks, stored_blocks}
+use Rattle.qd_doc.proofs.BlockLists.{row_pushed, row_still}
 use Rattle.qd_doc.proofs.blocks.Blocks.push_row.Goals as goal
+
+pub invariant_of-self-2 : goal.invariant_of-self-2
+invariant_of-self-2 c =
+    let heads = c.self.inside.heads.items in
+    let starts = c.self.inside.rows.items in
+    let values = c.self.inside.values in
+    let added : c.push.new.self.items ≡ starts ++ length values ∷ [] = c.in_ok-push.ensures.items ∙ ap (λ n. starts ++ n ∷ []) c.len-2.ensures.count in
+    subst (λ ss. AreBlocks heads ss values) (sym added) (row_still heads starts values c.self.invariant (omega arith))
 
 pub returns-clause-added : goal.returns-clause-added
 returns-clause-added c =
-    on_ok c.push_row.result
-    (row_added c.self.inside.blocks.items c.args.self.now (c.len-last.result - 1) c.index_mut.result.now c.self.view_is (last_place c.self.inside.blocks.items c.args.self.now c.len-last.result c.self.view_is c.requires.listed (c.len-last.ensures ∙ c.self.inside.blocks.ok.0)).0 c.index_mut.ensures.value (last_place c.self.inside.blocks.items c.args.self.now c.len-last.result c.self.view_is c.requires.listed (c.len-last.ensures ∙ c.self.inside.blocks.ok.0)).1 c.push_row.new.self)
-    c.push_row.ensures.added
-
-pub returns-clause-unchanged : goal.returns-clause-unchanged
-returns-clause-unchanged c =
-    on_err c.push_row.result
-    (rows_kept c.self.inside.blocks.items c.args.self.now (c.len-last.result - 1) c.index_mut.result.now c.self.view_is (last_place c.self.inside.blocks.items c.args.self.now c.len-last.result c.self.view_is c.requires.listed (c.len-last.ensures ∙ c.self.inside.blocks.ok.0)).0 c.index_mut.ensures.value (last_place c.self.inside.blocks.items c.args.self.now c.len-last.result c.self.view_is c.requires.listed (c.len-last.ensures ∙ c.self.inside.blocks.ok.0)).1 c.push_row.new.self)
-    c.push_row.ensures.unchanged
+    let heads = c.self.inside.heads.items in
+    let starts = c.self.inside.rows.items in
+    let values = c.self.inside.values in
+    let added : c.push.new.self.items ≡ starts ++ length values ∷ [] = c.in_ok-push.ensures.items ∙ ap (λ n. starts ++ n ∷ []) c.len-2.ensures.count in
+    ap (λ ss. stored_blocks heads ss values) added
+    ∙ row_pushed heads starts values c.self.invariant (subst (λ blocks. 0 < length blocks) (sym c.self.view_is) c.requires.listed)
+    ∙ ap with_row c.self.view_is
