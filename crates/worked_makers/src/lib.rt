@@ -5,3 +5,5 @@
 mod cocycles;
 #[cfg(test)]
 mod groups;
+#[cfg(test)]
+mod named;

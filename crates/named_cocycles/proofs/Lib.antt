@@ -1,0 +1,4 @@
+pub mod Signs
+pub mod Named
+pub mod Gauges
+pub mod Generator

@@ -1,0 +1,3 @@
+pub mod Makers
+pub mod Samples
+pub mod Laws
