@@ -17,7 +17,7 @@ use Rattle.table_check.specs.declared.identity_name.IdentityName.{IdentityName}
 use Rattle.table_check.specs.declared.identity_name.IdentityName.TheVariants as names
 use Rattle.data_print.specs.Text.{◌⧺◌}
 use Rattle.data_print.specs.declared.cause.Cause.{Cause}
-use Rattle.data_print.specs.declared.cause.Cause.TheVariants.{Usage, Read, TooLong, Syntax, Wide, Section, Order, Roots, Group, Cocycle, NoConductor, Conductor, Modulus, Simples, Shape, NoDegree, Multiplicity, Count, Identity, NoTwist, NoVacuum, NotWhole, Overflow}
+use Rattle.data_print.specs.declared.cause.Cause.TheVariants.{Usage, Read, TooLong, Syntax, Wide, Section, Order, Roots, Group, Cocycle, Size, Action, NoConductor, Conductor, Modulus, Simples, Shape, NoDegree, Multiplicity, Count, Identity, NoTwist, NoVacuum, NotWhole, Overflow}
 use Rattle.data_print.specs.declared.cause.ShapeFault.{ShapeFault}
 use Rattle.data_print.specs.declared.cause.ShapeFault.TheVariants.{Blocks, Representative, Width}
 
@@ -119,6 +119,8 @@ line_of (Order number) = codes "refused 6 order " ⧺ decimal number ⧺ codes "
 line_of (Roots number) = codes "refused 6 roots " ⧺ decimal number ⧺ codes "\n"
 line_of (Group fault) = group_line fault
 line_of (Cocycle fault) = cocycle_line fault
+line_of (Size order) = codes "refused 6 size " ⧺ decimal order ⧺ codes "\n"
+line_of (Action power) = codes "refused 4 action " ⧺ decimal power ⧺ codes "\n"
 line_of (NoConductor multiple) = codes "refused 6 conductor " ⧺ decimal multiple ⧺ codes "\n"
 line_of (Conductor stated needed) = codes "refused 6 stated " ⧺ decimal stated ⧺ codes " needed " ⧺ decimal needed ⧺ codes "\n"
 line_of (Modulus fault) = modulus_line fault

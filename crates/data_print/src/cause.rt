@@ -64,6 +64,14 @@ pub enum Cause {
     Group(GroupFault),
     /// The exponents are not a normalised 3-cocycle.
     Cocycle(CocycleFault),
+    /// The order of the group that is made is not 1 to 60.
+    Size {
+        order: u128,
+    },
+    /// The factor of the semidirect product that is made has this power, which is not 1.
+    Action {
+        power: u32,
+    },
     /// No entry of the table of conductors is a multiple of this.
     NoConductor {
         multiple: u32,

@@ -240,6 +240,8 @@ fn line(alloc: Global, why: &Cause) -> Result<Vec<u8>, Memory>
         Cause::Roots { number } => bytes(format!(in alloc; "refused 6 roots {number}\n")),
         Cause::Group(fault) => bytes(group_line(alloc, *fault)),
         Cause::Cocycle(fault) => bytes(cocycle_line(alloc, *fault)),
+        Cause::Size { order } => bytes(format!(in alloc; "refused 6 size {order}\n")),
+        Cause::Action { power } => bytes(format!(in alloc; "refused 4 action {power}\n")),
         Cause::NoConductor { multiple } => bytes(format!(in alloc;
             "refused 6 conductor {multiple}\n"
         )),

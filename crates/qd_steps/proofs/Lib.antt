@@ -5,3 +5,4 @@ pub mod FieldOf
 pub mod LiftedRows
 pub mod ModulusCauses
 pub mod LiftSteps
+pub mod TwistLists

@@ -1,31 +1,17 @@
 -- The steps of the lift of all classes, and of what comes after it.
-use Rattle.std.proofs.Common.{◌≡◌, ℕ, ◌<◌, List, length, None, sym, ap, subst, ◌∙◌}
-use Rattle.scan.specs.First.{first, option_or}
-use Rattle.scan.proofs.Places.{first_found}
-use Rattle.classes.specs.Conjugacy.{representatives}
+use Rattle.std.proofs.Common.{◌≡◌, ℕ, List, None, sym, ap, ◌∙◌}
+use Rattle.scan.specs.First.{option_or}
 use Rattle.cochain.specs.Cochain.{Cochain}
 use Rattle.prime_field.specs.declared.mod_ring.ModRing.{ModRing}
 use Rattle.table_check.specs.Characters.{RowsOver}
 use Rattle.qd_steps.specs.declared.refusal.StepRefusal.{StepRefusal}
 use Rattle.qd_steps.specs.declared.refusal.StepRefusal.TheVariants as steps
 use Rattle.qd_steps.specs.Tables.{first_cause, tables_cause, tables_of}
-use Rattle.qd_steps.specs.ByModulus.{lift_cause, lifts_cause, lifted_blocks, modulus_cause}
+use Rattle.qd_steps.specs.ByModulus.{lifts_cause, lifted_blocks, modulus_cause}
 use Rattle.qd_steps.specs.Refused.{IsRefusalFor}
 use Rattle.qd_steps.proofs.TableSteps.{same_causes}
 
 module _ (ring : ModRing) (w : Cochain) where
-  -- every class is lifted
-  pub lifts_pass : (n : ℕ) → n ≡ length (representatives w.group) → first n (lift_cause ring w) ≡ None → lifts_cause ring w ≡ None
-  unfolding lifts_cause
-  lifts_pass n all none = subst (λ m. first m (lift_cause ring w) ≡ None) all none
-
-  -- the first class that is not
-  pub lifts_refused : (c : ℕ) (answer : StepRefusal) → c < length (representatives w.group) → first c (lift_cause ring w) ≡ None → IsRefusalFor (lift_cause ring w c) answer
-      → IsRefusalFor (lifts_cause ring w) answer
-  unfolding lifts_cause
-  lifts_refused c steps.Memory below none refused = tt
-  lifts_refused c (steps.Refused cause) below none refused = first_found _ c (lift_cause ring w) cause below none refused
-
   -- a class that is not lifted goes before any table
   pub lift_goes_first : (answer : StepRefusal) → IsRefusalFor (lifts_cause ring w) answer → IsRefusalFor (modulus_cause ring w) answer
   unfolding modulus_cause

@@ -1,13 +1,13 @@
 -- The lifted rows of all classes.
-use Rattle.std.proofs.Common.{◌≡◌, ℕ, ◌<◌, ◌%◌, List, [], length, refl, sym, ap, subst, ◌∙◌, arith}
+use Rattle.std.proofs.Common.{◌≡◌, ℕ, ◌<◌, List, [], length, refl, sym, ap, subst, ◌∙◌, arith}
 use Rattle.std.specs.Prelude.{ℤ}
 use Rattle.std.proofs.lemmas.List.FromFn.{length-map-range_with_len, get_or-map-range_with_len}
 use mathlib.Core.Path.{ap₂}
-use Rattle.group_table.specs.Group.{Table, product, identity_of}
+use Rattle.group_table.specs.Group.{product, identity_of}
 use Rattle.orders.specs.Order.{exponent_of}
 use Rattle.classes.specs.Conjugacy.{representatives, representative_at, centraliser_of}
 use Rattle.classes.proofs.Conjugacy.{representative_at_is}
-use Rattle.cochain.specs.Cochain.{Cochain, IsCocycle}
+use Rattle.cochain.specs.Cochain.{Cochain}
 use Rattle.prime_field.specs.declared.mod_ring.ModRing.{ModRing}
 use Rattle.twisted.specs.Twist.{TwistedSubgroup, size}
 use Rattle.slant.specs.Twists.{twist_of}
@@ -19,7 +19,7 @@ use Rattle.char_lift.specs.Faults.{lifted_row}
 use Rattle.char_lift.proofs.SumLaws.{length-table, table-at}
 use Rattle.table_check.specs.Characters.{RowsOver, IsShaped}
 use Rattle.twist_lift.specs.TwistRows.{characters, twist_rows}
-use Rattle.twist_lift.specs.Laws.{Serves, root_order}
+use Rattle.twist_lift.specs.Laws.{Serves}
 use Rattle.twist_lift.proofs.TwistLaws.{period_modulus}
 use Rattle.twist_lift.proofs.ServedClasses.{serves_classes}
 use Rattle.qd_doc.specs.Blocks.{Block, block, block_at}
@@ -37,13 +37,6 @@ module _ (ring : ModRing) where
       let n = length (central_characters ring s) in
       let row = λ (r : ℕ). lifted_row s ring.q ring.conductor ring.root (character_ratios s ring.q ring.conductor ring.root (central_value (characters ring s) r)) in
       ap length (table-at n i row [] (subst (λ m. i < m) (length-table n row) below)) ∙ length-table (size s) _
-
-  -- a field that serves the cocycle serves the twisted centraliser of each element
-  pub served : (w : Cochain) (k at : ℕ) (t : Table) (twist : TwistedSubgroup) → IsCocycle w → ring.conductor ≡ k → k % root_order w ≡ 0 → w.group.order < ring.q → t ≡ w.group → at < t.order
-      → twist ≡ twist_of w at → Serves ring twist
-  served w k at t twist W conductor multiple over same below is =
-      subst (Serves ring) (sym is)
-      (serves_classes ring w W over (ap (λ n. n % root_order w) conductor ∙ multiple) at (subst (λ (u : Table). at < u.order) same below))
 
   -- lifted rows are shaped as the check wants them
   pub lifted_shaped : (k : ℕ) (twist : TwistedSubgroup) (rows : List (List (List ℤ))) → ring.conductor ≡ k → Serves ring twist → rows ≡ twist_rows ring twist

@@ -1,5 +1,6 @@
 -- The cause of a refusal of a table, by what the check of the table says of its first miss.
-use Rattle.std.proofs.Common.{◌≡◌, ℕ, true, List, refl, sym, ap, ◌∙◌}
+use Rattle.std.proofs.Common.{◌≡◌, ℕ, true, List, Err, refl, sym, ap, subst, ◌∙◌}
+use Rattle.std.specs.Option.{option_map}
 use Rattle.std.specs.Prelude.{ℤ}
 use Rattle.cyclotomic.specs.CyclotomicRing.{CyclotomicValue, cyclotomic_value}
 use Rattle.cyclotomic.specs.Conductors.{is_conductor}
@@ -7,15 +8,20 @@ use Rattle.qd_ring.specs.CycArrays.{array_of, is_array}
 use Rattle.qd_ring.proofs.CycSums.{array-of_value}
 use Rattle.qd_ring.specs.declared.plain.Plain.{Plain}
 use Rattle.twisted.specs.Twist.{TwistedSubgroup}
-use Rattle.table_check.specs.Characters.{Characters}
+use Rattle.table_check.specs.Characters.{Characters, characters_of}
 use Rattle.table_check.specs.Sides.{twist_left}
-use Rattle.table_check.specs.Answers.{clause_of, fit_at, left_of, right_of, IsEquationOf}
+use Rattle.table_check.specs.Answers.{clause_of, fit_at, left_of, right_of, IsEquationOf, Refuses, Checks}
 use Rattle.table_check.specs.declared.identity_name.IdentityName.{IdentityName}
 use Rattle.table_check.specs.declared.identity_name.IdentityName.TheVariants as names
 use Rattle.table_check.specs.declared.miss.Clause.TheVariants as clauses
 use Rattle.table_check.specs.declared.miss.Miss.{Miss}
+use Rattle.table_check.specs.declared.refusal.TableRefusal.{TableRefusal}
+use Rattle.table_check.specs.declared.refusal.TableRefusal.TheVariants as refusals
 use Rattle.data_print.specs.declared.cause.Cause.TheVariants.{Identity, NoTwist}
-use Rattle.qd_steps.specs.Tables.{plain_of, equation, failure, cause_of_miss}
+use Rattle.qd_steps.specs.Tables.{plain_of, equation, failure, cause_of_miss, cause_over}
+use Rattle.qd_steps.specs.Refused.{IsRefusalFor}
+use Rattle.qd_steps.specs.declared.refusal.StepRefusal.{StepRefusal}
+use Rattle.qd_steps.specs.declared.refusal.StepRefusal.TheVariants as steps
 
 -- the coefficients of a value are those of the value that they stand for
 pub plain_same : (k : ℕ) → is_conductor k ≡ true → (p : Plain) (coefficients : List ℤ) (u : CyclotomicValue k) → is_array k coefficients ≡ true → cyclotomic_value k coefficients ≡ u
@@ -52,3 +58,12 @@ module _ {k : ℕ} (s : TwistedSubgroup) (table : Characters k) (miss : Miss) (f
       → NoTwist at row value ≡ cause_of_miss s table miss
   twist_missed at row value clause same row_is value_is =
       rw (same, row_is, value_is) (sym (fails ∙ ap (λ clause. failure s table clause miss) clause))
+
+-- the answer to what a check of a table says
+pub check_refused : (k : ℕ) (s : TwistedSubgroup) (rows : List (List (List ℤ))) (refusal : TableRefusal k) (answer : StepRefusal) → Checks k s rows (Err refusal)
+    → ((t : TwistedSubgroup) (table : Characters k) (miss : Miss) → s.at ≡ t.at → Refuses t table refusal miss → answer ≡ steps.Refused (cause_of_miss t table miss))
+    → (refusal ≡ refusals.Memory → answer ≡ steps.Memory) → IsRefusalFor (cause_over k (record { over = s; rows = rows })) answer
+check_refused k s rows refusals.Memory answer checks missed memory = subst (IsRefusalFor (cause_over k (record { over = s; rows = rows }))) (sym (memory refl)) tt
+check_refused k s rows refusal answer (miss, found, refuses) missed memory =
+    subst (IsRefusalFor (cause_over k (record { over = s; rows = rows }))) (sym (missed s (characters_of k rows) miss refl refuses))
+    (ap (option_map (cause_of_miss s (characters_of k rows))) found)

@@ -6,13 +6,13 @@ use Rattle.std.proofs.Math.Seq.{get_or-append_seam}
 use Rattle.std.proofs.lemmas.List.FromFn.{length-map-range_with_len, get_or-map-range_with_len, map-range_with_len_more}
 use Rattle.scan.specs.First.{first}
 use Rattle.scan.proofs.Places.{first-zero, first_found, first-ext, first_none-step}
-use Rattle.group_table.specs.Group.{Table}
-use Rattle.classes.specs.Conjugacy.{representatives, representative_at}
+use Rattle.classes.specs.Conjugacy.{representatives}
 use Rattle.classes.proofs.Counting.{classes_at_most}
 use Rattle.cochain.specs.Cochain.{Cochain, IsCocycle}
 use Rattle.cyclotomic.specs.Conductors.{is_conductor}
 use Rattle.twisted.specs.Twist.{TwistedSubgroup}
 use Rattle.slant.specs.Twists.{twist_of}
+use Rattle.data_print.specs.declared.cause.Cause.{Cause}
 use Rattle.qd_doc.specs.Blocks.{Block, block_at}
 use Rattle.table_check.specs.Characters.{RowsOver, IsShaped}
 use Rattle.transport.specs.Simples.{HasTables, table_at, no_table}
@@ -22,9 +22,9 @@ use Rattle.qd_steps.specs.Matched.{IsMatched}
 use Rattle.qd_steps.specs.Tables.{class_twist, class_table, class_rows, table_cause, cause_over, first_cause, tables_cause, tables_of}
 use Rattle.qd_steps.specs.Refused.{IsRefusalFor}
 
--- the twist at the representative of a class is that of the class
-pub twist_at_class : (w : Cochain) (at c : ℕ) (t : Table) (twist : TwistedSubgroup) → t ≡ w.group → at ≡ representative_at t c → twist ≡ twist_of w at → twist ≡ class_twist w c
-twist_at_class w at c t twist same is made = made ∙ ap (twist_of w) (is ∙ ap (λ (u : Table). representative_at u c) same)
+-- one more of a list that is made place by place
+pub one_more : {A : Type 0} (f : ℕ → A) (c : ℕ) (front all : List A) (next : A) → all ≡ front ++ next ∷ [] → front ≡ map f (range_with_len 0 c) → next ≡ f c → all ≡ map f (range_with_len 0 (c + 1))
+one_more f c front all next pushed before here = rw (pushed, before, here) (sym (map-range_with_len_more f 0 c c (omega arith)))
 
 -- ---- one class
 module _ (w : Cochain) (blocks : List Block) (c : ℕ) where
@@ -42,16 +42,6 @@ module _ (w : Cochain) (blocks : List Block) (c : ℕ) where
 
 -- ---- all classes
 module _ (w : Cochain) (blocks : List Block) where
-  -- one table more
-  pub tables_more : (c : ℕ) (front all : List RowsOver) (table : RowsOver) → all ≡ front ++ table ∷ [] → front ≡ map (class_rows w blocks) (range_with_len 0 c) → table ≡ class_rows w blocks c
-      → all ≡ map (class_rows w blocks) (range_with_len 0 (c + 1))
-  tables_more c front all table pushed before here = rw (pushed, before, here) (sym (map-range_with_len_more (class_rows w blocks) 0 c c (omega arith)))
-
-  -- all of them
-  pub tables_all : (n : ℕ) (tables : List RowsOver) → n ≡ length (representatives w.group) → tables ≡ map (class_rows w blocks) (range_with_len 0 n) → tables ≡ tables_of w blocks
-  unfolding tables_of
-  tables_all n tables all are = are ∙ ap (λ m. map (class_rows w blocks) (range_with_len 0 m)) all
-
   pub tables_length : length (tables_of w blocks) ≡ length (representatives w.group)
   unfolding tables_of
   tables_length = length-map-range_with_len (class_rows w blocks) 0 (length (representatives w.group))
@@ -80,6 +70,11 @@ module _ (w : Cochain) (blocks : List Block) where
       ∙ first-ext (length (representatives w.group)) (λ c. cause_over k (table_at (tables_of w blocks) c)) (λ c. table_cause (class_twist w c) (class_table k blocks c))
       (λ c below. ap (cause_over k) (tables_at c below))
 
+-- what is said of the first place at which there is something to say
+pub first_refused : (n c : ℕ) (at : ℕ → Option Cause) (answer : StepRefusal) → c < n → first c at ≡ None → IsRefusalFor (at c) answer → IsRefusalFor (first n at) answer
+first_refused n c at steps.Memory below none refused = tt
+first_refused n c at (steps.Refused cause) below none refused = first_found n c at cause below none refused
+
 -- ---- one table after another, of those that are left
 pub none_yet : {A : Type 0} (done : List RowsOver) (at : ℕ → Option A) → done ≡ [] → first (length done) at ≡ None
 none_yet done at none = rw none (first-zero at)
@@ -101,6 +96,6 @@ module _ (k : ℕ) (done : List RowsOver) (next : RowsOver) (left all : List Row
 
   -- it is the first that misses something
   pub next_refused : (answer : StepRefusal) → first (length done) (λ c. cause_over k (table_at all c)) ≡ None → IsRefusalFor (cause_over k next) answer → IsRefusalFor (first_cause k all) answer
-  next_refused steps.Memory before refused = tt
-  next_refused (steps.Refused cause) before refused =
-      first_found (length all) (length done) (λ c. cause_over k (table_at all c)) cause next_below before (ap (cause_over k) next_at ∙ refused)
+  next_refused answer before refused =
+      first_refused (length all) (length done) (λ c. cause_over k (table_at all c)) answer next_below before
+      (subst (λ cause. IsRefusalFor cause answer) (sym (ap (cause_over k) next_at)) refused)

@@ -22,7 +22,8 @@ fn push_values<const K: u32>(
     requires r_below { r < length (block_at blocks.now b).rows }
     requires values { All (IsValueOf K) (row_at (block_at blocks.now b).rows r) }
     requires begun { rows.old ≡ take r (block_at blocks.now b).rows ++ [] ∷ [] }
-    ensures added { OnOk result (rows.new ≡ take r (block_at blocks.now b).rows ++ row_at (block_at blocks.now b).rows r ∷ []) }
+    ensures added { let stated = (block_at blocks.now b).rows in
+        OnOk result (rows.new ≡ take r stated ++ row_at stated r ∷ []) }
 {
     rows.rows();
     for p in 0..blocks.width(b, r) {

@@ -20,7 +20,8 @@ use transport::Tables;
 
 /// The cause where the table of the class of `at` is refused so.
 fn refusal_of<const K: u32>(at: u32, refusal: &TableRefusal<K>) -> StepRefusal
-    ensures missed { (s : TwistedSubgroup) (table : Characters K) (miss : Miss) → at ≡ s.at → Refuses s table refusal.now miss
+    ensures missed { (s : TwistedSubgroup) (table : Characters K) (miss : Miss)
+        → at ≡ s.at → Refuses s table refusal.now miss
         → result ≡ steps.Refused (cause_of_miss s table miss) }
     ensures memory { refusal.now ≡ refusals.Memory → result ≡ steps.Memory }
 {

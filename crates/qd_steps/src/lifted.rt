@@ -1,25 +1,21 @@
 //! The rows of all classes by a modulus: the lifted rows of all central characters of their twisted centralisers.
 
-ghost use Rattle.std.specs.Prelude.{◌≡◌, ◌<◌, ◌%◌, None, Option, length, OnOk, IfOk, IfErr};
+ghost use Rattle.std.specs.Prelude.{◌≡◌, ℕ, ◌<◌, None, Option, length, OnOk, IfOk, IfErr};
 ghost use Rattle.std.specs.Option.{option_and_then};
-ghost use Rattle.cochain.specs.Cochain.{IsCocycle};
-ghost use Rattle.classes.specs.Conjugacy.{representatives};
 ghost use Rattle.char_lift.specs.Faults.{Refuses};
 ghost use Rattle.char_lift.specs.declared.refusal.LiftRefusal.{LiftRefusal};
-ghost use Rattle.twist_lift.specs.Laws.{root_order};
-ghost use Rattle.qd_steps.specs.Tables.{class_rows, tables_of};
-ghost use Rattle.qd_steps.specs.ByModulus.{cause_of_lift, lift_cause, lifts_cause, lifted_blocks};
+ghost use Rattle.twist_lift.specs.Laws.{Serves};
+ghost use Rattle.qd_steps.specs.ByModulus.{cause_of_lift};
+ghost use Rattle.qd_steps.specs.ClassTwists.{twist_in, lifted_over, all_lifted, lift_cause_over, first_lift_cause};
 ghost use Rattle.qd_steps.specs.Refused.{IsRefusalFor};
 
 use crate::class_rows::{ClassRows, push_class};
+use crate::class_twists::ClassTwists;
 use crate::refusal::StepRefusal;
 use char_lift::LiftRefusal;
-use classes::Classes;
-use cochain::Cocycle;
 use data_print::Cause;
 use dixon_split::split;
 use prime_field::ModRing;
-use slant::twist_at;
 use std::alloc::Global;
 use twist_lift::lifted_rows;
 
@@ -49,23 +45,19 @@ fn refusal_of(at: u32, refusal: LiftRefusal) -> StepRefusal
 /// The lifted rows of class `c`, or the cause at the first row that fails.
 fn lifted_class<const K: u32>(
     alloc: Global,
-    w: &Cocycle,
-    classes: &Classes,
+    twists: &ClassTwists,
     ring: &ModRing,
     c: u32,
 ) -> Result<ClassRows<K>, StepRefusal>
-    requires cocycle { IsCocycle w.now }
     requires conductor { ring.now.conductor ≡ K }
-    requires multiple { K % root_order w.now ≡ 0 }
-    requires group { classes.now ≡ w.now.group }
-    requires over { w.now.group.order < ring.now.q }
-    requires c_below { c < length (representatives classes.now) }
-    ensures rows { IfOk result (λ class. class ≡ class_rows w.now (lifted_blocks ring.now w.now) c) }
-    ensures lifted { OnOk result (lift_cause ring.now w.now c ≡ None) }
-    ensures refused { IfErr result (IsRefusalFor (lift_cause ring.now w.now c)) }
+    requires c_below { c < length twists.now }
+    requires serves { Serves ring.now (twist_in twists.now c) }
+    ensures rows { IfOk result (λ class. class ≡ lifted_over twists.now ring.now c) }
+    ensures lifted { OnOk result (lift_cause_over twists.now ring.now c ≡ None) }
+    ensures refused { IfErr result (IsRefusalFor (lift_cause_over twists.now ring.now c)) }
 {
-    let at = classes.representative(c);
-    let twist = twist_at(alloc, w, at)?;
+    let twist = twists.at(c).copy(alloc)?;
+    let at = twist.at();
     let central = split(alloc, &twist, ring)?;
     match lifted_rows::<K>(alloc, &twist, ring, &central) {
         Ok(rows) => Ok(ClassRows::new(twist, rows)),
@@ -76,22 +68,18 @@ fn lifted_class<const K: u32>(
 /// The lifted rows of all classes, in order, or the cause at the first row that fails of the first class with one.
 pub(crate) fn lifted_classes<const K: u32>(
     alloc: Global,
-    w: &Cocycle,
-    classes: &Classes,
+    twists: &ClassTwists,
     ring: &ModRing,
 ) -> Result<Vec<ClassRows<K>>, StepRefusal>
-    requires cocycle { IsCocycle w.now }
     requires conductor { ring.now.conductor ≡ K }
-    requires multiple { K % root_order w.now ≡ 0 }
-    requires group { classes.now ≡ w.now.group }
-    requires over { w.now.group.order < ring.now.q }
-    ensures rows { IfOk result (λ all. all.items ≡ tables_of w.now (lifted_blocks ring.now w.now)) }
-    ensures lifted { OnOk result (lifts_cause ring.now w.now ≡ None) }
-    ensures refused { IfErr result (IsRefusalFor (lifts_cause ring.now w.now)) }
+    requires serves { (c : ℕ) → c < length twists.now → Serves ring.now (twist_in twists.now c) }
+    ensures rows { IfOk result (λ all. all.items ≡ all_lifted twists.now ring.now) }
+    ensures lifted { OnOk result (first_lift_cause twists.now ring.now ≡ None) }
+    ensures refused { IfErr result (IsRefusalFor (first_lift_cause twists.now ring.now)) }
 {
     let mut all = Vec::new(alloc);
-    for c in 0..classes.count() {
-        let class = lifted_class::<K>(alloc, w, classes, ring, c)?;
+    for c in 0..twists.count() {
+        let class = lifted_class::<K>(alloc, twists, ring, c)?;
         push_class(&mut all, class)?;
     }
     Ok(all)

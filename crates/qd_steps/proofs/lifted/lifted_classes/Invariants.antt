@@ -1,13 +1,12 @@
 use Rattle.std.proofs.Common.{◌≡◌, None, map}
 use Rattle.std.specs.List.{range_with_len}
 use Rattle.scan.specs.First.{first}
-use Rattle.qd_steps.specs.Tables.{class_rows}
-use Rattle.qd_steps.specs.ByModulus.{lift_cause, lifted_blocks}
+use Rattle.qd_steps.specs.ClassTwists.{lifted_over, lift_cause_over}
 use Rattle.qd_steps.proofs.lifted.lifted_classes.Given as goal
 
 -- the rows of the classes before class c, which are all lifted
 abbrev pub invariant-loop-c : goal.invariant-loop-c
 invariant-loop-c g l = record {
-  kept : l.all.items ≡ map (class_rows l.w (lifted_blocks l.ring l.w)) (range_with_len 0 l.c);
-  lifted : first l.c (lift_cause l.ring l.w) ≡ None;
+  kept : l.all.items ≡ map (lifted_over l.twists l.ring) (range_with_len 0 l.c);
+  lifted : first l.c (lift_cause_over l.twists l.ring) ≡ None;
 }

@@ -1,7 +1,7 @@
-use Rattle.std.proofs.Common.{length, le_antisymm, ap, ◌∙◌}
-use Rattle.group_table.specs.Group.{Table}
-use Rattle.classes.specs.Conjugacy.{representatives}
-use Rattle.qd_steps.proofs.TableSteps.{tables_more, tables_all}
+use Rattle.std.proofs.Common.{map, le_antisymm, ap, ◌∙◌}
+use Rattle.std.specs.List.{range_with_len}
+use Rattle.qd_steps.specs.ClassTwists.{stated_over}
+use Rattle.qd_steps.proofs.TableSteps.{one_more}
 use Rattle.qd_steps.proofs.stated.stated_classes.Goals as goal
 
 pub loop-c-init : goal.loop-c-init
@@ -9,10 +9,10 @@ loop-c-init g c = c.new-all.ensures.items
 
 pub loop-c-preserved : goal.loop-c-preserved
 loop-c-preserved g c =
-    tables_more c.args.w.now c.args.blocks.now c.loop-c.c c.loop-c.all.items c.push_class.new.all.items c.in_ok-class.class c.in_ok-push_class.ensures.added c.loop-c.invariant
-    c.in_ok-class.ensures.rows
+    one_more (stated_over c.args.twists.now c.args.blocks.now) c.loop-c.c c.loop-c.all.items c.push_class.new.all.items c.in_ok-class.class c.in_ok-push_class.ensures.added
+    c.loop-c.invariant c.in_ok-class.ensures.rows
 
 pub returns : goal.returns
 returns g c =
-    let all = c.count-c-end.ensures.count ∙ ap (λ (t : Table). length (representatives t)) c.requires.group in
-    record { rows = tables_all c.args.w.now c.args.blocks.now c.loop-c.c c.loop-c.all.items (le_antisymm c.loop-c.auto.c-end c.loop-c-test.false ∙ all) c.loop-c.invariant }
+    let all = le_antisymm c.loop-c.auto.c-end c.loop-c-test.false ∙ c.count-c-end.ensures.count in
+    record { rows = c.loop-c.invariant ∙ ap (λ n. map (stated_over c.args.twists.now c.args.blocks.now) (range_with_len 0 n)) all }

@@ -1,8 +1,8 @@
 use Rattle.std.proofs.Common.{◌≡◌, map}
 use Rattle.std.specs.List.{range_with_len}
-use Rattle.qd_steps.specs.Tables.{class_rows}
+use Rattle.qd_steps.specs.ClassTwists.{stated_over}
 use Rattle.qd_steps.proofs.stated.stated_classes.Given as goal
 
 -- the rows of the classes before class c
 abbrev pub invariant-loop-c : goal.invariant-loop-c
-invariant-loop-c g l = l.all.items ≡ map (class_rows l.w l.blocks) (range_with_len 0 l.c)
+invariant-loop-c g l = l.all.items ≡ map (stated_over l.twists l.blocks) (range_with_len 0 l.c)

@@ -1,0 +1,8 @@
+use Rattle.std.proofs.Common.{◌≡◌, map}
+use Rattle.std.specs.List.{range_with_len}
+use Rattle.qd_steps.specs.Tables.{class_twist}
+use Rattle.qd_steps.proofs.class_twists.ClassTwists.of.Given as goal
+
+-- those of the classes before class c
+abbrev pub invariant-loop-c : goal.invariant-loop-c
+invariant-loop-c l = l.twists.items ≡ map (class_twist l.w) (range_with_len 0 l.c)
