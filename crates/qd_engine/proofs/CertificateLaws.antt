@@ -28,7 +28,8 @@ use Rattle.qd_engine.proofs.ConductorLaws.{least_is_conductor, multiple_of_facto
 use Rattle.qd_steps.proofs.ModulusCauses.{lifted_root_rows}
 use Rattle.qd_engine.proofs.LiftedRows.{numbers_of_field, field_serves}
 use Rattle.qd_engine.proofs.LateLaws.{part_late}
-use Rattle.qd_engine.proofs.CertificateTables.{simples_by, certified_simples, certified_roots, certified_good, certified_fit, certified_matched, certified_values}
+use Rattle.qd_engine.proofs.HeadlineLaws.{good_rows_give_simples}
+use Rattle.qd_engine.proofs.CertificateTables.{certified_simples, certified_roots, certified_good, certified_fit, certified_matched, certified_values}
 use Rattle.qd_engine.proofs.CertificateTexts.{certificate_is_document, certificate_is_read, certificate_exponents}
 
 -- what is asked of a document to be acceptable to `verify`, but for its text
@@ -96,7 +97,7 @@ module _ (q : ℕ) (bytes : List ℕ) (accepted : IsAccepted (certificate q) byt
   simples : AreSimples k s
   simples =
       let rows = (accepted.verified _ refl).rows in
-      simples_by w (blocks_of (Lifted q) w given) k found.0 (multiple_of_factor k w.roots _ found.1) accepted.cocycle rows.matched rows.good
+      good_rows_give_simples w k (blocks_of (Lifted q) w given) accepted.cocycle found.0 (multiple_of_factor k w.roots _ found.1) rows
 
   roots : HasRootRows k s
   roots =

@@ -1,5 +1,5 @@
 -- The rows of a certificate are good tables of the classes, and no sum of their values overflows.
-use Rattle.std.proofs.Common.{◌≡◌, ℕ, ◌<◌, ◌%◌, true, List, [], length, All, refl, sym, ap, ap₂, subst, ◌∙◌, arith}
+use Rattle.std.proofs.Common.{◌≡◌, ℕ, ◌<◌, true, List, [], length, All, sym, ap, ap₂, subst, ◌∙◌, arith}
 use Rattle.std.specs.Prelude.{ℤ, ◌==◌}
 use Rattle.std.specs.List.{range_with_len}
 use Rattle.std.proofs.lemmas.List.Elements.{All-map}
@@ -7,8 +7,7 @@ use Rattle.std.proofs.lemmas.List.FromFn.{length-map-range_with_len, get_or-map-
 use Rattle.group_table.proofs.Numbers.{passing_below-all}
 use Rattle.classes.specs.Conjugacy.{representatives, representative_at}
 use Rattle.classes.proofs.Conjugacy.{representative_at_is}
-use Rattle.cochain.specs.Cochain.{Cochain, IsCocycle}
-use Rattle.cyclotomic.specs.Conductors.{is_conductor}
+use Rattle.cochain.specs.Cochain.{Cochain}
 use Rattle.qd_ring.specs.CycArrays.{array_of}
 use Rattle.qd_ring.proofs.ProductLaws.{is_array-of}
 use Rattle.qd_ring.proofs.CycLaws.{small-array_of}
@@ -29,27 +28,10 @@ use Rattle.row_order.specs.SimpleRows.{simples_in, row_of, simple_rows, in_order
 use Rattle.row_order.proofs.TablesInOrder.{simples_in_order, root_rows_in_order}
 use Rattle.qd_doc.specs.Blocks.{Block, block, block_at}
 use Rattle.qd_doc.specs.Contents.{IsValueOf}
-use Rattle.qd_steps.proofs.TableSteps.{tables_length, tables_at, table_shaped, one_table_each}
+use Rattle.qd_steps.proofs.TableSteps.{tables_length, tables_at}
 use Rattle.qd_steps.specs.Matched.{IsMatched}
 use Rattle.qd_steps.specs.Tables.{class_twist, class_table, class_rows, tables_of, simples_over}
 use Rattle.qd_engine.specs.Certificate.{certified_block, certified_blocks}
-
-module _ (w : Cochain) (blocks : List Block) where
-  -- rows that match the classes and are good tables give simples
-  pub simples_by : (k : ℕ) → is_conductor k ≡ true → k % w.roots ≡ 0 → IsCocycle w → IsMatched w.group blocks
-      → ((c : ℕ) → c < length (representatives w.group) → IsGood (class_twist w c) (class_table k blocks c)) → AreSimples k (simples_over w blocks)
-  simples_by k conductor multiple cocycle matched good =
-      let below = λ (c : ℕ) (listed : c < length (tables_of w blocks)). subst (λ n. c < n) (tables_length w blocks) listed in
-      record {
-        conductor = conductor;
-        cocycle = cocycle;
-        tables = one_table_each w blocks (tables_of w blocks) refl;
-        shaped = λ c listed.
-            subst (IsShaped k) (sym (tables_at w blocks c (below c listed)))
-            (table_shaped w blocks c k (class_twist w c) (block_at blocks c).rows matched (below c listed) conductor multiple refl refl);
-        good = λ c listed.
-            subst (λ (t : RowsOver). IsGood t.over (characters_of k t.rows)) (sym (tables_at w blocks c (below c listed))) (good c (below c listed));
-      }
 
 module _ (k : ℕ) (s : SimplesOver) (S : AreSimples k s) (roots : HasRootRows k s) where
   abbrev w : Cochain

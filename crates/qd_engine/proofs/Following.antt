@@ -1,22 +1,37 @@
 -- What the last step of a chain answers.
-use Rattle.std.proofs.Common.{◌≡◌, ℕ, List, Option, Some, None, Result, Ok, Err, refl, sym, subst, ◌∙◌, inl, inr}
+use Rattle.std.proofs.Common.{◌≡◌, ℕ, List, Option, Some, None, Result, Ok, Err, refl, sym, ap, subst, ◌∙◌, inl, inr}
 use Rattle.std.specs.Prelude.{OnOk, IfErr, slice_get}
+use Rattle.std.specs.Option.{option_map}
 use Rattle.std.specs.Global.{Vec}
 use Rattle.scan.specs.First.{option_or}
+use Rattle.group_table.specs.Group.{group_fault}
+use Rattle.cochain.specs.Cochain.{Cochain, cocycle_fault, IsCocycle}
+use Rattle.named_cocycles.specs.declared.maker.Maker.{Maker}
+use Rattle.named_cocycles.specs.Makers.{made_cocycle, maker_fault}
+use Rattle.named_cocycles.specs.Samples.{sample_cocycle}
+use Rattle.named_cocycles.proofs.Named.{made_is_cocycle}
+use Rattle.named_cocycles.proofs.Gauges.{sample_is_cocycle}
 use Rattle.transport.specs.Simples.{SimplesOver}
+use Rattle.qd_text.specs.Tokens.{tokens}
+use Rattle.qd_doc.specs.Contents.{document_of}
 use Rattle.qd_doc.specs.Grammar.{stop_of}
 use Rattle.qd_doc.specs.declared.document.Document.{Document}
 use Rattle.data_print.specs.declared.cause.Cause.{Cause}
+use Rattle.data_print.specs.declared.cause.Cause.TheVariants as causes
 use Rattle.qd_engine.specs.Words.{form_of}
-use Rattle.qd_engine.specs.Documents.{document_in}
-use Rattle.qd_engine.specs.Report.{report_of}
-use Rattle.qd_engine.specs.Tests.{document_test, refusal, LatePart, LateIn, Late}
-use Rattle.qd_engine.specs.Follows.{Follows, StopsLate}
+use Rattle.qd_engine.specs.Documents.{bare_document, document_for, document_in, table_of, exponents_of, given_or_none, given_in}
+use Rattle.qd_engine.specs.Report.{cocycle_report, report_of}
+use Rattle.qd_engine.specs.Tests.{scan_test, maker_test, input_test, group_test, cocycle_test, rows_test, document_test, refusal, LatePart, LateIn, LateRows, Late}
+use Rattle.qd_engine.specs.Causes.{HasInput}
+use Rattle.qd_engine.specs.Follows.{Tests, Follows, StopsLate}
 use Rattle.qd_engine.specs.Endings.{Reports}
 use Rattle.qd_engine.specs.declared.command.RowPart.{RowPart}
+use Rattle.qd_engine.specs.declared.command.Input.{Input}
+use Rattle.qd_engine.specs.declared.command.Input.TheVariants.{Read, Made, Sampled}
 use Rattle.qd_engine.specs.declared.command.Command.{Command}
 use Rattle.qd_engine.specs.declared.stop.Stop.{Stop}
 use Rattle.qd_engine.specs.declared.stop.Stop.TheVariants as stops
+use Rattle.qd_engine.proofs.Subjects.{bare_exponents, input_passes}
 
 or_nothing : (test : Option Cause) → test ≡ option_or test None
 or_nothing None = refl
@@ -40,22 +55,109 @@ pub part_stops : (k : ℕ) (s : SimplesOver) (parts : List RowPart) (i : ℕ) (p
 part_stops k s parts i part (stops.Refused cause) at late = (i, part, at, late)
 part_stops k s parts i part stops.Memory at late = tt
 
-module _ (command : Command) (bytes : List ℕ) (document : stop_of (form_of command) bytes ≡ None) where
-  refusal_of_document : refusal command bytes ≡ document_test command (document_in command bytes)
+map_none : {F : Type 0} (C : F → Cause) (o : Option F) → o ≡ None → option_map C o ≡ None
+map_none C o none = ap (option_map C) none
+
+-- past the tests of a group and of a cocycle, for the cocycle of a document
+pub document_after : (command : Command) (d : Document) (w : Cochain) (result : Result (Vec ℕ) Stop) → group_test d ≡ None → cocycle_test d ≡ None → w ≡ exponents_of d
+    → Follows (rows_test w (given_in d) command.rows) (LateRows w (given_in d) command.rows) (λ (text : Vec ℕ). text.items ≡ cocycle_report command w (given_in d)) result
+    → Follows (document_test command d) (Late command d) (λ (text : Vec ℕ). text.items ≡ report_of command d) result
+unfolding document_test
+document_after command d w result group cocycle is follows =
+    let v = exponents_of d in
+    let given = given_in d in
+    let late = LateRows v given command.rows in
+    let gives : Vec ℕ → Type 0 = λ (text : Vec ℕ). text.items ≡ cocycle_report command v given in
+    let of_rows : Follows (rows_test v given command.rows) late gives result =
+    subst (λ (v : Cochain). Follows (rows_test v given command.rows) (LateRows v given command.rows) (λ (text : Vec ℕ). text.items ≡ cocycle_report command v given) result) is follows in
+    follow_next late gives result (group_test d) _ group
+    (follow_next late gives result (cocycle_test d) _ cocycle
+    (subst (λ (t : Option Cause). Follows t late gives result) (or_nothing (rows_test v given command.rows)) of_rows))
+
+-- a cocycle as the one of its document passes these tests
+bare_follows : (command : Command) (w : Cochain) (result : Result (Vec ℕ) Stop) → IsCocycle w
+    → Follows (rows_test w (given_or_none None) command.rows) (LateRows w (given_or_none None) command.rows)
+    (λ (text : Vec ℕ). text.items ≡ cocycle_report command w (given_or_none None)) result
+    → Follows (document_test command (bare_document w)) (Late command (bare_document w)) (λ (text : Vec ℕ). text.items ≡ report_of command (bare_document w)) result
+bare_follows command w result cocycle follows =
+    let d = bare_document w in
+    let same : exponents_of d ≡ w = bare_exponents w cocycle in
+    let lawful : IsCocycle (exponents_of d) = subst IsCocycle (sym same) cocycle in
+    document_after command d w result (map_none causes.Group (group_fault (table_of d)) cocycle.cochain.group.lawful) (map_none causes.Cocycle (cocycle_fault (exponents_of d)) lawful.lawful)
+    (sym same) follows
+
+module _ (command : Command) (bytes : List ℕ) where
+  -- an input that its test refuses
+  pub input_refused : {X Y : Type 0} (gives : X → Type 0) (late : Cause → Type 0) (other : Y → Type 0) (test : Option Cause) (stop : Stop)
+      → input_test command.input (form_of command) bytes ≡ test → Tests test gives (Err stop) → Follows (refusal command bytes) late other (Err stop)
   unfolding refusal
-  refusal_of_document = rw document (sym (or_nothing (document_test command (document_in command bytes))))
+  input_refused gives late other test (stops.Refused cause) is says = inl (rw (is, says) refl)
+  input_refused gives late other test stops.Memory is says = tt
 
-  input_follows : (result : Result (Vec ℕ) Stop)
-      → Follows (document_test command (document_in command bytes)) (Late command (document_in command bytes)) (λ (text : Vec ℕ). text.items ≡ report_of command (document_in command bytes)) result
-      → Follows (refusal command bytes) (Late command (document_in command bytes)) (λ (text : Vec ℕ). Reports text.items command bytes) result
-  input_follows (Ok text) (none, is) = let passes = refusal_of_document ∙ none in (passes, record { document = document; passes = passes; text_is = is })
-  input_follows (Err (stops.Refused cause)) (inl e) = inl (refusal_of_document ∙ e)
-  input_follows (Err (stops.Refused cause)) (inr (none, late)) = inr (refusal_of_document ∙ none, late)
-  input_follows (Err stops.Memory) follows = tt
+  module _ (has : HasInput command.input (form_of command) bytes) where
+    refusal_of_document : refusal command bytes ≡ document_test command (document_in command bytes)
+    unfolding refusal
+    refusal_of_document =
+        let passes = input_passes command.input (form_of command) bytes has in
+        rw passes (sym (or_nothing (document_test command (document_in command bytes))))
 
-  -- from the document to the input
-  pub document_follows : (d : Document) (result : Result (Vec ℕ) Stop) → d ≡ document_in command bytes
-      → Follows (document_test command d) (Late command d) (λ (text : Vec ℕ). text.items ≡ report_of command d) result
+    input_follows : (result : Result (Vec ℕ) Stop)
+        → Follows (document_test command (document_in command bytes)) (Late command (document_in command bytes)) (λ (text : Vec ℕ). text.items ≡ report_of command (document_in command bytes)) result
+        → Follows (refusal command bytes) (Late command (document_in command bytes)) (λ (text : Vec ℕ). Reports text.items command bytes) result
+    input_follows (Ok text) (none, is) = let passes = refusal_of_document ∙ none in (passes, record { document = has; passes = passes; text_is = is })
+    input_follows (Err (stops.Refused cause)) (inl e) = inl (refusal_of_document ∙ e)
+    input_follows (Err (stops.Refused cause)) (inr (none, late)) = inr (refusal_of_document ∙ none, late)
+    input_follows (Err stops.Memory) follows = tt
+
+    -- from the document to the input
+    pub document_follows : (d : Document) (result : Result (Vec ℕ) Stop) → d ≡ document_in command bytes
+        → Follows (document_test command d) (Late command d) (λ (text : Vec ℕ). text.items ≡ report_of command d) result
+        → Follows (refusal command bytes) (Late command (document_in command bytes)) (λ (text : Vec ℕ). Reports text.items command bytes) result
+    document_follows d result is follows =
+        input_follows result (subst (λ (d : Document). Follows (document_test command d) (Late command d) (λ (text : Vec ℕ). text.items ≡ report_of command d) result) is follows)
+
+    -- from a cocycle that is made
+    pub cocycle_follows : (w : Cochain) (result : Result (Vec ℕ) Stop) → IsCocycle w → bare_document w ≡ document_in command bytes
+        → Follows (rows_test w (given_or_none None) command.rows) (LateRows w (given_or_none None) command.rows)
+        (λ (text : Vec ℕ). text.items ≡ cocycle_report command w (given_or_none None)) result
+        → Follows (refusal command bytes) (Late command (document_in command bytes)) (λ (text : Vec ℕ). Reports text.items command bytes) result
+    cocycle_follows w result cocycle is follows = document_follows (bare_document w) result is (bare_follows command w result cocycle follows)
+
+-- what is read, where the command reads
+module _ (command : Command) (bytes : List ℕ) (reads : command.input ≡ Read) where
+  pub read_has : stop_of (form_of command) bytes ≡ None → HasInput command.input (form_of command) bytes
+  read_has none = subst (λ (input : Input). HasInput input (form_of command) bytes) (sym reads) none
+
+  pub read_document : document_of (form_of command) (tokens bytes) ≡ document_in command bytes
+  read_document = ap (λ (input : Input). document_for input (form_of command) bytes) (sym reads)
+
+  pub read_test : input_test command.input (form_of command) bytes ≡ scan_test (stop_of (form_of command) bytes)
+  read_test = ap (λ (input : Input). input_test input (form_of command) bytes) reads
+
+-- what is made, where the command makes it
+module _ (command : Command) (bytes : List ℕ) (maker : Maker) (makes : command.input ≡ Made maker) where
+  made_has : maker_fault maker ≡ None → HasInput command.input (form_of command) bytes
+  made_has none = subst (λ (input : Input). HasInput input (form_of command) bytes) (sym makes) none
+
+  made_document : bare_document (made_cocycle maker) ≡ document_in command bytes
+  made_document = ap (λ (input : Input). document_for input (form_of command) bytes) (sym makes)
+
+  pub made_test : input_test command.input (form_of command) bytes ≡ maker_test (maker_fault maker)
+  made_test = ap (λ (input : Input). input_test input (form_of command) bytes) makes
+
+  pub made_follows : (w : Cochain) (result : Result (Vec ℕ) Stop) → maker_fault maker ≡ None → w ≡ made_cocycle maker
+      → Follows (rows_test w (given_or_none None) command.rows) (LateRows w (given_or_none None) command.rows)
+      (λ (text : Vec ℕ). text.items ≡ cocycle_report command w (given_or_none None)) result
       → Follows (refusal command bytes) (Late command (document_in command bytes)) (λ (text : Vec ℕ). Reports text.items command bytes) result
-  document_follows d result is follows =
-      input_follows result (subst (λ (d : Document). Follows (document_test command d) (Late command d) (λ (text : Vec ℕ). text.items ≡ report_of command d) result) is follows)
+  made_follows w result none is follows =
+      cocycle_follows command bytes (made_has none) w result (subst IsCocycle (sym is) (made_is_cocycle maker none)) (ap bare_document is ∙ made_document) follows
+
+-- a sample, where the command is about one
+module _ (command : Command) (bytes : List ℕ) (number : ℕ) (samples : command.input ≡ Sampled number) where
+  pub sample_follows : (w : Cochain) (result : Result (Vec ℕ) Stop) → w ≡ sample_cocycle number
+      → Follows (rows_test w (given_or_none None) command.rows) (LateRows w (given_or_none None) command.rows)
+      (λ (text : Vec ℕ). text.items ≡ cocycle_report command w (given_or_none None)) result
+      → Follows (refusal command bytes) (Late command (document_in command bytes)) (λ (text : Vec ℕ). Reports text.items command bytes) result
+  sample_follows w result is follows =
+      cocycle_follows command bytes (subst (λ (input : Input). HasInput input (form_of command) bytes) (sym samples) tt) w result (subst IsCocycle (sym is) (sample_is_cocycle number))
+      (ap bare_document is ∙ ap (λ (input : Input). document_for input (form_of command) bytes) (sym samples)) follows

@@ -41,7 +41,7 @@ module _ (w : Cochain) (k : ℕ) (blocks : List Block) (cocycle : IsCocycle w) (
       subst P (sym (table_here w blocks c in_classes)) (each c in_classes)
 
   -- good rows of a cocycle give simples
-  good_rows_give_simples : AreSimples k (simples_over w blocks)
+  pub good_rows_give_simples : AreSimples k (simples_over w blocks)
   good_rows_give_simples = record {
     conductor = conductor;
     cocycle = cocycle;

@@ -1,5 +1,8 @@
 pub mod NumberWords
+pub mod MakerWords
 pub mod WordLaws
+pub mod Subjects
+pub mod Summaries
 pub mod SimpleCounts
 pub mod NumberLines
 pub mod Certificates

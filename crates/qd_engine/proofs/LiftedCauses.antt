@@ -1,5 +1,5 @@
 -- A command with lifted rows refuses nothing for a cause that only stated rows have.
-use Rattle.std.proofs.Common.{◌≡◌, ◌≢◌, ℕ, Bool, true, false, cond, List, Option, Some, None, refl, sym, subst, inl, inr}
+use Rattle.std.proofs.Common.{◌≡◌, ℕ, Bool, true, false, cond, List, Option, Some, None, refl, sym, subst, inl, inr}
 use Rattle.std.specs.Prelude.{nat_le, sum}
 use Rattle.std.specs.Option.{option_map}
 use Rattle.scan.specs.First.{option_or}
@@ -11,7 +11,11 @@ use Rattle.prime_field.specs.declared.mod_ring.ModRing.{ModRing}
 use Rattle.twist_lift.specs.Laws.{root_order}
 use Rattle.transport.specs.Simples.{SimplesOver}
 use Rattle.fusion.specs.Numbers.{whole_fault}
+use Rattle.group_make.specs.declared.refusal.MakeRefusal.{MakeRefusal}
+use Rattle.group_make.specs.declared.refusal.MakeRefusal.TheVariants as makes
+use Rattle.named_cocycles.specs.Makers.{maker_fault}
 use Rattle.qd_doc.specs.Grammar.{stop_of}
+use Rattle.qd_doc.specs.declared.document.Form.{Form}
 use Rattle.qd_doc.specs.declared.document.Document.{Document}
 use Rattle.qd_doc.specs.declared.document.Given.{Given}
 use Rattle.qd_doc.specs.declared.refusal.DocRefusal.{DocRefusal}
@@ -26,17 +30,19 @@ use Rattle.qd_engine.specs.Words.{have_numbers, most_simples, form_of}
 use Rattle.qd_engine.specs.Documents.{document_in, table_of, exponents_of, given_in, conductor_of}
 use Rattle.qd_engine.specs.Sources.{field_for, lifted_by, blocks_of}
 use Rattle.qd_engine.specs.Report.{class_ranks}
-use Rattle.qd_engine.specs.Tests.{first_of_all, scan_test, without_conductor, conductor_test, simples_test, modulus_test, lifting_test, not_whole, whole_test, numbers_test, source_tests, lifted_tests, report_test, rows_test, group_test, cocycle_test, document_test, refusal, LateReport, LateRows, Late}
-use Rattle.qd_engine.specs.Causes.{Refuses}
+use Rattle.qd_engine.specs.Tests.{first_of_all, scan_test, maker_test, input_test, without_conductor, conductor_test, simples_test, modulus_test, lifting_test, not_whole, whole_test, numbers_test, source_tests, lifted_tests, report_test, rows_test, group_test, cocycle_test, document_test, refusal, LateReport, LateRows, Late}
+use Rattle.qd_engine.specs.Causes.{HasInput, Refuses}
 use Rattle.qd_engine.specs.LiftedLaws.{LiftsRows, IsStatedCause, LiftedCauses}
 use Rattle.qd_engine.specs.declared.command.RowSource.{RowSource}
 use Rattle.qd_engine.specs.declared.command.RowSource.TheVariants.{Lifted}
 use Rattle.qd_engine.specs.declared.command.RowPart.{RowPart}
 use Rattle.qd_engine.specs.declared.command.RowReport.{RowReport}
+use Rattle.qd_engine.specs.declared.command.Input.{Input}
+use Rattle.qd_engine.specs.declared.command.Input.TheVariants.{Read, Made, Sampled}
 use Rattle.qd_engine.specs.declared.command.Command.{Command}
 use Rattle.qd_engine.proofs.Documents.{document_cocycle}
 use Rattle.qd_engine.proofs.LiftedRows.{field_serves}
-use Rattle.qd_engine.proofs.StopLaws.{stop_is_of_text}
+use Rattle.qd_engine.proofs.Subjects.{input_given}
 use Rattle.qd_engine.proofs.TestLaws.{map_none, conductor_found}
 
 -- a test says nothing, or a cause that lifted rows may have
@@ -67,7 +73,7 @@ says_or : (test rest : Option Cause) → IsLiftedSaying test → (test ≡ None 
 says_or None rest first later = later refl
 says_or (Some cause) rest first later = first
 
--- ---- the tests of a text
+-- ---- the test of an input
 
 says_scan : (stop : Option DocRefusal) → IsLiftedSaying (scan_test stop)
 says_scan None = tt
@@ -78,15 +84,16 @@ says_scan (Some (stops.Order number)) = λ stated. stated
 says_scan (Some (stops.Roots number)) = λ stated. stated
 says_scan (Some stops.Memory) = tt
 
--- where it says nothing, the text is a document
-scanned : (stop : Option DocRefusal) → stop ≢ Some stops.Memory → scan_test stop ≡ None → stop ≡ None
-scanned None apart none = refl
-scanned (Some stops.Memory) apart none = absurd (apart refl)
-scanned (Some (stops.Syntax offset expected)) apart none = absurd cc
-scanned (Some (stops.Wide offset)) apart none = absurd cc
-scanned (Some (stops.Section offset)) apart none = absurd cc
-scanned (Some (stops.Order number)) apart none = absurd cc
-scanned (Some (stops.Roots number)) apart none = absurd cc
+says_maker : (fault : Option MakeRefusal) → IsLiftedSaying (maker_test fault)
+says_maker None = tt
+says_maker (Some (makes.Size order)) = λ stated. stated
+says_maker (Some (makes.Action power)) = λ stated. stated
+says_maker (Some makes.Memory) = tt
+
+says_input : (input : Input) (form : Form) (bytes : List ℕ) → IsLiftedSaying (input_test input form bytes)
+says_input Read form bytes = says_scan (stop_of form bytes)
+says_input (Made maker) form bytes = says_maker (maker_fault maker)
+says_input (Sampled s) form bytes = tt
 
 -- ---- the tests of lifted rows
 
@@ -140,7 +147,7 @@ module _ (command : Command) (q : ℕ) (lifts : LiftsRows command q) where
   says_rows w given cocycle =
       subst (λ (r : Option RowReport). IsLiftedSaying (rows_test w given r)) (sym lifts.reports) (says_report w cocycle q given lifts.report lifts.source)
 
-  says_document : (bytes : List ℕ) → stop_of (form_of command) bytes ≡ None → IsLiftedSaying (document_test command (document_in command bytes))
+  says_document : (bytes : List ℕ) → HasInput command.input (form_of command) bytes → IsLiftedSaying (document_test command (document_in command bytes))
   unfolding document_test
   says_document bytes document =
       let d = document_in command bytes in
@@ -155,9 +162,9 @@ module _ (command : Command) (q : ℕ) (lifts : LiftsRows command q) where
   says_refusal : (bytes : List ℕ) → IsLiftedSaying (refusal command bytes)
   unfolding refusal
   says_refusal bytes =
-      let stop = stop_of (form_of command) bytes in
-      says_or (scan_test stop) _ (says_scan stop)
-      (λ read. says_or (document_test command (document_in command bytes)) None (says_document bytes (scanned stop (stop_is_of_text (form_of command) bytes) read)) (λ none. tt))
+      let form = form_of command in
+      says_or (input_test command.input form bytes) _ (says_input command.input form bytes)
+      (λ passes. says_or (document_test command (document_in command bytes)) None (says_document bytes (input_given command.input form bytes passes)) (λ none. tt))
 
   nothing_late : (document : Document) (cause : Cause) → Late command document cause → ⊥
   nothing_late document cause late =

@@ -12,8 +12,8 @@ use Rattle.qd_engine.specs.Words.{command_of, read_of}
 use Rattle.qd_engine.specs.Documents.{document_in, exponents_of}
 use Rattle.qd_engine.specs.Report.{report_in}
 use Rattle.qd_engine.specs.Tests.{refusal, report_unless, answer_for, plan, LateFor, ComesLate}
-use Rattle.qd_engine.specs.Answers.{Said, Whole, Cut, said_by}
-use Rattle.qd_engine.specs.Causes.{Agrees, OfCommand, Refuses, Means, MeansSo, Comes, IsDone}
+use Rattle.qd_engine.specs.Answers.{Said, Whole, Cut, refused, said_by}
+use Rattle.qd_engine.specs.Causes.{Agrees, OfCommand, Refuses, Means, MeansSo, GivesReport, Comes, IsDone}
 use Rattle.qd_engine.specs.Acceptable.{IsAcceptable}
 use Rattle.qd_engine.specs.Endings.{Reports, Says, Writing, Ends, EndsSaying, IsRoomy, Decides}
 use Rattle.qd_engine.specs.declared.command.Command.{Command}
@@ -25,13 +25,25 @@ use Rattle.qd_engine.proofs.TestLaws.{input_accepted}
 use Rattle.qd_engine.proofs.Passing.{rows_give, accepted_passes}
 use Rattle.qd_engine.proofs.HeadlineLaws.{report_is_modular, report_has_rule}
 
+-- what is reported on is accepted, and has the headline
+report_given : {text : List ℕ} (command : Command) (bytes : List ℕ) → Reports text command bytes → GivesReport command bytes
+report_given command bytes reports =
+    let accepted = input_accepted command bytes reports.document reports.passes in
+    record {
+      accepted = accepted;
+      headline = λ report is. record {
+        idempotents = rows_give (exponents_of (document_in command bytes)) _ report accepted.cocycle (accepted.verified report is);
+        modular = report_is_modular (exponents_of (document_in command bytes)) _ report accepted.cocycle (accepted.verified report is);
+        fusion = report_has_rule (exponents_of (document_in command bytes)) _ report accepted.cocycle (accepted.verified report is);
+      };
+    }
+
 module _ (words : List (List ℕ)) (left : Option (List ℕ)) (failed : Type 0) where
   -- ---- what it had to say means
 
   outcome_means : (outcome : Outcome) (text : List ℕ) → Says words left failed outcome text → MeansSo words left failed outcome
-  outcome_means Report text (command, asks, (bytes, agrees, (short, reports))) =
-      (command, asks, (bytes, agrees, (short, input_accepted command bytes reports.document reports.passes)))
-  outcome_means (Refused cause) text h = h.0
+  outcome_means Report text (command, asks, (bytes, agrees, (short, reports))) = (command, asks, (bytes, agrees, (short, report_given command bytes reports)))
+  outcome_means (Refused refusal) text h = h.0
   outcome_means Memory text h = tt
 
   pub answer_comes : (writing : Writing) (sink_failed : Type 0) (said : Said) → EndsSaying words left failed writing sink_failed said → Comes words left failed said
@@ -46,19 +58,13 @@ module _ (words : List (List ℕ)) (left : Option (List ℕ)) (failed : Type 0) 
   report_done : (writing : Writing) (text : List ℕ) → OfCommand words left (Reports text) → Appends writing.before writing.after text
       → IsDone words left writing.before writing.after
   report_done writing text (command, asks, (bytes, agrees, (short, reports))) added =
-      let accepted = input_accepted command bytes reports.document reports.passes in
       record {
         command = command;
         asked = asks;
         bytes = bytes;
         input = agrees;
         short = short;
-        accepted = accepted;
-        headline = λ report is. record {
-          idempotents = rows_give (exponents_of (document_in command bytes)) _ report accepted.cocycle (accepted.verified report is);
-          modular = report_is_modular (exponents_of (document_in command bytes)) _ report accepted.cocycle (accepted.verified report is);
-          fusion = report_has_rule (exponents_of (document_in command bytes)) _ report accepted.cocycle (accepted.verified report is);
-        };
+        gives = report_given command bytes reports;
         report = subst (Appends writing.before writing.after) reports.text_is added;
       }
 
@@ -125,15 +131,17 @@ module _ (words : List (List ℕ)) (bytes : List ℕ) where
     decides_memory (Ok report) = inr (inl refl)
     decides_memory (Err cause) = inr refl
 
-    refused_decides : (cause : Cause) → RefusedSo words bytes cause → Decides (ComesLate words bytes) (plan words bytes) (Whole (Refused cause))
+    refused_decides : (cause : Cause) → RefusedSo words bytes cause → Decides (ComesLate words bytes) (plan words bytes) (refused cause)
     unfolding RefusedSo
-    refused_decides cause (inl e) = subst (λ (p : Result (List ℕ) Cause). Decides (ComesLate words bytes) p (Whole (Refused cause))) (sym e) (inl refl)
+    refused_decides cause (inl e) = subst (λ (p : Result (List ℕ) Cause). Decides (ComesLate words bytes) p (refused cause)) (sym e) (inl refl)
     refused_decides cause (inr (report, e, late)) =
-        subst (λ (p : Result (List ℕ) Cause). Decides (ComesLate words bytes) p (Whole (Refused cause))) (sym e) (inr (inr (cause, refl, late)))
+        subst (λ (p : Result (List ℕ) Cause). Decides (ComesLate words bytes) p (refused cause)) (sym e) (inr (inr (cause, refl, late)))
 
     says_decides : (outcome : Outcome) (text : List ℕ) → Says words left failed outcome text → Decides (ComesLate words bytes) (plan words bytes) (Whole outcome)
     says_decides Report text says = subst (λ (p : Result (List ℕ) Cause). Decides (ComesLate words bytes) p (Whole Report)) (sym (says_plan text says)) (inl refl)
-    says_decides (Refused cause) text says = refused_decides cause (refused_so cause says.0)
+    says_decides (Refused refusal) text says =
+        subst (λ section. Decides (ComesLate words bytes) (plan words bytes) (Whole (Refused (record { cause = refusal.cause; section = section })))) (sym says.0.whole)
+        (refused_decides refusal.cause (refused_so refusal.cause says.0.cause))
     says_decides Memory text says = decides_memory (plan words bytes)
 
     pub plan_decides : (writing : Writing) (sink_failed : Type 0) (said : Said) → EndsSaying words left failed writing sink_failed said → (sink_failed → ⊥)
@@ -163,7 +171,7 @@ module _ (words : List (List ℕ)) (bytes : List ℕ) where
       -- a report, or that there was no memory
       report_or_memory : (said : Said) (outcome : Outcome) (text : List ℕ) → said ≡ Whole outcome → Says words left failed outcome text → (said ≡ Whole Report) ⊎ (said ≡ Whole Memory)
       report_or_memory said Report text is says = inl is
-      report_or_memory said (Refused cause) text is says = absurd (not_refused cause (refused_so cause says.0))
+      report_or_memory said (Refused refusal) text is says = absurd (not_refused refusal.cause (refused_so refusal.cause says.0.cause))
       report_or_memory said Memory text is says = inr is
 
       -- what there was to say has room where the report and the line for want of memory have
@@ -172,7 +180,7 @@ module _ (words : List (List ℕ)) (bytes : List ℕ) where
           let both : Ok report ≡ Ok text = sym planned ∙ says_plan text says in
           let same : report ≡ text = cc in
           subst (HasRoom room) same has
-      outcome_room room (Refused cause) text has memory says = absurd (not_refused cause (refused_so cause says.0))
+      outcome_room room (Refused refusal) text has memory says = absurd (not_refused refusal.cause (refused_so refusal.cause says.0.cause))
       outcome_room room Memory text has memory says = subst (HasRoom room) (sym says) memory
 
       accepted_said : (writing : Writing) (sink_failed : Type 0) (said : Said) → EndsSaying words left failed writing sink_failed said → IsRoomy sink_failed writing.room report

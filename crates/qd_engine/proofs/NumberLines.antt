@@ -81,7 +81,7 @@ first_not_whole k s i j l value p first same = ap (option_map (not_whole k s)) f
 
 -- ---- indicators
 
-same_map : (f g : ℕ → ℕ) (n : ℕ) → ((i : ℕ) → i < n → f i ≡ g i) → map f (range_with_len 0 n) ≡ map g (range_with_len 0 n)
+pub same_map : (f g : ℕ → ℕ) (n : ℕ) → ((i : ℕ) → i < n → f i ≡ g i) → map f (range_with_len 0 n) ≡ map g (range_with_len 0 n)
 same_map f g n same =
     fill_by_all g (map f (range_with_len 0 n)) n 0 (length-map-range_with_len f 0 n) (λ i below. get_or-map-range_with_len f 0 n i i 0 below (omega arith) ∙ same i below)
 

@@ -24,9 +24,9 @@ use Rattle.qd_steps.specs.Tables.{class_twist, class_table, table_cause, tables_
 use Rattle.qd_engine.specs.Documents.{document_in, exponents_of, given_in, conductor_of}
 use Rattle.qd_engine.specs.Sources.{field_for, lifted_by, blocks_of}
 use Rattle.qd_engine.specs.Report.{class_ranks}
-use Rattle.qd_engine.specs.Tests.{first_of_all, not_whole, scan_test, without_conductor, conductor_test, lifting_test, stated_tests, lifted_tests, source_tests, report_test, rows_test, document_test, refusal}
+use Rattle.qd_engine.specs.Tests.{first_of_all, not_whole, without_conductor, conductor_test, lifting_test, stated_tests, lifted_tests, source_tests, report_test, rows_test, document_test, refusal}
 use Rattle.qd_engine.specs.Causes.{AreGood, IsLifted, HasRows, HasNumbers, IsVerified, OfRows, IsAccepted, GiveIdempotents}
-use Rattle.qd_engine.specs.Words.{have_numbers, most_simples}
+use Rattle.qd_engine.specs.Words.{have_numbers, most_simples, form_of}
 use Rattle.qd_engine.specs.Acceptable.{AllFit, SourceFits}
 use Rattle.qd_engine.specs.declared.command.RowSource.{RowSource}
 use Rattle.qd_engine.specs.declared.command.RowSource.TheVariants.{Stated, Lifted}
@@ -36,6 +36,7 @@ use Rattle.qd_engine.specs.declared.command.Command.{Command}
 use Rattle.qd_engine.proofs.ConductorLaws.{least_is_conductor, multiple_of_factor}
 use Rattle.qd_engine.proofs.LiftedRows.{numbers_of_field, field_serves, lifted_fit}
 use Rattle.qd_engine.proofs.Shapes.{matched_no_fault}
+use Rattle.qd_engine.proofs.Subjects.{input_passes}
 
 or_made : (test rest : Option Cause) → test ≡ None → rest ≡ None → option_or test rest ≡ None
 or_made test rest first later = rw (first, later) refl
@@ -123,7 +124,7 @@ pub accepted_passes : (command : Command) (bytes : List ℕ) → IsAccepted comm
 unfolding refusal document_test
 accepted_passes command bytes accepted fits =
     let d = document_in command bytes in
-    or_made _ _ (ap scan_test accepted.document)
+    or_made _ _ (input_passes command.input (form_of command) bytes accepted.document)
     (or_made _ _
     (or_made _ _ (map_made causes.Group _ accepted.group.lawful)
     (or_made _ _ (map_made causes.Cocycle _ accepted.cocycle.lawful)

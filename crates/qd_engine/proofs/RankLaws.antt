@@ -1,16 +1,21 @@
--- The rank of a class is small.
-use Rattle.std.proofs.Common.{◌≡◌, ℕ, zero, suc, All, ◌+◌, ◌≤◌, List, [], ◌∷◌, ◌++◌, length, map, sym, ap, ◌∙◌, arith}
-use Rattle.std.specs.List.{range_with_len}
-use Rattle.std.proofs.lemmas.List.Elements.{All-append}
-use Rattle.std.proofs.lemmas.List.FromFn.{length-map-range_with_len, map-range_with_len_more}
+-- The ranks of the classes are as many as these, few and small.
+use Rattle.std.proofs.Common.{◌≡◌, All, ◌<◌, ◌≤◌, length, sym, ap, subst, ◌∙◌, arith}
+use Rattle.std.proofs.lemmas.List.{length-map}
+use Rattle.std.proofs.lemmas.List.Elements.{All-map}
 use Rattle.std.proofs.lemmas.List.Sums.{count_by-le-length}
+use Rattle.group_table.specs.Group.{Table}
 use Rattle.cochain.specs.Cochain.{Cochain, IsCocycle}
 use Rattle.classes.specs.Conjugacy.{representatives, representative_at}
+use Rattle.classes.proofs.Conjugacy.{representative_at_is}
 use Rattle.classes.proofs.Counting.{classes_at_most}
 use Rattle.twisted.specs.Twist.{TwistedSubgroup, IsTwist}
 use Rattle.twisted.specs.Regular.{rank, is_regular}
-use Rattle.slant.specs.Twists.{twist_of}
-use Rattle.qd_engine.specs.Report.{class_rank, class_ranks}
+use Rattle.slant.proofs.TwistLaws.{twist_lawful}
+use Rattle.qd_steps.specs.ClassTwists.{class_twists}
+use Rattle.qd_steps.proofs.TwistLists.{length-class_twists, twist_at}
+use Rattle.qd_engine.specs.Report.{class_ranks}
+use Rattle.qd_engine.specs.ClassLists.{IsListOf}
+use Rattle.qd_engine.specs.declared.class_list.ClassList.{ClassList}
 
 -- there are no more regular classes than places
 pub rank_small : (s : TwistedSubgroup) → IsTwist s → rank s ≤ 60
@@ -21,33 +26,10 @@ rank_small s twist =
     let small = twist.small in
     omega arith
 
--- the rank that was found is that of the class
-pub rank_found : (w : Cochain) (c a found : ℕ) (twist : TwistedSubgroup) → a ≡ representative_at w.group c → twist ≡ twist_of w a → found ≡ rank twist → found ≡ class_rank w c
-unfolding class_rank
-rank_found w c a found twist at is found_is = found_is ∙ ap rank (is ∙ ap (twist_of w) at)
-
--- one rank more
-pub ranks_more : (w : Cochain) (c found : ℕ) (front all : List ℕ) → all ≡ front ++ found ∷ [] → front ≡ map (class_rank w) (range_with_len 0 c) → found ≡ class_rank w c
-    → all ≡ map (class_rank w) (range_with_len 0 (c + 1))
-ranks_more w c found front all pushed before here = rw (pushed, before, here) (sym (map-range_with_len_more (class_rank w) 0 c c (omega arith)))
-
--- all of them
-pub ranks_all : (w : Cochain) (n : ℕ) (ranks : List ℕ) → n ≡ length (representatives w.group) → ranks ≡ map (class_rank w) (range_with_len 0 n) → ranks ≡ class_ranks w
-unfolding class_ranks
-ranks_all w n ranks all are = are ∙ ap (λ k. map (class_rank w) (range_with_len 0 k)) all
-
--- one small rank more
-pub small_more : (found : ℕ) (front all : List ℕ) → all ≡ front ++ found ∷ [] → All (λ r. r ≤ 60) front → found ≤ 60 → All (λ r. r ≤ 60) all
-small_more found front all pushed small here = rw pushed (All-append (λ r. r ≤ 60) front (found ∷ []) small (one found here))
-  where
-    one : (x : ℕ) → x ≤ 60 → All (λ r. r ≤ 60) (x ∷ [])
-    one x few zero d below = few
-    one x few (suc k) d below = absurd (omega arith)
-
 -- one for each class
 pub length-class_ranks : (w : Cochain) → length (class_ranks w) ≡ length (representatives w.group)
 unfolding class_ranks
-length-class_ranks w = length-map-range_with_len (class_rank w) 0 (length (representatives w.group))
+length-class_ranks w = length-map (class_twists w) rank ∙ length-class_twists w
 
 -- there are no more classes than elements
 pub class_ranks_few : (w : Cochain) → IsCocycle w → length (class_ranks w) ≤ 60
@@ -56,3 +38,23 @@ class_ranks_few w cocycle =
     let count = length-class_ranks w in
     let small = cocycle.cochain.small.to_sixty in
     omega arith
+
+pub class_ranks_small : (w : Cochain) → IsCocycle w → All (λ r. r ≤ 60) (class_ranks w)
+unfolding class_ranks
+class_ranks_small w cocycle =
+    All-map (λ r. r ≤ 60) rank (class_twists w)
+    (λ c d below.
+    let in_classes = subst (λ n. c < n) (length-class_twists w) below in
+    let lawful = twist_lawful w cocycle (representative_at w.group c) (representative_at_is w.group cocycle.cochain.group c in_classes).below in
+    rank_small _ (subst IsTwist (sym (twist_at w c d in_classes)) lawful))
+
+-- ---- of a list of classes
+module _ (w : Cochain) (list : ClassList) (is : IsListOf w list) where
+  pub ranks_few : length list.ranks ≤ 60
+  ranks_few = subst (λ ranks. length ranks ≤ 60) (sym is.ranks) (class_ranks_few w is.cocycle)
+
+  pub ranks_small : All (λ r. r ≤ 60) list.ranks
+  ranks_small = subst (All (λ r. r ≤ 60)) (sym is.ranks) (class_ranks_small w is.cocycle)
+
+  pub ranks_number : length list.ranks ≡ length (representatives list.classes)
+  ranks_number = ap length is.ranks ∙ length-class_ranks w ∙ ap (λ (t : Table). length (representatives t)) (sym is.classes)

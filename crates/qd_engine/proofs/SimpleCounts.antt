@@ -13,33 +13,37 @@ use Rattle.table_check.specs.Characters.{RowsOver}
 use Rattle.transport.specs.Simples.{SimplesOver, AreSimples, count, simples_of, rows_of, rows_below, table_at, ascending}
 use Rattle.transport.proofs.Order.{ascending_permutes}
 use Rattle.transport.proofs.Rows.{rows_below-zero, rows_below-suc}
-use Rattle.qd_engine.specs.Report.{class_rank, class_ranks}
+use Rattle.dixon_split.proofs.Values.{map_twice}
+use Rattle.qd_steps.specs.Tables.{class_twist}
+use Rattle.qd_steps.specs.ClassTwists.{class_twists}
+use Rattle.qd_engine.specs.Report.{class_ranks}
 
 module _ (k : ℕ) (w : Cochain) (tables : List RowsOver) where
   ranks_before : ℕ → List ℕ
-  ranks_before n = map (class_rank w) (range_with_len 0 n)
+  ranks_before n = map (λ c. rank (class_twist w c)) (range_with_len 0 n)
 
-  ranks_more : (n : ℕ) → ranks_before (suc n) ≡ ranks_before n ++ class_rank w n ∷ []
+  ranks_more : (n : ℕ) → ranks_before (suc n) ≡ ranks_before n ++ rank (class_twist w n) ∷ []
   unfolding ranks_before
   ranks_more n =
       let next : suc n ≡ n + 1 = omega arith in
-      ap (λ m. map (class_rank w) (range_with_len 0 m)) next ∙ map-range_with_len_more (class_rank w) 0 n n (omega arith)
+      ap (λ m. map (λ c. rank (class_twist w c)) (range_with_len 0 m)) next ∙ map-range_with_len_more (λ c. rank (class_twist w c)) 0 n n (omega arith)
 
-  rows_number : (n : ℕ) → ((c : ℕ) → c < n → length (table_at tables c).rows ≡ class_rank w c) → length (rows_below k n tables) ≡ sum (ranks_before n)
+  rows_number : (n : ℕ) → ((c : ℕ) → c < n → length (table_at tables c).rows ≡ rank (class_twist w c)) → length (rows_below k n tables) ≡ sum (ranks_before n)
   unfolding ranks_before
   rows_number zero each = rw (rows_below-zero k tables) refl
   rows_number (suc n) each =
       let before = rows_number n (λ c below. each c (omega (arith, below))) in
-      let here : length (rows_of k n (table_at tables n)) ≡ class_rank w n = length-map-range_with_len _ 0 (length (table_at tables n).rows) ∙ each n (omega arith) in
+      let here : length (rows_of k n (table_at tables n)) ≡ rank (class_twist w n) = length-map-range_with_len _ 0 (length (table_at tables n).rows) ∙ each n (omega arith) in
       ap length (rows_below-suc k n tables) ∙ length-append (rows_below k n tables) (rows_of k n (table_at tables n)) ∙ ap₂ (λ a b. a + b) before here
-      ∙ sym (sum_by_push (λ x. x) (ranks_before n) (class_rank w n)) ∙ ap sum (sym (ranks_more n))
+      ∙ sym (sum_by_push (λ x. x) (ranks_before n) (rank (class_twist w n))) ∙ ap sum (sym (ranks_more n))
 
 -- the ranks are those of the twisted centralisers of the classes
 pub simples_number : (k : ℕ) (w : Cochain) (s : SimplesOver) → s.cocycle ≡ w → AreSimples k s → count k s ≡ sum (class_ranks w)
-unfolding simples_of class_ranks class_rank ranks_before
+unfolding simples_of class_ranks class_twists ranks_before
 simples_number k w s is good =
     let rows = rows_below k (length s.tables) s.tables in
     length_permutation rows (ascending rows) (ascending_permutes rows)
     ∙ rows_number k w s.tables (length s.tables)
     (λ c below. (good.good c below).count ∙ ap rank (good.tables.over c below) ∙ ap (λ (v : Cochain). rank (twist_of v (representative_at v.group c))) is)
-    ∙ ap (λ n. sum (map (class_rank w) (range_with_len 0 n))) (good.tables.count ∙ ap (λ (v : Cochain). length (representatives v.group)) is)
+    ∙ ap (λ n. sum (map (λ c. rank (class_twist w c)) (range_with_len 0 n))) (good.tables.count ∙ ap (λ (v : Cochain). length (representatives v.group)) is)
+    ∙ ap sum (sym (map_twice (class_twist w) rank (range_with_len 0 (length (representatives w.group)))))

@@ -6,7 +6,7 @@ use Rattle.cyclotomic.specs.Conductors.{is_conductor}
 use Rattle.qd_text.specs.Tokens.{Lexeme, tokens}
 use Rattle.qd_text.specs.Numbers.{number_of}
 use Rattle.qd_text.specs.Words.{word_of}
-use Rattle.qd_text.specs.declared.expected.Expected.TheVariants.{Element, Conductor, Value, End}
+use Rattle.qd_text.specs.declared.expected.Expected.TheVariants.{Element, Conductor, End}
 use Rattle.qd_text.specs.declared.expected.Expected.TheVariants as expecteds
 use Rattle.qd_text.specs.declared.natural.NumberFault.{NumberFault}
 use Rattle.qd_text.specs.declared.natural.NumberFault.TheVariants as numbers

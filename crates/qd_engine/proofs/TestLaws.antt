@@ -14,7 +14,11 @@ use Rattle.prime_field.specs.declared.mod_ring.ModRing.{ModRing}
 use Rattle.twist_lift.specs.Laws.{root_order}
 use Rattle.twisted.specs.Twist.{TwistedSubgroup}
 use Rattle.transport.specs.Simples.{SimplesOver}
+use Rattle.group_make.specs.declared.refusal.MakeRefusal.{MakeRefusal}
+use Rattle.group_make.specs.declared.refusal.MakeRefusal.TheVariants as makes
+use Rattle.named_cocycles.specs.Makers.{maker_fault}
 use Rattle.qd_doc.specs.Grammar.{stop_of}
+use Rattle.qd_doc.specs.declared.document.Form.{Form}
 use Rattle.qd_doc.specs.Blocks.{Block}
 use Rattle.qd_doc.specs.declared.document.Document.{Document}
 use Rattle.qd_doc.specs.declared.document.Given.{Given}
@@ -42,13 +46,15 @@ use Rattle.qd_engine.specs.Documents.{document_in, table_of, exponents_of, given
 use Rattle.qd_engine.specs.Sources.{field_for, lifted_by, blocks_of}
 use Rattle.qd_engine.specs.Shape.{shape_fault}
 use Rattle.qd_engine.specs.Report.{class_ranks}
-use Rattle.qd_engine.specs.Tests.{first_of_all, whole_test, not_whole, numbers_test, scan_test, without_conductor, conductor_test, simples_test, lifting_test, source_tests, report_test, rows_test, document_test, refusal, LatePart, LateReport, LateRows, Late}
-use Rattle.qd_engine.specs.Causes.{AreGood, IsLifted, HasRows, HasNumbers, IsVerified, IsAccepted}
+use Rattle.qd_engine.specs.Tests.{first_of_all, whole_test, not_whole, numbers_test, scan_test, maker_test, input_test, without_conductor, conductor_test, simples_test, lifting_test, source_tests, report_test, rows_test, document_test, refusal, LatePart, LateReport, LateRows, Late}
+use Rattle.qd_engine.specs.Causes.{AreGood, IsLifted, HasRows, HasNumbers, IsVerified, HasInput, IsAccepted}
 use Rattle.qd_engine.specs.declared.command.RowPart.{RowPart}
 use Rattle.qd_engine.specs.declared.command.RowPart.TheVariants as row_parts
 use Rattle.qd_engine.specs.declared.command.RowSource.{RowSource}
 use Rattle.qd_engine.specs.declared.command.RowSource.TheVariants.{Stated, Lifted}
 use Rattle.qd_engine.specs.declared.command.RowReport.{RowReport}
+use Rattle.qd_engine.specs.declared.command.Input.{Input}
+use Rattle.qd_engine.specs.declared.command.Input.TheVariants.{Read, Made, Sampled}
 use Rattle.qd_engine.specs.declared.command.Command.{Command}
 use Rattle.qd_engine.proofs.ConductorLaws.{least_is_conductor}
 use Rattle.qd_engine.proofs.Documents.{document_group, document_cocycle}
@@ -83,6 +89,17 @@ said_scan : (stop : Option DocRefusal) → IsSaid (scan_test stop)
 said_scan None = tt
 said_scan (Some stops.Memory) = tt
 said_scan (Some stop) = tt
+
+said_maker : (fault : Option MakeRefusal) → IsSaid (maker_test fault)
+said_maker None = tt
+said_maker (Some (makes.Size order)) = tt
+said_maker (Some (makes.Action power)) = tt
+said_maker (Some makes.Memory) = tt
+
+said_input : (input : Input) (form : Form) (bytes : List ℕ) → IsSaid (input_test input form bytes)
+said_input Read form bytes = said_scan (stop_of form bytes)
+said_input (Made maker) form bytes = said_maker (maker_fault maker)
+said_input (Sampled s) form bytes = tt
 
 said_conductor : (multiple : ℕ) (found : Option ℕ) → IsSaid (without_conductor multiple found)
 said_conductor multiple None = tt
@@ -198,9 +215,8 @@ said_document command document =
 said_refusal : (command : Command) (bytes : List ℕ) → IsSaid (refusal command bytes)
 unfolding refusal
 said_refusal command bytes =
-    let stop = stop_of (form_of command) bytes in
     let document = document_test command (document_in command bytes) in
-    said_or (scan_test stop) (option_or document None) (said_scan stop) (said_or document None (said_document command (document_in command bytes)) tt)
+    said_or (input_test command.input (form_of command) bytes) (option_or document None) (said_input command.input (form_of command) bytes) (said_or document None (said_document command (document_in command bytes)) tt)
 
 pub refusal_is : (command : Command) (bytes : List ℕ) (cause : Cause) → refusal command bytes ≡ Some cause → IsOfInput cause
 refusal_is command bytes cause e = subst IsSaid e (said_refusal command bytes)
@@ -290,11 +306,11 @@ rows_verified w given report cocycle none =
     let (source, few, rows, numbers) = source_verified report.source w given report.parts cocycle found after_conductor in
     record { conductor = found; source = source; few = few; rows = rows; numbers = numbers }
 
-pub input_accepted : (command : Command) (bytes : List ℕ) → stop_of (form_of command) bytes ≡ None → refusal command bytes ≡ None → IsAccepted command bytes
+pub input_accepted : (command : Command) (bytes : List ℕ) → HasInput command.input (form_of command) bytes → refusal command bytes ≡ None → IsAccepted command bytes
 unfolding refusal document_test
 input_accepted command bytes document none =
     let d = document_in command bytes in
-    let passes = (or_none _ _ (or_none (scan_test (stop_of (form_of command) bytes)) _ none).1).0 in
+    let passes = (or_none _ _ (or_none (input_test command.input (form_of command) bytes) _ none).1).0 in
     let (group_passes, after_group) = or_none (option_map causes.Group (group_fault (table_of d))) _ passes in
     let (cocycle_passes, after_cocycle) = or_none (option_map causes.Cocycle (cocycle_fault (exponents_of d))) _ after_group in
     let rows_pass = (or_none (rows_test (exponents_of d) (given_in d) command.rows) _ after_cocycle).0 in

@@ -1,7 +1,8 @@
 -- The answers of the program: what each says, and its status.
-use Rattle.std.specs.Prelude.{ℕ}
+use Rattle.std.specs.Prelude.{◌≡◌, ℕ, None, ⊤}
 use Rattle.qd_engine.specs.declared.answer.Why.{Why}
 use Rattle.qd_engine.specs.declared.answer.Why.TheVariants as whys
+use Rattle.qd_engine.specs.declared.answer.Refusal.{Refusal}
 use Rattle.qd_engine.specs.declared.answer.Outcome.{Outcome}
 use Rattle.qd_engine.specs.declared.answer.Outcome.TheVariants.{Report, Refused, Memory}
 use Rattle.data_print.specs.declared.cause.Cause.{Cause}
@@ -12,32 +13,47 @@ pub data Said : Type 0 where
   Whole : Outcome → Said
   Cut : ℕ → Said
 
+-- the refusal of the whole input for a cause
+abbrev pub of_whole : Cause → Refusal
+of_whole cause = record { cause = cause; section = None }
+
+-- what there is to say is not said of a section alone. No input has sections yet
+abbrev pub IsOfWhole : Outcome → Type 0
+IsOfWhole (Refused refusal) = refusal.section ≡ None
+IsOfWhole outcome = ⊤
+
+-- what an answer says that stands for a cause
+abbrev pub refused : Cause → Said
+refused cause = Whole (Refused (of_whole cause))
+
 -- what an answer says
 abbrev pub said_by : Why → Said
 said_by whys.Done = Whole Report
-said_by whys.Usage = Whole (Refused causes.Usage)
-said_by whys.Read = Whole (Refused causes.Read)
-said_by whys.TooLong = Whole (Refused causes.TooLong)
-said_by (whys.Syntax offset expected) = Whole (Refused (causes.Syntax offset expected))
-said_by (whys.Wide offset) = Whole (Refused (causes.Wide offset))
-said_by (whys.Section offset) = Whole (Refused (causes.Section offset))
-said_by (whys.Order number) = Whole (Refused (causes.Order number))
-said_by (whys.Roots number) = Whole (Refused (causes.Roots number))
-said_by (whys.Group fault) = Whole (Refused (causes.Group fault))
-said_by (whys.Cocycle fault) = Whole (Refused (causes.Cocycle fault))
-said_by (whys.NoConductor multiple) = Whole (Refused (causes.NoConductor multiple))
-said_by (whys.Conductor stated needed) = Whole (Refused (causes.Conductor stated needed))
-said_by (whys.Modulus fault) = Whole (Refused (causes.Modulus fault))
-said_by (whys.Simples ranks most) = Whole (Refused (causes.Simples ranks most))
-said_by (whys.Shape fault) = Whole (Refused (causes.Shape fault))
-said_by (whys.NoDegree at row s) = Whole (Refused (causes.NoDegree at row s))
-said_by (whys.Multiplicity at row x sum degree) = Whole (Refused (causes.Multiplicity at row x sum degree))
-said_by (whys.Count at rows rank) = Whole (Refused (causes.Count at rows rank))
-said_by (whys.Identity name at i j x lhs rhs) = Whole (Refused (causes.Identity name at i j x lhs rhs))
-said_by (whys.NoTwist at row value) = Whole (Refused (causes.NoTwist at row value))
-said_by (whys.NoVacuum rows) = Whole (Refused (causes.NoVacuum rows))
-said_by (whys.NotWhole i j k value) = Whole (Refused (causes.NotWhole i j k value))
-said_by (whys.Overflow site) = Whole (Refused (causes.Overflow site))
+said_by whys.Usage = refused causes.Usage
+said_by whys.Read = refused causes.Read
+said_by whys.TooLong = refused causes.TooLong
+said_by (whys.Syntax offset expected) = refused (causes.Syntax offset expected)
+said_by (whys.Wide offset) = refused (causes.Wide offset)
+said_by (whys.Section offset) = refused (causes.Section offset)
+said_by (whys.Order number) = refused (causes.Order number)
+said_by (whys.Roots number) = refused (causes.Roots number)
+said_by (whys.Group fault) = refused (causes.Group fault)
+said_by (whys.Cocycle fault) = refused (causes.Cocycle fault)
+said_by (whys.Size order) = refused (causes.Size order)
+said_by (whys.Action power) = refused (causes.Action power)
+said_by (whys.NoConductor multiple) = refused (causes.NoConductor multiple)
+said_by (whys.Conductor stated needed) = refused (causes.Conductor stated needed)
+said_by (whys.Modulus fault) = refused (causes.Modulus fault)
+said_by (whys.Simples ranks most) = refused (causes.Simples ranks most)
+said_by (whys.Shape fault) = refused (causes.Shape fault)
+said_by (whys.NoDegree at row s) = refused (causes.NoDegree at row s)
+said_by (whys.Multiplicity at row x sum degree) = refused (causes.Multiplicity at row x sum degree)
+said_by (whys.Count at rows rank) = refused (causes.Count at rows rank)
+said_by (whys.Identity name at i j x lhs rhs) = refused (causes.Identity name at i j x lhs rhs)
+said_by (whys.NoTwist at row value) = refused (causes.NoTwist at row value)
+said_by (whys.NoVacuum rows) = refused (causes.NoVacuum rows)
+said_by (whys.NotWhole i j k value) = refused (causes.NotWhole i j k value)
+said_by (whys.Overflow site) = refused (causes.Overflow site)
 said_by (whys.Write planned) = Cut planned
 said_by whys.Memory = Whole Memory
 
@@ -53,6 +69,8 @@ status_of_cause (causes.Order number) = 6
 status_of_cause (causes.Roots number) = 6
 status_of_cause (causes.Group fault) = 4
 status_of_cause (causes.Cocycle fault) = 5
+status_of_cause (causes.Size order) = 6
+status_of_cause (causes.Action power) = 4
 status_of_cause (causes.NoConductor multiple) = 6
 status_of_cause (causes.Conductor stated needed) = 6
 status_of_cause (causes.Modulus fault) = 7
@@ -70,7 +88,7 @@ status_of_cause (causes.Overflow site) = 11
 -- the status of what there is to say
 abbrev pub status_of : Outcome → ℕ
 status_of Report = 0
-status_of (Refused cause) = status_of_cause cause
+status_of (Refused refusal) = status_of_cause refusal.cause
 status_of Memory = 14
 
 -- the status that the program ends with

@@ -20,7 +20,9 @@ use Rattle.qd_steps.specs.ByModulus.{lifts_cause}
 use Rattle.transport.specs.Simples.{SimplesOver}
 use Rattle.fusion.specs.Numbers.{whole_fault}
 use Rattle.qd_steps.specs.Tables.{class_twist, class_table, simples_over}
-use Rattle.qd_engine.specs.Words.{command_of, read_of, have_numbers, most_simples, form_of}
+use Rattle.qd_doc.specs.declared.document.Form.{Form}
+use Rattle.named_cocycles.specs.Makers.{maker_fault}
+use Rattle.qd_engine.specs.Words.{command_of, reads_by, read_of, have_numbers, most_simples, form_of}
 use Rattle.qd_engine.specs.Documents.{document_in, table_of, exponents_of, given_in, conductor_of}
 use Rattle.qd_engine.specs.Sources.{field_for, blocks_of}
 use Rattle.qd_engine.specs.Report.{class_ranks, report_in}
@@ -31,7 +33,10 @@ use Rattle.qd_engine.specs.declared.command.RowSource.{RowSource}
 use Rattle.qd_engine.specs.declared.command.RowSource.TheVariants.{Stated, Lifted}
 use Rattle.qd_engine.specs.declared.command.RowPart.{RowPart}
 use Rattle.qd_engine.specs.declared.command.RowReport.{RowReport}
+use Rattle.qd_engine.specs.declared.command.Input.{Input}
+use Rattle.qd_engine.specs.declared.command.Input.TheVariants as inputs
 use Rattle.qd_engine.specs.declared.command.Command.{Command}
+use Rattle.qd_engine.specs.declared.answer.Refusal.{Refusal}
 use Rattle.qd_engine.specs.declared.answer.Outcome.{Outcome}
 use Rattle.qd_engine.specs.declared.answer.Outcome.TheVariants.{Report, Refused, Memory}
 use Rattle.data_print.specs.declared.cause.Cause.{Cause}
@@ -62,7 +67,7 @@ Refuses cause command bytes =
 -- this call.
 abbrev pub Means : List (List ℕ) → Option (List ℕ) → Type 0 → Cause → Type 0
 Means words left failed Usage = command_of words ≡ None
-Means words left failed Read = IsSome (command_of words) × failed
+Means words left failed Read = (reads_by words ≡ true) × failed
 Means words left failed TooLong =
     IsSome (command_of words) × OfInput (read_of words left) (λ bytes. INPUT_LIMIT < length bytes)
 Means words left failed cause = OfCommand words left (Refuses cause)
@@ -103,25 +108,19 @@ abbrev pub OfRows : Command → Document → (Cochain → Given → RowReport �
 OfRows command document P =
     (report : RowReport) → command.rows ≡ Some report → P (exponents_of document) (given_in document) report
 
--- the input is a document of the form that the command reads; its table is a group, and its exponents are a normalised
+-- what is read is a document of this form, or the numbers that a cocycle is made of are not refused
+abbrev pub HasInput : Input → Form → List ℕ → Type 0
+HasInput inputs.Read form bytes = stop_of form bytes ≡ None
+HasInput (inputs.Made maker) form bytes = maker_fault maker ≡ None
+HasInput (inputs.Sampled s) form bytes = ⊤
+
+-- the input of the command gives a document of the form that it reads; its table is a group, and its exponents are a normalised
 -- 3-cocycle of it; for a command with rows, these are good tables
 pub record IsAccepted (command : Command) (bytes : List ℕ) : Type 0 where
-  pub document : stop_of (form_of command) bytes ≡ None
+  pub document : HasInput command.input (form_of command) bytes
   pub group : IsGroup (table_of (document_in command bytes))
   pub cocycle : IsCocycle (exponents_of (document_in command bytes))
   pub verified : OfRows command (document_in command bytes) IsVerified
-
--- what holds where the program has this to say. Want of memory says nothing
-abbrev pub MeansSo : List (List ℕ) → Option (List ℕ) → Type 0 → Outcome → Type 0
-MeansSo words left failed Report = OfCommand words left IsAccepted
-MeansSo words left failed (Refused cause) = Means words left failed cause
-MeansSo words left failed Memory = ⊤
-
--- what holds where an answer comes: what it means; or what there was to say means, which the sink cut
-abbrev pub Comes : List (List ℕ) → Option (List ℕ) → Type 0 → Said → Type 0
-Comes words left failed (Whole outcome) = MeansSo words left failed outcome
-Comes words left failed (Cut planned) =
-    (outcome : Outcome) × (status_of outcome ≡ planned) × MeansSo words left failed outcome
 
 -- for each class, the rows give orthogonal central idempotents of its twisted group algebra that add up to one, as many as
 -- its rank
@@ -151,14 +150,34 @@ pub record GiveDouble (w : Cochain) (given : Given) (report : RowReport) : Type 
   pub modular : GiveModularData w given report
   pub fusion : GiveFusionRule w given report
 
--- The program is done: the words are a command, the input is accepted, the headline holds of a command that has rows, and the sink
--- has exactly the report of that.
+-- the input of the command is accepted, and the headline holds of a command that has rows
+pub record GivesReport (command : Command) (bytes : List ℕ) : Type 0 where
+  pub accepted : IsAccepted command bytes
+  pub headline : OfRows command (document_in command bytes) GiveDouble
+
+-- what holds where the program refuses so: what its cause means, of the whole input
+pub record MeansRefusal (words : List (List ℕ)) (left : Option (List ℕ)) (failed : Type 0) (refusal : Refusal) : Type 0 where
+  pub whole : refusal.section ≡ None
+  pub cause : Means words left failed refusal.cause
+
+-- what holds where the program has this to say. Want of memory says nothing
+abbrev pub MeansSo : List (List ℕ) → Option (List ℕ) → Type 0 → Outcome → Type 0
+MeansSo words left failed Report = OfCommand words left GivesReport
+MeansSo words left failed (Refused refusal) = MeansRefusal words left failed refusal
+MeansSo words left failed Memory = ⊤
+
+-- what holds where an answer comes: what it means; or what there was to say means, which the sink cut
+abbrev pub Comes : List (List ℕ) → Option (List ℕ) → Type 0 → Said → Type 0
+Comes words left failed (Whole outcome) = MeansSo words left failed outcome
+Comes words left failed (Cut planned) =
+    (outcome : Outcome) × (status_of outcome ≡ planned) × MeansSo words left failed outcome
+
+-- The program is done: the words are a command, its input gives a report, and the sink has exactly that.
 pub record IsDone (words : List (List ℕ)) (left before after : Option (List ℕ)) : Type 0 where
   pub command : Command
   pub asked : command_of words ≡ Some command
   pub bytes : List ℕ
   pub input : Agrees (read_of words left) bytes
   pub short : length bytes ≤ INPUT_LIMIT
-  pub accepted : IsAccepted command bytes
-  pub headline : OfRows command (document_in command bytes) GiveDouble
+  pub gives : GivesReport command bytes
   pub report : Appends before after (report_in command bytes)

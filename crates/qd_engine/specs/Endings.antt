@@ -4,31 +4,30 @@ use Rattle.std.specs.Global.{Vec}
 use Rattle.std.specs.Io.KnownBytes.{Appends}
 use Rattle.qd_io.specs.Stream.{AppendsFront, HasRoom, TakesUpTo, TakesOver}
 use Rattle.qd_io.specs.declared.reading.TheConstants.{INPUT_LIMIT}
-use Rattle.qd_doc.specs.Grammar.{stop_of}
 use Rattle.data_print.specs.Lines.{line_of, memory_line}
 use Rattle.data_print.specs.declared.cause.Cause.{Cause}
 use Rattle.data_print.specs.declared.cause.Cause.TheVariants.{Read, TooLong}
 use Rattle.qd_engine.specs.Words.{form_of}
 use Rattle.qd_engine.specs.Report.{report_in}
 use Rattle.qd_engine.specs.Tests.{refusal}
-use Rattle.qd_engine.specs.Answers.{Said, Whole, Cut, status_of}
-use Rattle.qd_engine.specs.Causes.{Agrees, OfInput, OfCommand, Means}
+use Rattle.qd_engine.specs.Answers.{Said, Whole, Cut, of_whole, refused, status_of}
+use Rattle.qd_engine.specs.Causes.{Agrees, OfInput, OfCommand, Means, MeansRefusal, HasInput}
 use Rattle.qd_engine.specs.declared.command.Command.{Command}
 use Rattle.qd_engine.specs.declared.answer.Outcome.{Outcome}
 use Rattle.qd_engine.specs.declared.answer.Outcome.TheVariants.{Report, Refused, Memory}
 use Rattle.qd_engine.specs.declared.stop.Stop.{Stop}
 use Rattle.qd_engine.specs.declared.stop.Stop.TheVariants as stops
 
--- the input is a document, no test says anything, and this is the report
+-- the input gives a document, no test says anything, and this is the report
 pub record Reports (text : List ℕ) (command : Command) (bytes : List ℕ) : Type 0 where
-  pub document : stop_of (form_of command) bytes ≡ None
+  pub document : HasInput command.input (form_of command) bytes
   pub passes : refusal command bytes ≡ None
   pub text_is : text ≡ report_in command bytes
 
 -- what the program has to say, and its text
 abbrev pub Says : List (List ℕ) → Option (List ℕ) → Type 0 → Outcome → List ℕ → Type 0
 Says words left failed Report text = OfCommand words left (Reports text)
-Says words left failed (Refused cause) text = Means words left failed cause × (text ≡ line_of cause)
+Says words left failed (Refused refusal) text = MeansRefusal words left failed refusal × (text ≡ line_of refusal.cause)
 Says words left failed Memory text = text ≡ memory_line
 
 -- what a sink had written and promised before a call, and has written after it
@@ -73,14 +72,19 @@ Reads left failed (Err (stops.Refused TooLong)) = OfInput left (λ bytes. INPUT_
 Reads left failed (Err (stops.Refused cause)) = ⊥
 Reads left failed (Err stops.Memory) = ⊤
 
--- how much was taken of a source, by what came of the steps: more than the program reads exactly where it refuses for that
+-- how much was taken of a source where the program refuses so: more than it reads exactly where it refuses for that
+abbrev pub TakesRefused : Option (List ℕ) → Option (List ℕ) → Cause → Type 0
+TakesRefused before after TooLong = TakesOver INPUT_LIMIT before after
+TakesRefused before after cause = TakesUpTo INPUT_LIMIT before after
+
+-- how much was taken of it, by what came of the steps
 abbrev pub Takes : {X : Type 0} → Option (List ℕ) → Option (List ℕ) → Result X Stop → Type 0
-Takes before after (Err (stops.Refused TooLong)) = TakesOver INPUT_LIMIT before after
+Takes before after (Err (stops.Refused cause)) = TakesRefused before after cause
 Takes before after prepared = TakesUpTo INPUT_LIMIT before after
 
 -- The same by the answer. One that was cut, or for want of memory, may stand for a refusal of too much.
 abbrev pub TakesFor : Option (List ℕ) → Option (List ℕ) → Said → Type 0
-TakesFor before after (Whole (Refused TooLong)) = TakesOver INPUT_LIMIT before after
+TakesFor before after (Whole (Refused refusal)) = TakesRefused before after refusal.cause
 TakesFor before after (Whole Memory) = TakesUpTo INPUT_LIMIT before after ⊎ TakesOver INPUT_LIMIT before after
 TakesFor before after (Cut planned) =
     TakesUpTo INPUT_LIMIT before after ⊎ (((planned ≡ 6) ⊎ (planned ≡ 14)) × TakesOver INPUT_LIMIT before after)
@@ -96,11 +100,11 @@ Prepares words left failed (Err stops.Memory) = ⊤
 abbrev pub SaysPrepared : Result (Vec ℕ) Stop → Writing → Type 0 → Said → Type 0
 SaysPrepared (Ok text) writing failed said = Ends writing failed said Report text.items
 SaysPrepared (Err (stops.Refused cause)) writing failed said =
-    Ends writing failed said (Refused cause) (line_of cause) ⊎ Ends writing failed said Memory memory_line
+    Ends writing failed said (Refused (of_whole cause)) (line_of cause) ⊎ Ends writing failed said Memory memory_line
 SaysPrepared (Err stops.Memory) writing failed said = Ends writing failed said Memory memory_line
 
 -- What the plan gives is said, or that there was no memory; in place of a report it may be a refusal that comes late.
 abbrev pub Decides : (Cause → Type 0) → Result (List ℕ) Cause → Said → Type 0
 Decides late (Ok text) said =
-    (said ≡ Whole Report) ⊎ ((said ≡ Whole Memory) ⊎ ((cause : Cause) × (said ≡ Whole (Refused cause)) × late cause))
-Decides late (Err cause) said = (said ≡ Whole (Refused cause)) ⊎ (said ≡ Whole Memory)
+    (said ≡ Whole Report) ⊎ ((said ≡ Whole Memory) ⊎ ((cause : Cause) × (said ≡ refused cause) × late cause))
+Decides late (Err cause) said = (said ≡ refused cause) ⊎ (said ≡ Whole Memory)

@@ -1,11 +1,14 @@
 pub mod NumberWords
+pub mod MakerWords
 pub mod Words
 pub mod WordLaws
 pub mod Documents
 pub mod Sources
 pub mod Shape
 pub mod Certificate
+pub mod Summary
 pub mod Report
+pub mod ClassLists
 pub mod Follows
 pub mod Tests
 pub mod Rows
@@ -15,4 +18,5 @@ pub mod Causes
 pub mod Acceptable
 pub mod CertificateLaws
 pub mod LiftedLaws
+pub mod NamedLaws
 pub mod Endings

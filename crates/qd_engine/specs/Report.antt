@@ -1,13 +1,11 @@
 -- The report of a command: its parts, one after the other.
-use Rattle.std.specs.Prelude.{ℕ, ◌*◌, List, [], ◌++◌, length, map, codes, Option, Some, None, unwrap_or}
-use Rattle.std.specs.List.{range_with_len, flat_map}
+use Rattle.std.specs.Prelude.{ℕ, ◌*◌, List, [], ◌++◌, map, codes, Option, Some, None, unwrap_or}
+use Rattle.std.specs.List.{flat_map}
 use Rattle.std.specs.Fmt.{decimal}
-use Rattle.classes.specs.Conjugacy.{representatives, representative_at}
 use Rattle.cochain.specs.Cochain.{Cochain}
 use Rattle.qd_doc.specs.declared.document.Document.{Document}
 use Rattle.qd_doc.specs.declared.document.Given.{Given}
 use Rattle.twisted.specs.Regular.{rank}
-use Rattle.slant.specs.Twists.{twist_of}
 use Rattle.transport.specs.Simples.{SimplesOver, count}
 use Rattle.modular_st.specs.SMatrices.{s_front}
 use Rattle.prime_field.specs.Moduli.{least_root}
@@ -23,7 +21,10 @@ use Rattle.fusion.specs.Numbers.{fusion_number}
 use Rattle.indicators.specs.Indicators.{indicator_sum}
 use Rattle.root_fusion.specs.IndicatorLists.{dimensions, twists, numbers_into}
 use Rattle.qd_steps.specs.Tables.{simples_over}
-use Rattle.qd_engine.specs.Documents.{document_in, exponents_of, given_in, conductor_of}
+use Rattle.qd_doc.specs.Canonical.{canonical_text}
+use Rattle.qd_steps.specs.ClassTwists.{class_twists}
+use Rattle.qd_engine.specs.Summary.{sample_line}
+use Rattle.qd_engine.specs.Documents.{bare_document, document_in, exponents_of, given_in, conductor_of}
 use Rattle.qd_engine.specs.Sources.{blocks_of}
 use Rattle.qd_engine.specs.Certificate.{certificate_text}
 use Rattle.qd_engine.specs.declared.command.Part.{Part}
@@ -35,13 +36,9 @@ use Rattle.qd_engine.specs.declared.command.RowSource.TheVariants.{Stated, Lifte
 use Rattle.qd_engine.specs.declared.command.RowReport.{RowReport}
 use Rattle.qd_engine.specs.declared.command.Command.{Command}
 
--- the rank of the class with the number c: that of the twisted centraliser of its representative
-unfoldable pub class_rank : Cochain → ℕ → ℕ
-class_rank w c = rank (twist_of w (representative_at w.group c))
-
--- the ranks of all classes, in order
+-- the ranks of the twisted centralisers of all classes, in order
 unfoldable pub class_ranks : Cochain → List ℕ
-class_ranks w = map (class_rank w) (range_with_len 0 (length (representatives w.group)))
+class_ranks w = map rank (class_twists w)
 
 -- the line that every report ends with
 abbrev pub end_line : List ℕ
@@ -69,6 +66,7 @@ abbrev pub part_text : Cochain → Part → List ℕ
 part_text w front_parts.Blank = []
 part_text w front_parts.Head = head_of w
 part_text w front_parts.Classes = classes_text w.group (class_ranks w)
+part_text w front_parts.Document = canonical_text (bare_document w)
 part_text w front_parts.End = end_line
 
 -- the lines of the fusion numbers
@@ -88,6 +86,11 @@ abbrev pub indicators_text : (k : ℕ) → SimplesOver → ℕ → List ℕ
 indicators_text k s m =
     indicators_head s.cocycle.group.order m ⧺ first_lines (λ l. indicator_line l (indicator_of k s m l)) (count k s)
 
+-- the line of a sample whose rows a source gives, where they are lifted
+abbrev pub summary_text : RowSource → (k : ℕ) → SimplesOver → ℕ → List ℕ
+summary_text Stated k s number = []
+summary_text (Lifted q) k s number = sample_line k s q number
+
 -- a text that only a report on lifted rows has
 abbrev pub where_lifted : RowSource → List ℕ → List ℕ
 where_lifted Stated text = []
@@ -102,6 +105,7 @@ row_part_text source k s row_parts.Simples = simples_text k s
 row_part_text source k s row_parts.S = s_lines k s
 row_part_text source k s row_parts.Fusion = where_lifted source (numbers_text k s)
 row_part_text source k s (row_parts.Indicators m) = where_lifted source (indicators_text k s m)
+row_part_text source k s (row_parts.Summary number) = summary_text source k s number
 row_part_text source k s row_parts.Document = certificate_text k s
 row_part_text source k s row_parts.End = end_line
 
@@ -115,11 +119,13 @@ rows_text w given None = []
 rows_text w given (Some report) =
     parts_text (row_part_text report.source (conductor_of w) (simples_over w (blocks_of report.source w given))) report.parts
 
--- the report of a command on a document
+-- the report of a command on a cocycle and the rows that are given
+abbrev pub cocycle_report : Command → Cochain → Given → List ℕ
+cocycle_report command w given = parts_text (part_text w) command.parts ++ rows_text w given command.rows
+
+-- the same on a document
 abbrev pub report_of : Command → Document → List ℕ
-report_of command document =
-    parts_text (part_text (exponents_of document)) command.parts
-    ++ rows_text (exponents_of document) (given_in document) command.rows
+report_of command document = cocycle_report command (exponents_of document) (given_in document)
 
 abbrev pub report_in : Command → List ℕ → List ℕ
 report_in command bytes = report_of command (document_in command bytes)

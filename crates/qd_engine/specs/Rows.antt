@@ -1,5 +1,5 @@
 -- The rows that the program has at hand, by their source.
-use Rattle.std.specs.Prelude.{◌≡◌, ℕ, ◌<◌, List, [], ◌∷◌, All, Option, Some, None, ⊤}
+use Rattle.std.specs.Prelude.{◌≡◌, ℕ, ◌<◌, List, [], ◌∷◌, ◌++◌, Option, Some, None, Result, ⊤}
 use Rattle.cochain.specs.Cochain.{Cochain}
 use Rattle.root_tables.specs.RootRows.{HasRootRows}
 use Rattle.transport.specs.Simples.{SimplesOver, count}
@@ -7,12 +7,17 @@ use Rattle.transport.specs.Headline.{IsFusionRule}
 use Rattle.fusion_web.specs.Entries.{WebEntries, count_of}
 use Rattle.fusion.specs.Numbers.{HoldsFusionNumbers}
 use Rattle.qd_doc.specs.Blocks.{Block}
-use Rattle.qd_doc.specs.Contents.{IsValueOf}
+use Rattle.qd_doc.specs.declared.document.Given.{Given}
 use Rattle.data_print.specs.declared.cause.Cause.{Cause}
-use Rattle.qd_steps.specs.Matched.{IsMatched}
+use Rattle.qd_steps.specs.Matched.{IsMatched, HaveValuesOf}
 use Rattle.qd_steps.specs.Tables.{tables_cause, simples_over}
 use Rattle.qd_steps.specs.ByModulus.{lifted_blocks, modulus_cause}
-use Rattle.qd_engine.specs.Tests.{first_of_all, numbers_test}
+use Rattle.qd_engine.specs.Documents.{conductor_of}
+use Rattle.qd_engine.specs.Sources.{blocks_of}
+use Rattle.qd_engine.specs.Report.{row_part_text, parts_text}
+use Rattle.qd_engine.specs.Tests.{first_of_all, source_tests, numbers_test, LateReport}
+use Rattle.qd_engine.specs.Follows.{Follows}
+use Rattle.qd_engine.specs.declared.stop.Stop.{Stop}
 use Rattle.qd_engine.specs.declared.command.RowPart.{RowPart}
 use Rattle.qd_engine.specs.declared.command.RowSource.{RowSource}
 use Rattle.qd_engine.specs.declared.command.RowSource.TheVariants as sources
@@ -43,7 +48,7 @@ IsOver k (Lifted ring) = ring.conductor ≡ k
 -- are lifted by is one for k, over the order of the group
 abbrev pub Serve : ℕ → Cochain → Rows → Type 0
 Serve k w (Stated blocks) =
-    IsMatched w.group blocks.now × All (λ (block : Block). All (λ row. All (IsValueOf k) row) block.rows) blocks.now
+    IsMatched w.group blocks.now × HaveValuesOf k blocks.now
 Serve k w (Lifted ring) = (ring.conductor ≡ k) × (w.group.order < ring.q)
 
 -- the tables of the simples that they give have values that are sums of roots of unity, where they are lifted
@@ -60,6 +65,20 @@ numbers_cause k s (Lifted ring) parts = numbers_test k s parts
 abbrev pub rows_cause : ℕ → Cochain → Rows → List RowPart → Option Cause
 rows_cause k w rows parts =
     first_of_all (cause_in k w rows ∷ numbers_cause k (simples_over w (blocks_in w rows)) rows parts ∷ [])
+
+-- the report on rows with these parts was added at the end of a text, by what refuses the rows
+abbrev pub AddsParts : ℕ → Cochain → Rows → List RowPart → List ℕ → List ℕ → Result (Unit {0}) Stop → Type 0
+AddsParts k w rows parts old new result =
+    let s = simples_over w (blocks_in w rows) in
+    Follows (rows_cause k w rows parts) (LateReport (source_of rows) k s parts)
+    (λ done. new ≡ old ++ parts_text (row_part_text (source_of rows) k s) parts) result
+
+-- the same of the rows of a source, by its tests
+abbrev pub AddsRows : RowSource → Cochain → Given → List RowPart → List ℕ → List ℕ → Result (Unit {0}) Stop → Type 0
+AddsRows source w given parts old new result =
+    let s = simples_over w (blocks_of source w given) in
+    Follows (first_of_all (source_tests source w given parts)) (LateReport source (conductor_of w) s parts)
+    (λ done. new ≡ old ++ parts_text (row_part_text source (conductor_of w) s) parts) result
 
 -- the web has the fusion numbers of the simples
 pub record IsWebOf (k : ℕ) (s : SimplesOver) (web : WebEntries) : Type 0 where

@@ -9,6 +9,9 @@ use Rattle.qd_engine.specs.Documents.{conductor_of}
 use Rattle.qd_engine.specs.declared.command.RowSource.{RowSource}
 use Rattle.qd_engine.specs.declared.command.RowSource.TheVariants.{Stated, Lifted}
 use Rattle.qd_engine.specs.declared.command.RowReport.{RowReport}
+use Rattle.qd_engine.specs.declared.command.Input.{Input}
+use Rattle.qd_engine.specs.declared.command.Input.TheVariants.{Read, Made, Sampled}
+use Rattle.qd_engine.specs.declared.command.Command.{Command}
 
 -- the field modulo q that the rows of a cocycle are lifted by, where there is one
 abbrev pub field_for : ℕ → Cochain → Option ModRing
@@ -33,3 +36,12 @@ HasRowsFor (Lifted q) characters = ⊤
 abbrev pub HasRowsOf : Option RowReport → Option Given → Type 0
 HasRowsOf None characters = ⊤
 HasRowsOf (Some report) characters = HasRowsFor report.source characters
+
+-- what reads nothing needs no stated rows
+abbrev pub IsServedBy : Input → Option RowReport → Type 0
+IsServedBy Read rows = ⊤
+IsServedBy (Made maker) rows = HasRowsOf rows None
+IsServedBy (Sampled s) rows = HasRowsOf rows None
+
+abbrev pub IsServed : Command → Type 0
+IsServed command = IsServedBy command.input command.rows

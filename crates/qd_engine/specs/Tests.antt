@@ -11,6 +11,10 @@ use Rattle.qd_doc.specs.declared.document.Document.{Document}
 use Rattle.qd_doc.specs.declared.document.Given.{Given}
 use Rattle.qd_doc.specs.declared.refusal.DocRefusal.{DocRefusal}
 use Rattle.qd_doc.specs.declared.refusal.DocRefusal.TheVariants as stops
+use Rattle.qd_doc.specs.declared.document.Form.{Form}
+use Rattle.group_make.specs.declared.refusal.MakeRefusal.{MakeRefusal}
+use Rattle.group_make.specs.declared.refusal.MakeRefusal.TheVariants as makes
+use Rattle.named_cocycles.specs.Makers.{maker_fault}
 use Rattle.group_table.specs.Group.{Table, group_fault}
 use Rattle.cochain.specs.Cochain.{Cochain, cocycle_fault}
 use Rattle.cyclotomic.specs.Conductors.{least_conductor}
@@ -34,6 +38,8 @@ use Rattle.qd_engine.specs.declared.command.RowPart.TheVariants as row_parts
 use Rattle.qd_engine.specs.declared.command.RowSource.{RowSource}
 use Rattle.qd_engine.specs.declared.command.RowSource.TheVariants.{Stated, Lifted}
 use Rattle.qd_engine.specs.declared.command.RowReport.{RowReport}
+use Rattle.qd_engine.specs.declared.command.Input.{Input}
+use Rattle.qd_engine.specs.declared.command.Input.TheVariants.{Read, Made, Sampled}
 use Rattle.qd_engine.specs.declared.command.Command.{Command}
 use Rattle.data_print.specs.declared.cause.Cause.{Cause}
 use Rattle.data_print.specs.declared.cause.Cause.TheVariants as causes
@@ -52,6 +58,19 @@ scan_test (Some (stops.Section offset)) = Some (causes.Section offset)
 scan_test (Some (stops.Order number)) = Some (causes.Order number)
 scan_test (Some (stops.Roots number)) = Some (causes.Roots number)
 scan_test (Some stops.Memory) = None
+
+-- why no cocycle was made of numbers. Want of memory is no such reason
+abbrev pub maker_test : Option MakeRefusal → Option Cause
+maker_test None = None
+maker_test (Some (makes.Size order)) = Some (causes.Size order)
+maker_test (Some (makes.Action power)) = Some (causes.Action power)
+maker_test (Some makes.Memory) = None
+
+-- what is read is no document of this form, or no cocycle is made
+abbrev pub input_test : Input → Form → List ℕ → Option Cause
+input_test Read form bytes = scan_test (stop_of form bytes)
+input_test (Made maker) form bytes = maker_test (maker_fault maker)
+input_test (Sampled s) form bytes = None
 
 -- no conductor is a multiple of this
 abbrev pub without_conductor : ℕ → Option ℕ → Option Cause
@@ -142,7 +161,7 @@ document_test command document =
 -- all tests of an input that is short enough, in order
 abbrev pub tests : Command → List ℕ → List (Option Cause)
 tests command bytes =
-    scan_test (stop_of (form_of command) bytes)
+    input_test command.input (form_of command) bytes
     ∷ document_test command (document_in command bytes)
     ∷ []
 

@@ -1,7 +1,7 @@
 //! What the program has to say, and how it ends: causes, answers and their statuses.
 
 ghost use Rattle.std.specs.Prelude.{◌≡◌};
-ghost use Rattle.qd_engine.specs.Answers.{said_by, Whole, status_of_cause, status_of};
+ghost use Rattle.qd_engine.specs.Answers.{said_by, IsOfWhole, refused, Whole, status_of_cause, status_of};
 
 use cochain::CocycleFault;
 use data_print::{Cause, ShapeFault};
@@ -47,6 +47,14 @@ pub enum Why {
     Group(GroupFault),
     /// The exponents are not a normalised 3-cocycle.
     Cocycle(CocycleFault),
+    /// The order of the group that is made is not 1 to 60.
+    Size {
+        order: u128,
+    },
+    /// The factor of the semidirect product that is made has this power, which is not 1.
+    Action {
+        power: u32,
+    },
     /// No entry of the table of conductors is a multiple of this.
     NoConductor {
         multiple: u32,
@@ -134,20 +142,27 @@ pub struct Answer {
     pub why: Why,
 }
 
+/// A refusal: its cause, and the number of the section of the input of which it is said, or none where it is said of the whole input.
+#[derive(Clone, Copy, Debug)]
+pub struct Refusal {
+    pub cause: Cause,
+    pub section: Option<u32>,
+}
+
 /// What the program has to say, before it is written.
-#[derive(Clone, Copy, Debug, PartialEq, Eq)]
+#[derive(Clone, Copy, Debug)]
 pub enum Outcome {
     /// A report.
     Report,
     /// A refusal.
-    Refused(Cause),
+    Refused(Refusal),
     /// That there was no memory.
     Memory,
 }
 
 /// The answer that stands for a cause.
 fn why_of_cause(cause: Cause) -> Why
-    ensures said { said_by result ≡ Whole (Outcome.Refused cause) }
+    ensures said { said_by result ≡ refused cause }
 {
     match cause {
         Cause::Usage => Why::Usage,
@@ -160,6 +175,8 @@ fn why_of_cause(cause: Cause) -> Why
         Cause::Roots { number } => Why::Roots { number },
         Cause::Group(fault) => Why::Group(fault),
         Cause::Cocycle(fault) => Why::Cocycle(fault),
+        Cause::Size { order } => Why::Size { order },
+        Cause::Action { power } => Why::Action { power },
         Cause::NoConductor { multiple } => Why::NoConductor { multiple },
         Cause::Conductor { stated, needed } => Why::Conductor { stated, needed },
         Cause::Modulus(fault) => Why::Modulus(fault),
@@ -215,9 +232,9 @@ fn status_of_cause(cause: &Cause) -> u8
     match cause {
         Cause::Usage => 2,
         Cause::Syntax { .. } | Cause::Wide { .. } | Cause::Section { .. } => 3,
-        Cause::Group(_) => 4,
+        Cause::Group(_) | Cause::Action { .. } => 4,
         Cause::Cocycle(_) => 5,
-        Cause::TooLong | Cause::Order { .. } | Cause::Roots { .. } => 6,
+        Cause::TooLong | Cause::Order { .. } | Cause::Roots { .. } | Cause::Size { .. } => 6,
         Cause::NoConductor { .. } | Cause::Conductor { .. } | Cause::Simples { .. } => 6,
         Cause::Modulus(_) => 7,
         Cause::NoDegree { .. } | Cause::Multiplicity { .. } => 8,
@@ -232,12 +249,13 @@ fn status_of_cause(cause: &Cause) -> u8
 impl Outcome {
     /// How the program ends where this is written whole.
     pub fn why(self) -> Why
+        requires whole { IsOfWhole self }
         ensures said { said_by result ≡ Whole self }
     {
         match self {
             Outcome::Report => Why::Done,
             Outcome::Memory => Why::Memory,
-            Outcome::Refused(cause) => why_of_cause(cause),
+            Outcome::Refused(refusal) => why_of_cause(refusal.cause),
         }
     }
 
@@ -248,7 +266,7 @@ impl Outcome {
         match self {
             Outcome::Report => 0,
             Outcome::Memory => 14,
-            Outcome::Refused(cause) => status_of_cause(&cause),
+            Outcome::Refused(refusal) => status_of_cause(&refusal.cause),
         }
     }
 }

@@ -1,7 +1,6 @@
 //! The certificate of simples: a document with the rows that they are.
 
 ghost use Rattle.std.specs.Prelude.{◌≡◌, ◌==◌, ◌+◌, ◌^◌, ◌<◌, All, [], ◌∷◌, ◌++◌, length, map, OnOk, IfOk};
-ghost use Rattle.std.specs.List.{range_with_len};
 ghost use Rattle.classes.specs.Conjugacy.{representatives};
 ghost use Rattle.transport.specs.Simples.{count, class_at};
 ghost use Rattle.row_order.specs.SimpleRows.{simples_in, row_of};
@@ -16,7 +15,7 @@ use std::alloc::Global;
 use transport::Simples;
 
 /// The products of a group, row after row.
-fn table_of(alloc: Global, group: &Group) -> Result<Nats, Memory>
+pub fn table_of(alloc: Global, group: &Group) -> Result<Nats, Memory>
     ensures table { IfOk result (λ table. table ≡ group.now.entries) }
 {
     let n = group.order();
@@ -28,7 +27,7 @@ fn table_of(alloc: Global, group: &Group) -> Result<Nats, Memory>
 }
 
 /// The exponents of a cocycle, in the order of their places.
-fn exponents_of(alloc: Global, w: &Cocycle) -> Result<Nats, Memory>
+pub fn exponents_of(alloc: Global, w: &Cocycle) -> Result<Nats, Memory>
     ensures exponents { IfOk result (λ exponents. exponents ≡ w.now.exponents) }
 {
     let n = w.group().order();

@@ -1,10 +1,24 @@
 //! The commands of the program: what each reports, and with that what it reads.
 
-ghost use Rattle.std.specs.Prelude.{◌≡◌};
-ghost use Rattle.qd_engine.specs.Words.{texts, lifted, certificate, alone, with_modulus, with_order, command_of, has_numbers, have_numbers, most_simples, form_of};
+ghost use Rattle.std.specs.Prelude.{◌≡◌, IfSome};
+ghost use Rattle.qd_engine.specs.Words.{texts, lifted, certificate, generate, sample, alone, with_number, with_order, report_of_words, command_by, has_numbers, have_numbers, most_simples, is_read, form_of};
+ghost use Rattle.qd_engine.specs.Sources.{IsServed};
 
+use crate::maker_words::maker_of;
 use crate::number_words::number_word;
+use named_cocycles::{Maker, sample_modulus};
 use qd_doc::Form;
+
+/// Where the group and the cocycle of a command come from.
+#[derive(Clone, Copy)]
+pub enum Input {
+    /// A document that is read has them.
+    Read,
+    /// This names them, and nothing is read.
+    Made(Maker),
+    /// They are the sample with this number, and nothing is read.
+    Sampled(u32),
+}
 
 /// A part of a report that needs no rows of values.
 #[derive(Clone, Copy)]
@@ -15,6 +29,8 @@ pub enum Part {
     Head,
     /// The lines of the classes, each with its rank, and that of the sum of the ranks.
     Classes,
+    /// The document of the group and of the cocycle.
+    Document,
     /// The line that a report ends with.
     End,
 }
@@ -38,6 +54,11 @@ pub enum RowPart {
     Indicators {
         /// The order, at least 1.
         order: u32,
+    },
+    /// The line of the sample with this number, where the rows are lifted.
+    Summary {
+        /// The number of the sample.
+        sample: u32,
     },
     /// A document with the rows, in order of the simples.
     Document,
@@ -66,9 +87,12 @@ pub struct RowReport {
     pub parts: [RowPart; 7],
 }
 
-/// What the program is asked to do: the parts of its report, in order, and then those on rows, where it has them.
+/// What the program is asked to do: where its group and its cocycle come from, the parts of its report, in order, and then those on
+/// rows, where it has them.
 #[derive(Clone, Copy)]
 pub struct Command {
+    /// Where the group and the cocycle come from.
+    pub input: Input,
     /// The parts that need no rows.
     pub parts: [Part; 3],
     /// The parts on rows. A command whose rows the document states reads one with characters.
@@ -77,18 +101,21 @@ pub struct Command {
 
 /// Whether a document has a group and a normalised 3-cocycle of it.
 const CHECK: Command = Command {
+    input: Input::Read,
     parts: [Part::Head, Part::End, Part::Blank],
     rows: None,
 };
 
 /// The conjugacy classes of a document's group, with the rank of each.
 const CLASSES: Command = Command {
+    input: Input::Read,
     parts: [Part::Head, Part::Classes, Part::End],
     rows: None,
 };
 
 /// The simples by the rows that a document states, where these are good tables of its classes, and their matrix S.
 const VERIFY: Command = Command {
+    input: Input::Read,
     parts: [Part::Head, Part::Classes, Part::Blank],
     rows: Some(RowReport {
         source: RowSource::Stated,
@@ -110,6 +137,7 @@ fn lifted(modulus: u32, after: [RowPart; 4]) -> Command
 {
     let [first, second, third, fourth] = after;
     Command {
+        input: Input::Read,
         parts: [Part::Head, Part::Classes, Part::Blank],
         rows: Some(RowReport {
             source: RowSource::Lifted { modulus },
@@ -131,6 +159,7 @@ fn certificate(modulus: u32) -> Command
     ensures report { result ≡ certificate modulus }
 {
     Command {
+        input: Input::Read,
         parts: [Part::Blank; 3],
         rows: Some(RowReport {
             source: RowSource::Lifted { modulus },
@@ -147,9 +176,45 @@ fn certificate(modulus: u32) -> Command
     }
 }
 
+/// The document of the group and of the cocycle that this names.
+fn generate(maker: Maker) -> Command
+    ensures report { result ≡ generate maker }
+{
+    Command {
+        input: Input::Made(maker),
+        parts: [Part::Document, Part::Blank, Part::Blank],
+        rows: None,
+    }
+}
+
+/// The summary of the fusion numbers of the sample with this number.
+fn sample(number: u32) -> Command
+    ensures report { result ≡ sample number }
+{
+    Command {
+        input: Input::Sampled(number),
+        parts: [Part::Blank; 3],
+        rows: Some(RowReport {
+            source: RowSource::Lifted {
+                modulus: sample_modulus(number),
+            },
+            parts: [
+                RowPart::Summary { sample: number },
+                RowPart::End,
+                RowPart::Blank,
+                RowPart::Blank,
+                RowPart::Blank,
+                RowPart::Blank,
+                RowPart::Blank,
+            ],
+        }),
+    }
+}
+
 /// The command of a word that stands alone.
 fn alone(word: &str) -> Option<Command>
     ensures command { result ≡ alone word.now }
+    ensures served { IfSome result IsServed }
 {
     match word {
         "check" => Some(CHECK),
@@ -159,24 +224,26 @@ fn alone(word: &str) -> Option<Command>
     }
 }
 
-/// The command of a word that a modulus follows.
-fn with_modulus(word: &str, modulus: u32) -> Option<Command>
-    ensures command { result ≡ with_modulus word.now modulus }
+/// The command of a word that a number follows: a modulus, or that of a sample.
+fn with_number(word: &str, number: u32) -> Option<Command>
+    ensures command { result ≡ with_number word.now number }
+    ensures served { IfSome result IsServed }
 {
     match word {
         "simples" => Some(lifted(
-            modulus,
+            number,
             [RowPart::End, RowPart::Blank, RowPart::Blank, RowPart::Blank],
         )),
         "data" => Some(lifted(
-            modulus,
+            number,
             [RowPart::S, RowPart::End, RowPart::Blank, RowPart::Blank],
         )),
         "fusion" => Some(lifted(
-            modulus,
+            number,
             [RowPart::S, RowPart::Fusion, RowPart::End, RowPart::Blank],
         )),
-        "certificate" => Some(certificate(modulus)),
+        "certificate" => Some(certificate(number)),
+        "sample" => Some(sample(number)),
         _ => None,
     }
 }
@@ -184,6 +251,7 @@ fn with_modulus(word: &str, modulus: u32) -> Option<Command>
 /// The command of a word that a modulus and an order follow.
 fn with_order(word: &str, modulus: u32, order: u32) -> Option<Command>
     ensures command { result ≡ with_order word.now modulus order }
+    ensures served { IfSome result IsServed }
 {
     match word {
         "indicators" if order >= 1 => {
@@ -201,19 +269,40 @@ fn with_order(word: &str, modulus: u32, order: u32) -> Option<Command>
     }
 }
 
-/// The command of the words, which follow the program's name; `None` where they are not in its grammar.
-pub fn command_of(words: &[String]) -> Option<Command>
-    ensures command { result ≡ command_of (texts words.now) }
+/// The command of a word that these numbers follow.
+fn report_of_words(word: &str, numbers: &[String]) -> Option<Command>
+    ensures command { result ≡ report_of_words word.now (texts numbers.now) }
+    ensures served { IfSome result IsServed }
 {
-    match words {
-        [word] => alone(word.as_str()),
-        [word, modulus] => with_modulus(word.as_str(), number_word(modulus.as_str())?),
-        [word, modulus, order] => with_order(
-            word.as_str(),
+    match numbers {
+        [] => alone(word),
+        [number] => with_number(word, number_word(number.as_str())?),
+        [modulus, order] => with_order(
+            word,
             number_word(modulus.as_str())?,
             number_word(order.as_str())?,
         ),
         _ => None,
+    }
+}
+
+/// The command of a word and those that follow it; `None` where they are not in the grammar.
+pub fn command_by(word: &str, words: &[String]) -> Option<Command>
+    ensures command { result ≡ command_by word.now (texts words.now) }
+    ensures served { IfSome result IsServed }
+{
+    match word {
+        "gen" => Some(generate(maker_of(words)?)),
+        _ => report_of_words(word, words),
+    }
+}
+
+impl Input {
+    /// Whether it is read.
+    pub fn is_read(&self) -> bool
+        ensures read { result ≡ is_read self.now }
+    {
+        matches!(self, Input::Read)
     }
 }
 
@@ -222,7 +311,10 @@ impl RowPart {
     fn has_numbers(&self) -> bool
         ensures numbers { result ≡ has_numbers self.now }
     {
-        matches!(self, RowPart::Fusion | RowPart::Indicators { .. })
+        matches!(
+            self,
+            RowPart::Fusion | RowPart::Indicators { .. } | RowPart::Summary { .. }
+        )
     }
 }
 

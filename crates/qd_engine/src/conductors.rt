@@ -1,21 +1,19 @@
 //! The report on rows of values, with values of the conductor that is needed.
 
-ghost use Rattle.std.specs.Prelude.{◌≡◌, ◌≤◌, ◌%◌, ◌++◌, true, sum};
+ghost use Rattle.std.specs.Prelude.{◌≡◌, ◌≤◌, ◌%◌, true, sum};
 ghost use Rattle.cyclotomic.specs.Conductors.{is_conductor};
 ghost use Rattle.twist_lift.specs.Laws.{root_order};
-ghost use Rattle.qd_steps.specs.Tables.{simples_over};
-ghost use Rattle.qd_engine.specs.Rows.{source_of, blocks_in, rows_cause, Serve};
+ghost use Rattle.qd_engine.specs.ClassLists.{IsListOf};
+ghost use Rattle.qd_engine.specs.Rows.{Serve, AddsParts};
 ghost use Rattle.qd_engine.specs.Words.{have_numbers};
-ghost use Rattle.qd_engine.specs.Report.{class_ranks, row_part_text, parts_text};
-ghost use Rattle.qd_engine.specs.Tests.{LateReport};
-ghost use Rattle.qd_engine.specs.Follows.{Follows};
+ghost use Rattle.qd_engine.specs.Report.{class_ranks};
 
+use crate::class_list::ClassList;
 use crate::command::RowPart;
 use crate::numbers::web_of;
 use crate::row_parts::append_row_parts;
 use crate::rows::{Rows, simples_of};
 use crate::stop::Stop;
-use classes::Classes;
 use cochain::Cocycle;
 
 /// Adds these parts of the report on the simples that the rows give, with values of conductor K.
@@ -23,20 +21,18 @@ fn append_numbers<const K: u32>(
     out: &mut Vec<u8>,
     parts: &[RowPart],
     w: Cocycle,
-    classes: Classes,
+    list: ClassList,
     rows: &Rows,
 ) -> Result<(), Stop>
     requires conductor { is_conductor K ≡ true }
     requires multiple { K % root_order w ≡ 0 }
-    requires group { classes ≡ w.group }
+    requires list { IsListOf w list }
     requires serve { Serve K w rows.now }
     requires few { have_numbers parts.now ≡ true → sum (class_ranks w) ≤ 64 }
-    ensures follows { let simples = simples_over w (blocks_in w rows.now) in
-        Follows (rows_cause K w rows.now parts.now) (LateReport (source_of rows.now) K simples parts.now)
-        (λ done. out.new.items ≡ out.old.items ++ parts_text (row_part_text (source_of rows.now) K simples) parts.now) result }
+    ensures follows { AddsParts K w rows.now parts.now out.old.items out.new.items result }
 {
     let alloc = *out.allocator();
-    let simples = simples_of::<K>(alloc, w, classes, rows)?;
+    let simples = simples_of::<K>(alloc, w, list, rows)?;
     let web = web_of(alloc, parts, rows, &simples)?;
     append_row_parts(out, parts, rows, &simples, &web)
 }
@@ -48,45 +44,43 @@ pub fn append_over(
     k: u32,
     parts: &[RowPart],
     w: Cocycle,
-    classes: Classes,
+    list: ClassList,
     rows: &Rows,
 ) -> Result<(), Stop>
     requires conductor { is_conductor k ≡ true }
     requires multiple { k % root_order w ≡ 0 }
-    requires group { classes ≡ w.group }
+    requires list { IsListOf w list }
     requires serve { Serve k w rows.now }
     requires few { have_numbers parts.now ≡ true → sum (class_ranks w) ≤ 64 }
-    ensures follows { let simples = simples_over w (blocks_in w rows.now) in
-        Follows (rows_cause k w rows.now parts.now) (LateReport (source_of rows.now) k simples parts.now)
-        (λ done. out.new.items ≡ out.old.items ++ parts_text (row_part_text (source_of rows.now) k simples) parts.now) result }
+    ensures follows { AddsParts k w rows.now parts.now out.old.items out.new.items result }
 {
     match k {
-        4 => append_numbers::<4>(out, parts, w, classes, rows),
-        6 => append_numbers::<6>(out, parts, w, classes, rows),
-        8 => append_numbers::<8>(out, parts, w, classes, rows),
-        9 => append_numbers::<9>(out, parts, w, classes, rows),
-        12 => append_numbers::<12>(out, parts, w, classes, rows),
-        16 => append_numbers::<16>(out, parts, w, classes, rows),
-        18 => append_numbers::<18>(out, parts, w, classes, rows),
-        20 => append_numbers::<20>(out, parts, w, classes, rows),
-        24 => append_numbers::<24>(out, parts, w, classes, rows),
-        25 => append_numbers::<25>(out, parts, w, classes, rows),
-        27 => append_numbers::<27>(out, parts, w, classes, rows),
-        28 => append_numbers::<28>(out, parts, w, classes, rows),
-        30 => append_numbers::<30>(out, parts, w, classes, rows),
-        32 => append_numbers::<32>(out, parts, w, classes, rows),
-        36 => append_numbers::<36>(out, parts, w, classes, rows),
-        40 => append_numbers::<40>(out, parts, w, classes, rows),
-        42 => append_numbers::<42>(out, parts, w, classes, rows),
-        48 => append_numbers::<48>(out, parts, w, classes, rows),
-        49 => append_numbers::<49>(out, parts, w, classes, rows),
-        54 => append_numbers::<54>(out, parts, w, classes, rows),
-        60 => append_numbers::<60>(out, parts, w, classes, rows),
-        64 => append_numbers::<64>(out, parts, w, classes, rows),
-        72 => append_numbers::<72>(out, parts, w, classes, rows),
-        84 => append_numbers::<84>(out, parts, w, classes, rows),
-        96 => append_numbers::<96>(out, parts, w, classes, rows),
-        120 => append_numbers::<120>(out, parts, w, classes, rows),
+        4 => append_numbers::<4>(out, parts, w, list, rows),
+        6 => append_numbers::<6>(out, parts, w, list, rows),
+        8 => append_numbers::<8>(out, parts, w, list, rows),
+        9 => append_numbers::<9>(out, parts, w, list, rows),
+        12 => append_numbers::<12>(out, parts, w, list, rows),
+        16 => append_numbers::<16>(out, parts, w, list, rows),
+        18 => append_numbers::<18>(out, parts, w, list, rows),
+        20 => append_numbers::<20>(out, parts, w, list, rows),
+        24 => append_numbers::<24>(out, parts, w, list, rows),
+        25 => append_numbers::<25>(out, parts, w, list, rows),
+        27 => append_numbers::<27>(out, parts, w, list, rows),
+        28 => append_numbers::<28>(out, parts, w, list, rows),
+        30 => append_numbers::<30>(out, parts, w, list, rows),
+        32 => append_numbers::<32>(out, parts, w, list, rows),
+        36 => append_numbers::<36>(out, parts, w, list, rows),
+        40 => append_numbers::<40>(out, parts, w, list, rows),
+        42 => append_numbers::<42>(out, parts, w, list, rows),
+        48 => append_numbers::<48>(out, parts, w, list, rows),
+        49 => append_numbers::<49>(out, parts, w, list, rows),
+        54 => append_numbers::<54>(out, parts, w, list, rows),
+        60 => append_numbers::<60>(out, parts, w, list, rows),
+        64 => append_numbers::<64>(out, parts, w, list, rows),
+        72 => append_numbers::<72>(out, parts, w, list, rows),
+        84 => append_numbers::<84>(out, parts, w, list, rows),
+        96 => append_numbers::<96>(out, parts, w, list, rows),
+        120 => append_numbers::<120>(out, parts, w, list, rows),
         _ => unreachable!(),
     }
 }

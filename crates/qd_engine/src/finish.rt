@@ -2,7 +2,7 @@
 
 ghost use Rattle.std.specs.Prelude.{◌≡◌};
 ghost use Rattle.qd_io.specs.Stream.{Rises};
-ghost use Rattle.qd_engine.specs.Answers.{said_by, status_by};
+ghost use Rattle.qd_engine.specs.Answers.{said_by, IsOfWhole, status_by};
 ghost use Rattle.qd_engine.specs.Endings.{Ends};
 
 use crate::answer::{Answer, Outcome, Why};
@@ -10,6 +10,7 @@ use qd_io::{Sink, write_whole};
 
 /// Writes what the program has to say, and answers how it ends by that.
 pub fn finish<W: Sink>(sink: &mut W, outcome: Outcome, text: &[u8]) -> Answer
+    requires whole { IsOfWhole outcome }
     ensures status { result.status ≡ status_by (said_by result.why) }
     ensures ends { Ends
         (record { before = W.written sink.old; after = W.written sink.new; room = W.room sink.old })

@@ -1,6 +1,6 @@
 //! The lines of the indicators of all simples.
 
-ghost use Rattle.std.specs.Prelude.{◌≡◌, ◌<◌, ◌++◌, All, length, OnOk, IfOk};
+ghost use Rattle.std.specs.Prelude.{◌≡◌, ◌<◌, ◌++◌, All, OnOk, IfOk};
 ghost use Rattle.transport.specs.Simples.{count};
 ghost use Rattle.root_fusion.specs.IndicatorLists.{dimensions, twists};
 ghost use Rattle.data_print.specs.Text.{first_lines};

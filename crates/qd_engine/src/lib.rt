@@ -2,16 +2,18 @@
 #![tactic(auto)]
 
 mod answer;
+mod bare;
 mod certificate;
+mod class_list;
 mod command;
 mod conductors;
 mod finish;
 mod indicator_lines;
 mod input;
 pub mod laws;
+mod maker_words;
 mod number_words;
 mod numbers;
-mod ranks;
 mod row_parts;
 mod row_report;
 mod row_tests;
@@ -20,6 +22,8 @@ mod running;
 mod shape;
 mod steps;
 mod stop;
+mod summary;
+mod words;
 
 pub use answer::{Answer, Why};
 pub use running::run;

@@ -14,6 +14,7 @@ use crate::indicator_lines::append_indicators;
 use crate::numbers::append_fusion_numbers;
 use crate::rows::Rows;
 use crate::stop::Stop;
+use crate::summary::append_summary;
 use data_print::{Cause, append_s, append_simples};
 use fusion_web::Web;
 use modular_st::{SMatrix, StRefusal, s_matrix};
@@ -111,6 +112,7 @@ fn append_row_part<const K: u32>(
         RowPart::S => append_matrix(out, simples),
         RowPart::Fusion => Ok(append_fusion_numbers(out, rows, simples, web)?),
         RowPart::Indicators { order } => Ok(append_indicators(out, rows, simples, web, order)?),
+        RowPart::Summary { sample } => Ok(append_summary(out, rows, simples, web, sample)?),
         RowPart::Document => Ok(append_certificate(out, simples)?),
         RowPart::End => Ok(out.extend_from_slice(b"end\n")?),
     }

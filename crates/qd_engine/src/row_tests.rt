@@ -1,9 +1,9 @@
 //! The tests of rows of values before their tables are checked.
 
-ghost use Rattle.std.specs.Prelude.{◌≡◌, ◌≤◌, ◌<◌, ◌^◌, ◌%◌, true, Some, length, sum, All, IfOk};
+ghost use Rattle.std.specs.Prelude.{◌≡◌, ◌≤◌, ◌<◌, ◌^◌, true, Some, length, sum, All, IfOk};
 ghost use Rattle.cyclotomic.specs.Conductors.{is_conductor};
-ghost use Rattle.twist_lift.specs.Laws.{root_order};
 ghost use Rattle.qd_steps.specs.Matched.{IsMatched};
+ghost use Rattle.qd_engine.specs.ClassLists.{IsNeeded};
 ghost use Rattle.qd_engine.specs.Documents.{conductor_of};
 ghost use Rattle.qd_engine.specs.Sources.{field_for};
 ghost use Rattle.qd_engine.specs.Tests.{conductor_test, stated_test, modulus_test, simples_test, shape_test};
@@ -23,8 +23,7 @@ use qd_ring::{NoConductor, conductor};
 #[tactic(auto, unfolding(crate::specs::Tests::conductor_test, crate::specs::Documents::conductor_of))]
 pub fn needed_conductor(w: &Cocycle) -> Result<u32, Stop>
     ensures tested { Tests (conductor_test w.now) (λ k. k ≡ conductor_of w.now) result }
-    ensures conductor { IfOk result (λ k. is_conductor k ≡ true) }
-    ensures multiple { IfOk result (λ k. k % root_order w.now ≡ 0) }
+    ensures needed { IfOk result (IsNeeded w.now) }
 {
     let exponent = w.group().exponent();
     match conductor(w.roots() * exponent) {
@@ -57,7 +56,8 @@ fn total(ranks: &[u32]) -> u32
 pub fn few_simples(ranks: &Nats, most: u32) -> Result<(), Stop>
     requires few { length ranks.now ≤ 60 }
     requires small { All (λ rank. rank ≤ 60) ranks.now }
-    ensures tested { Tests (simples_test (sum ranks.now) most) (λ done. sum ranks.now ≤ most) result }
+    ensures tested { Tests (simples_test (sum ranks.now) most)
+        (λ done. sum ranks.now ≤ most) result }
 {
     let ranks = total(ranks.as_slice());
     if ranks <= most {
@@ -69,7 +69,8 @@ pub fn few_simples(ranks: &Nats, most: u32) -> Result<(), Stop>
 
 /// Whether the blocks match the classes.
 pub fn matching(classes: &Classes, blocks: &Blocks) -> Result<(), Stop>
-    ensures tested { Tests (shape_test classes.now blocks.now) (λ done. IsMatched classes.now blocks.now) result }
+    ensures tested { Tests (shape_test classes.now blocks.now)
+        (λ done. IsMatched classes.now blocks.now) result }
 {
     match shape_fault(classes, blocks) {
         None => Ok(()),
@@ -81,7 +82,8 @@ pub fn matching(classes: &Classes, blocks: &Blocks) -> Result<(), Stop>
 pub fn field(q: u32, w: &Cocycle, k: u32) -> Result<ModRing, Stop>
     requires conductor { is_conductor k ≡ true }
     requires needed { k ≡ conductor_of w.now }
-    ensures tested { Tests (modulus_test q w.now) (λ ring. field_for q w.now ≡ Some ring) result }
+    ensures tested { Tests (modulus_test q w.now)
+        (λ ring. field_for q w.now ≡ Some ring) result }
     ensures modulus { IfOk result (λ ring. ring.q ≡ q) }
     ensures conductor { IfOk result (λ ring. ring.conductor ≡ k) }
     ensures over { IfOk result (λ ring. w.now.group.order < ring.q) }

@@ -1,24 +1,23 @@
 //! The rows of values that a report is made from, and the simples that they give.
 
-ghost use Rattle.std.specs.Prelude.{◌≡◌, ◌%◌, ◌<◌, true, All, IfOk};
+ghost use Rattle.std.specs.Prelude.{◌≡◌, ◌%◌, ◌<◌, true, IfOk};
 ghost use Rattle.cyclotomic.specs.Conductors.{is_conductor};
 ghost use Rattle.twist_lift.specs.Laws.{root_order};
 ghost use Rattle.transport.specs.Simples.{SimplesOver, AreSimples};
 ghost use Rattle.root_tables.specs.RootRows.{HasRootRows};
-ghost use Rattle.qd_doc.specs.Blocks.{Block};
-ghost use Rattle.qd_doc.specs.Contents.{IsValueOf};
-ghost use Rattle.qd_steps.specs.Matched.{IsMatched};
+ghost use Rattle.qd_steps.specs.Matched.{IsMatched, HaveValuesOf};
 ghost use Rattle.qd_steps.specs.Tables.{tables_cause, simples_over};
 ghost use Rattle.qd_steps.specs.ByModulus.{lifted_blocks, modulus_cause};
+ghost use Rattle.qd_engine.specs.ClassLists.{IsListOf};
 ghost use Rattle.qd_engine.specs.Rows.{blocks_in, cause_in, Serve, AreRooted};
 ghost use Rattle.qd_engine.specs.Follows.{Tests};
 
+use crate::class_list::ClassList;
 use crate::stop::Stop;
-use classes::Classes;
 use cochain::Cocycle;
 use prime_field::ModRing;
 use qd_doc::Blocks;
-use qd_steps::{StepRefusal, simples_by_modulus, simples_by_rows};
+use qd_steps::{StepRefusal, simples_by_modulus_over, simples_by_rows_over};
 use std::alloc::Global;
 use transport::Simples;
 
@@ -35,18 +34,19 @@ pub enum Rows<'a> {
 fn stated_simples<const K: u32>(
     alloc: Global,
     w: Cocycle,
-    classes: Classes,
+    list: ClassList,
     blocks: &Blocks,
 ) -> Result<Simples<K>, Stop>
     requires conductor { is_conductor K ≡ true }
     requires multiple { K % root_order w ≡ 0 }
-    requires group { classes ≡ w.group }
+    requires list { IsListOf w list }
     requires matched { IsMatched w.group blocks.now }
-    requires values { All (λ (block : Block). All (λ row. All (IsValueOf K) row) block.rows) blocks.now }
-    ensures tested { Tests (tables_cause w K blocks.now) (λ (simples : SimplesOver). simples ≡ simples_over w blocks.now) result }
+    requires values { HaveValuesOf K blocks.now }
+    ensures tested { Tests (tables_cause w K blocks.now)
+        (λ (simples : SimplesOver). simples ≡ simples_over w blocks.now) result }
     ensures good { IfOk result (λ simples. AreSimples K simples) }
 {
-    match simples_by_rows::<K>(alloc, w, classes, blocks) {
+    match simples_by_rows_over::<K>(alloc, w, list.classes, &list.twists, blocks) {
         Ok(simples) => Ok(simples),
         Err(StepRefusal::Refused(cause)) => Err(Stop::Refused(cause)),
         Err(StepRefusal::Memory) => Err(Stop::Memory),
@@ -57,18 +57,19 @@ fn stated_simples<const K: u32>(
 fn lifted_simples<const K: u32>(
     alloc: Global,
     w: Cocycle,
-    classes: Classes,
+    list: ClassList,
     ring: &ModRing,
 ) -> Result<Simples<K>, Stop>
     requires conductor { ring.now.conductor ≡ K }
     requires multiple { K % root_order w ≡ 0 }
-    requires group { classes ≡ w.group }
+    requires list { IsListOf w list }
     requires over { w.group.order < ring.now.q }
-    ensures tested { Tests (modulus_cause ring.now w) (λ (simples : SimplesOver). simples ≡ simples_over w (lifted_blocks ring.now w)) result }
+    ensures tested { Tests (modulus_cause ring.now w)
+        (λ (simples : SimplesOver). simples ≡ simples_over w (lifted_blocks ring.now w)) result }
     ensures good { IfOk result (λ simples. AreSimples K simples) }
     ensures rooted { IfOk result (λ simples. HasRootRows K simples) }
 {
-    match simples_by_modulus::<K>(alloc, w, classes, ring) {
+    match simples_by_modulus_over::<K>(alloc, w, list.classes, &list.twists, ring) {
         Ok(lifted) => Ok(lifted),
         Err(StepRefusal::Refused(cause)) => Err(Stop::Refused(cause)),
         Err(StepRefusal::Memory) => Err(Stop::Memory),
@@ -79,19 +80,20 @@ fn lifted_simples<const K: u32>(
 pub fn simples_of<const K: u32>(
     alloc: Global,
     w: Cocycle,
-    classes: Classes,
+    list: ClassList,
     rows: &Rows,
 ) -> Result<Simples<K>, Stop>
     requires conductor { is_conductor K ≡ true }
     requires multiple { K % root_order w ≡ 0 }
-    requires group { classes ≡ w.group }
+    requires list { IsListOf w list }
     requires serve { Serve K w rows.now }
-    ensures tested { Tests (cause_in K w rows.now) (λ (simples : SimplesOver). simples ≡ simples_over w (blocks_in w rows.now)) result }
+    ensures tested { Tests (cause_in K w rows.now)
+        (λ (simples : SimplesOver). simples ≡ simples_over w (blocks_in w rows.now)) result }
     ensures good { IfOk result (λ simples. AreSimples K simples) }
     ensures rooted { IfOk result (λ simples. AreRooted K simples rows.now) }
 {
     match rows {
-        Rows::Stated(blocks) => stated_simples(alloc, w, classes, blocks),
-        Rows::Lifted(ring) => lifted_simples(alloc, w, classes, ring),
+        Rows::Stated(blocks) => stated_simples(alloc, w, list, blocks),
+        Rows::Lifted(ring) => lifted_simples(alloc, w, list, ring),
     }
 }

@@ -7,18 +7,18 @@ ghost use Rattle.data_print.specs.Lines.{line_of};
 ghost use Rattle.qd_engine.specs.Words.{texts, reads_by, read_of};
 ghost use Rattle.qd_engine.specs.Report.{report_in};
 ghost use Rattle.qd_engine.specs.Tests.{plan, ComesLate};
-ghost use Rattle.qd_engine.specs.Answers.{said_by, status_by, Whole, Cut};
+ghost use Rattle.qd_engine.specs.Answers.{said_by, status_by};
 ghost use Rattle.qd_engine.specs.Causes.{Comes, IsDone};
 ghost use Rattle.qd_engine.specs.Acceptable.{IsAcceptable};
 ghost use Rattle.qd_engine.specs.declared.answer.Why.{Why};
 ghost use Rattle.qd_engine.specs.Endings.{Prepares, Takes, TakesFor, SaysPrepared, EndsSaying, IsRoomy, Decides};
 
-use crate::answer::{Answer, Outcome};
-use crate::command::command_of;
+use crate::answer::{Answer, Outcome, Refusal};
 use crate::finish::finish;
 use crate::input::input;
 use crate::steps::answer_to;
 use crate::stop::Stop;
+use crate::words::read_words;
 use data_print::{Cause, append_refusal};
 use qd_io::{Sink, Source};
 use std::alloc::{AllocError, Global};
@@ -28,13 +28,13 @@ fn prepare<S: Source>(alloc: Global, words: &Vec<String>, source: &mut S) -> Res
     ensures prepares { Prepares (texts words.now.items) (S.left source.old)
         (Rises (S.faults source.old) (S.faults source.new)) result }
     ensures taken { Takes (S.left source.old) (S.left source.new) result }
-    ensures drained { OnOk result (IsAtEnd (S.left source.new)) }
+    ensures drained { reads_by (texts words.now.items) ≡ true → OnOk result (IsAtEnd (S.left source.new)) }
     ensures untouched { reads_by (texts words.now.items) ≡ false → source.new ≡ source.old }
 {
-    let Some(command) = command_of(words) else {
+    let Some(command) = read_words(alloc, words)? else {
         return Err(Stop::Refused(Cause::Usage));
     };
-    let bytes = input(alloc, source)?;
+    let bytes = input(alloc, &command, source)?;
     answer_to(alloc, &command, &bytes)
 }
 
@@ -61,7 +61,14 @@ fn say<W: Sink>(alloc: Global, prepared: Result<Vec<u8>, Stop>, sink: &mut W) ->
         Ok(text) => finish(sink, Outcome::Report, &text),
         Err(Stop::Memory) => finish(sink, Outcome::Memory, MEMORY_LINE.as_bytes()),
         Err(Stop::Refused(cause)) => match line(alloc, &cause) {
-            Ok(text) => finish(sink, Outcome::Refused(cause), &text),
+            Ok(text) => finish(
+                sink,
+                Outcome::Refused(Refusal {
+                    cause,
+                    section: None,
+                }),
+                &text,
+            ),
             Err(_) => finish(sink, Outcome::Memory, MEMORY_LINE.as_bytes()),
         },
     }
@@ -79,10 +86,11 @@ pub fn run<S: Source, W: Sink>(
 ) -> Answer
     ensures status { result.status ≡ status_by (said_by result.why) }
 
-    // Done: the input is a document of a group and a normalised 3-cocycle; the rows of a command that has rows, stated or lifted, are good
+    // Done: the input is a document of a group and a normalised 3-cocycle, or these are made of numbers among the words; the rows of a command that has rows, stated or lifted, are good
     // tables, which give orthogonal central idempotents and modular data; its fusion numbers are a fusion rule; and the sink has the report.
     ensures done { result.why ≡ Why.Done →
-        IsDone (texts words.now.items) (S.left source.old) (W.written sink.old) (W.written sink.new) }
+        IsDone (texts words.now.items) (S.left source.old)
+        (W.written sink.old) (W.written sink.new) }
 
     // Every answer: what holds where it comes, and what was written.
     ensures cause { Comes (texts words.now.items) (S.left source.old)
@@ -94,19 +102,24 @@ pub fn run<S: Source, W: Sink>(
 
     // Where what is read is known and nothing fails, the answer is what the plan gives, or that there was no memory; in place of a report on
     // stated rows it may be a site at which S overflows. So an acceptable input has its report, also over a sink that promises room for it.
-    ensures decided { (bytes : List ℕ) → read_of (texts words.now.items) (S.left source.old) ≡ Some bytes
+    ensures decided { (bytes : List ℕ)
+        → read_of (texts words.now.items) (S.left source.old) ≡ Some bytes
         → (Rises (S.faults source.old) (S.faults source.new) → ⊥)
         → (Rises (W.faults sink.old) (W.faults sink.new) → ⊥)
-        → Decides (ComesLate (texts words.now.items) bytes) (plan (texts words.now.items) bytes) (said_by result.why) }
-    ensures complete { (bytes : List ℕ) → read_of (texts words.now.items) (S.left source.old) ≡ Some bytes
+        → Decides (ComesLate (texts words.now.items) bytes) (plan (texts words.now.items) bytes)
+        (said_by result.why) }
+    ensures complete { (bytes : List ℕ)
+        → read_of (texts words.now.items) (S.left source.old) ≡ Some bytes
         → (Rises (S.faults source.old) (S.faults source.new) → ⊥)
         → (accepts : IsAcceptable (texts words.now.items) bytes)
-        → IsRoomy (Rises (W.faults sink.old) (W.faults sink.new)) (W.room sink.old) (report_in accepts.command bytes)
+        → IsRoomy (Rises (W.faults sink.old) (W.faults sink.new)) (W.room sink.old)
+        (report_in accepts.command bytes)
         → (result.why ≡ Why.Done) ⊎ (result.why ≡ Why.Memory) }
 
-    // What becomes of the source.
+    // What becomes of the source. It is left as it was by words that are no command, and by commands that make their cocycle.
     ensures taken { TakesFor (S.left source.old) (S.left source.new) (said_by result.why) }
-    ensures drained { (result.why ≡ Why.Done) ⊎ (result.why ≡ Why.Write 0) → IsAtEnd (S.left source.new) }
+    ensures drained { reads_by (texts words.now.items) ≡ true
+        → (result.why ≡ Why.Done) ⊎ (result.why ≡ Why.Write 0) → IsAtEnd (S.left source.new) }
     ensures untouched { reads_by (texts words.now.items) ≡ false → source.new ≡ source.old }
 {
     let prepared = prepare(alloc, words, source);

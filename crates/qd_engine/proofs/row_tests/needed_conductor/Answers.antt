@@ -1,13 +1,17 @@
-use Rattle.std.proofs.Common.{◌≡◌, ◌*◌, ◌%◌, ap, ap₂, subst, ◌∙◌}
+use Rattle.std.proofs.Common.{◌≡◌, ◌*◌, Some, sym, ap, ap₂, subst, ◌∙◌}
+use Rattle.std.specs.Prelude.{unwrap_or}
 use Rattle.orders.specs.Order.{exponent_of}
 use Rattle.group_table.specs.Group.{Table, product, identity_of}
+use Rattle.cyclotomic.specs.Conductors.{least_conductor}
+use Rattle.twist_lift.specs.Laws.{root_order}
+use Rattle.qd_engine.specs.Documents.{conductor_of}
 use Rattle.qd_engine.proofs.ConductorLaws.{least_is_conductor}
 use Rattle.qd_engine.proofs.row_tests.needed_conductor.Goals as goal
 
-pub returns-in-Ok-clause-conductor : goal.returns-in-Ok-clause-conductor
-returns-in-Ok-clause-conductor c = (least_is_conductor _ _ c.in-Ok.ensures.least).0
-
-pub returns-in-Ok-clause-multiple : goal.returns-in-Ok-clause-multiple
-returns-in-Ok-clause-multiple c =
+pub returns-in-Ok-clause-needed : goal.returns-in-Ok-clause-needed
+unfolding conductor_of
+returns-in-Ok-clause-needed c =
     let exponent = c.exponent-exponent.ensures.exponent ∙ ap (λ (t : Table). exponent_of t.order (product t) (identity_of t)) c.group.ensures.group in
-    subst (λ n. c.in-Ok.k % n ≡ 0) (ap₂ (λ m n. m * n) c.roots.ensures.roots exponent) (least_is_conductor _ _ c.in-Ok.ensures.least).1
+    let least = subst (λ n. least_conductor n ≡ Some c.in-Ok.k) (ap₂ (λ m n. m * n) c.roots.ensures.roots exponent) c.in-Ok.ensures.least in
+    let (conductor, multiple) = least_is_conductor (root_order c.args.w.now) c.in-Ok.k least in
+    record { conductor = conductor; multiple = multiple; needed = sym (ap (λ found. unwrap_or found 0) least) }

@@ -26,4 +26,4 @@ pub returns-clause-taken : goal.returns-clause-taken
 returns-clause-taken g c = prepared_takes _ _ _ _ (said_by c.say.result.why) c.prepare-prepared.result c.say.ensures.said c.prepare-prepared.ensures.taken
 
 pub returns-clause-drained : goal.returns-clause-drained
-returns-clause-drained g c = drained_if_done _ _ _ c.say.result.why c.prepare-prepared.result c.say.ensures.said c.prepare-prepared.ensures.drained
+returns-clause-drained g c = λ reads. drained_if_done _ _ _ c.say.result.why c.prepare-prepared.result c.say.ensures.said (c.prepare-prepared.ensures.drained reads)
