@@ -125,6 +125,27 @@ fn prints_refusals_of_documents(rt: HostRuntime) -> Result<(), Fail> {
 }
 
 #[test]
+fn prints_refusals_of_makers(rt: HostRuntime) -> Result<(), Fail> {
+    let alloc = rt.alloc();
+    let rows = [
+        (Cause::Size { order: 61 }, "refused 6 size 61\n"),
+        (
+            Cause::Size {
+                order: 79_228_162_458_924_105_385_300_197_375,
+            },
+            "refused 6 size 79228162458924105385300197375\n",
+        ),
+        (Cause::Action { power: 0 }, "refused 4 action 0\n"),
+    ];
+    for (why, wanted) in rows {
+        let mut out = Vec::new(alloc);
+        append_refusal(&mut out, &why)?;
+        assert_eq!(rt; out.as_slice(), wanted.as_bytes());
+    }
+    Ok(())
+}
+
+#[test]
 fn prints_refusals_of_tables(rt: HostRuntime) -> Result<(), Fail> {
     let alloc = rt.alloc();
     let count = Cause::Count {
