@@ -7,3 +7,7 @@ pub mod CongruenceLaws
 pub mod ConvolutionLaws
 pub mod RootLaws
 pub mod InvolutionLaws
+pub mod FieldLaws
+pub mod PolynomialLaws
+pub mod LinearMaps
+pub mod Annihilators

@@ -9,3 +9,7 @@ pub mod Convolution
 pub mod Residues
 pub mod Theorems
 pub mod Involutions
+pub mod Fields
+pub mod Modules
+pub mod Polynomials
+pub mod Matrices

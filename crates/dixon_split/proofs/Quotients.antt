@@ -9,7 +9,7 @@ use Rattle.scan.proofs.Places.{first_some, first_none-at}
 use Rattle.algebra.specs.Structures.{CommRing}
 use Rattle.algebra.specs.Below.{Below, below_equal}
 use Rattle.algebra.proofs.RingLaws.{mul_nought}
-use Rattle.prime_field.specs.AbstractField.{Field}
+use Rattle.algebra.specs.Fields.{Field}
 use Rattle.prime_field.specs.Field.{field, field_residue}
 use Rattle.prime_field.proofs.PolynomialValues.{residue_field}
 use Rattle.splitting_theory.specs.Splitting.{number, Acts}

@@ -7,9 +7,11 @@ use Rattle.algebra.proofs.RingLaws.{ring_rules, one_mul, add_mul, mul_left_comm,
 use Rattle.algebra.proofs.SumLaws.{mul_sum, sum_ext, sum_nought}
 use Rattle.group_table.specs.Numbers.{passing_below}
 use Rattle.group_table.proofs.Numbers.{passing_below-passes, passing_below-fails}
-use Rattle.prime_field.specs.AbstractField.{Field}
-use Rattle.prime_field.proofs.FieldLaws.{decide, test_passes}
-use Rattle.prime_field.proofs.PolynomialRoots.{value, value_nil, value_cons, AllNought, fewer_roots}
+use Rattle.algebra.specs.Fields.{Field}
+use Rattle.algebra.proofs.FieldLaws.{decide, test_passes}
+use Rattle.algebra.specs.Polynomials.{value, AllNought}
+use Rattle.algebra.proofs.PolynomialLaws.{value_nil, value_cons}
+use Rattle.prime_field.proofs.PolynomialRoots.{fewer_roots}
 use Rattle.splitting_theory.specs.Splitting.{IsFixed, ZeroTest, number, part}
 use Rattle.splitting_theory.specs.Algebras.{HasBasis}
 use Rattle.splitting_theory.proofs.Coordinates.{of_nought}

@@ -19,7 +19,8 @@ use Rattle.prime_field.specs.Field.{field, field_residue}
 use Rattle.prime_field.specs.Evaluation.{value_at, is_root}
 use Rattle.prime_field.specs.Laws.Moduli.{modulus_over_one}
 use Rattle.prime_field.specs.ResidueLists.{AreBelow}
-use Rattle.prime_field.proofs.PolynomialRoots.{value, value_nil, value_cons, AllNought}
+use Rattle.algebra.specs.Polynomials.{value, AllNought}
+use Rattle.algebra.proofs.PolynomialLaws.{value_nil, value_cons}
 use Rattle.prime_field.proofs.PolynomialValues.{residue_field, value_at_nil, value_at_cons, nought_of}
 use Rattle.splitting_theory.specs.Splitting.{IsFixed, ZeroTest, number}
 use Rattle.splitting_theory.specs.Algebras.{HasBasis}

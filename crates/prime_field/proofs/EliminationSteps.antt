@@ -8,7 +8,7 @@ use Rattle.algebra.specs.Structures.{CommRing}
 use Rattle.algebra.specs.Sums.{sum_below, pick}
 use Rattle.algebra.proofs.RingLaws.{ring_rules, mul_nought, one_mul, product_rules}
 use Rattle.algebra.proofs.SumLaws.{sum_ext, sum_nought, sum_add, sum_neg, mul_sum, sum_mul, sum_exchange, sum_pick, pick_of, pick_off, mul_pick}
-use Rattle.prime_field.specs.Linear.{dot, Solves}
+use Rattle.algebra.specs.Matrices.{dot, Solves}
 use Rattle.prime_field.specs.Solved.{IsFree, IsGone, IsSolved}
 
 module _ {A : Type 0} (R : CommRing A) where

@@ -10,7 +10,7 @@ use Rattle.algebra.proofs.RingLaws.{mul_nought}
 use Rattle.algebra.proofs.SumLaws.{sum_zero, sum_suc, sum_ext, pick_of, pick_off}
 use Rattle.group_table.specs.Numbers.{passing_below}
 use Rattle.group_table.proofs.Numbers.{passing_below-zero, passing_below-passes, passing_below-fails, IsPassing, passing_below-all, passing_below-ascending}
-use Rattle.prime_field.specs.Linear.{Solves, IsCombination, IsReduced}
+use Rattle.algebra.specs.Matrices.{Solves, IsCombination, IsReduced}
 use Rattle.prime_field.specs.Solved.{IsFree, IsGone, IsSolved}
 
 module _ {A : Type 0} (R : CommRing A) where

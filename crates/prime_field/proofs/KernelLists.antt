@@ -13,7 +13,7 @@ use Rattle.group_table.specs.Numbers.{passing_below}
 use Rattle.group_table.proofs.Numbers.{IsPassing, passing_below-all}
 use Rattle.prime_field.specs.Moduli.{is_modulus}
 use Rattle.prime_field.specs.Field.{field, field_residue}
-use Rattle.prime_field.specs.Linear.{Solves, IsCombination, IsReduced}
+use Rattle.algebra.specs.Matrices.{Solves, IsCombination, IsReduced}
 use Rattle.prime_field.specs.Solved.{IsFree, IsGone, IsSolved}
 use Rattle.prime_field.specs.ResidueLists.{AreBelow, matrix_of, IsTabulated}
 use Rattle.prime_field.proofs.EliminationSteps.{dot_ext}

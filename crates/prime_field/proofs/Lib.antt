@@ -1,7 +1,5 @@
-pub mod FieldLaws
 pub mod PolynomialRoots
 pub mod EliminationSteps
-pub mod Annihilators
 pub mod KernelBasis
 pub mod MinimalPolynomial
 pub mod PolynomialValues

@@ -9,7 +9,7 @@ use Rattle.algebra.specs.Sums.{pick}
 use Rattle.algebra.proofs.SumLaws.{sum_ext, pick_true, pick_false}
 use Rattle.prime_field.specs.Moduli.{is_modulus}
 use Rattle.prime_field.specs.Field.{field, field_residue}
-use Rattle.prime_field.specs.Linear.{dot, matrix_power, IsMinimal}
+use Rattle.algebra.specs.Matrices.{dot, matrix_power, IsMinimal}
 use Rattle.prime_field.specs.Solved.{IsFree, IsGone, IsSolved, power_equations, IsLastNonzero}
 use Rattle.prime_field.specs.ResidueLists.{AreBelow, column_of, matrix_of, IsTabulated}
 use Rattle.prime_field.specs.PowerLists.{ListsPowers}

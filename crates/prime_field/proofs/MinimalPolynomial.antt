@@ -11,12 +11,13 @@ use Rattle.algebra.specs.Structures.{CommRing}
 use Rattle.algebra.specs.Sums.{sum_below, pick}
 use Rattle.algebra.proofs.RingLaws.{mul_nought, nought_mul, one_mul, ring_rules, add_mul}
 use Rattle.algebra.proofs.SumLaws.{sum_zero, sum_ext, sum_nought, sum_add, mul_sum, sum_first, sum_split, sum_reindex, pick_of, pick_off}
-use Rattle.prime_field.specs.AbstractField.{Field}
-use Rattle.prime_field.specs.Linear.{dot, Solves, matrix_power, matrix_polynomial, IsAnnihilator, IsMinimal}
-use Rattle.prime_field.specs.Modules.{LinearMap, horner, act, IsStable, Reaches}
+use Rattle.algebra.specs.Fields.{Field}
+use Rattle.algebra.specs.Matrices.{dot, Solves, matrix_power, matrix_polynomial, IsAnnihilator, IsMinimal}
+use Rattle.algebra.specs.Modules.{LinearMap, horner, act, IsStable, Reaches}
 use Rattle.prime_field.specs.Solved.{IsFree, IsGone, IsSolved}
 use Rattle.prime_field.proofs.EliminationSteps.{dot_is}
-use Rattle.prime_field.proofs.Annihilators.{move_none, horner_nil, horner_cons, horner_move, monic_is, killed}
+use Rattle.algebra.proofs.LinearMaps.{move_none, horner_nil, horner_cons, horner_move, monic_is}
+use Rattle.algebra.proofs.Annihilators.{killed}
 
 module _ {A : Type 0} (R : CommRing A) where
   pub power_at_zero : (w : ℕ) (a : ℕ → ℕ → A) (i j : ℕ) → matrix_power R w a zero i j ≡ pick R (nat_eq i j) R.one

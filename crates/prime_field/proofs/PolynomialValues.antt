@@ -16,8 +16,10 @@ use Rattle.prime_field.specs.Field.{field, field_residue}
 use Rattle.prime_field.specs.Evaluation.{value_at, is_root}
 use Rattle.prime_field.specs.Polynomials.{HasCoefficient}
 use Rattle.prime_field.specs.Laws.Moduli.{at_each_modulus, modulus_over_one, inverse_there, inverse_means}
-use Rattle.prime_field.specs.AbstractField.{Field}
-use Rattle.prime_field.proofs.PolynomialRoots.{value, value_nil, value_cons, AllNought, fewer_roots}
+use Rattle.algebra.specs.Fields.{Field}
+use Rattle.algebra.specs.Polynomials.{value, AllNought}
+use Rattle.algebra.proofs.PolynomialLaws.{value_nil, value_cons}
+use Rattle.prime_field.proofs.PolynomialRoots.{fewer_roots}
 
 all_small : list_all (λ q. nat_lt q 65536) moduli ≡ true
 unfolding moduli

@@ -9,7 +9,7 @@ use Rattle.algebra.specs.Sums.{pick}
 use Rattle.algebra.proofs.SumLaws.{pick_true, pick_false}
 use Rattle.prime_field.specs.Moduli.{is_modulus}
 use Rattle.prime_field.specs.Field.{field, field_residue}
-use Rattle.prime_field.specs.Linear.{dot}
+use Rattle.algebra.specs.Matrices.{dot}
 use Rattle.prime_field.specs.Solved.{IsSolved}
 use Rattle.prime_field.specs.ResidueLists.{AreBelow, column_of, matrix_of, IsTabulated, minus_multiple}
 use Rattle.prime_field.specs.Laws.Moduli.{modulus_over_one}

@@ -3,7 +3,7 @@ use Rattle.std.specs.Prelude.{◌≡◌, ℕ, ◌*◌, ◌/◌, ◌<◌, List, l
 use Rattle.algebra.specs.Below.{Below}
 use Rattle.prime_field.specs.Moduli.{is_modulus}
 use Rattle.prime_field.specs.Field.{field}
-use Rattle.prime_field.specs.Linear.{Solves, IsCombination, IsReduced}
+use Rattle.algebra.specs.Matrices.{Solves, IsCombination, IsReduced}
 use Rattle.prime_field.specs.ResidueLists.{AreBelow, matrix_of}
 
 -- the rows of width w in the list are the basis in reduced form of the kernel of the matrix with these numbers

@@ -1,9 +1,6 @@
 pub mod Evaluation
 pub mod Moduli
 pub mod Inverses
-pub mod AbstractField
-pub mod Linear
-pub mod Modules
 pub mod WholeNumbers
 pub mod Field
 pub mod Laws

@@ -2,7 +2,7 @@
 use Rattle.std.specs.Prelude.{◌≡◌, ℕ, ◌*◌, ◌/◌, ◌%◌, ◌<◌, List, length, true}
 use Rattle.prime_field.specs.Moduli.{is_modulus}
 use Rattle.prime_field.specs.Field.{field}
-use Rattle.prime_field.specs.Linear.{matrix_power}
+use Rattle.algebra.specs.Matrices.{matrix_power}
 use Rattle.prime_field.specs.ResidueLists.{AreBelow, matrix_of}
 
 -- the list has the powers 0, 1, .., n - 1 of the matrix with the numbers a, one after another, each column after column

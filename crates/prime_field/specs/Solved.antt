@@ -3,7 +3,7 @@
 use Rattle.std.specs.Prelude.{◌≡◌, ◌≢◌, ◌⊎◌, ℕ, ◌-◌, ◌/◌, ◌%◌, ◌<◌}
 use Rattle.algebra.specs.Structures.{CommRing}
 use Rattle.algebra.specs.Sums.{sum_below}
-use Rattle.prime_field.specs.Linear.{Solves, matrix_power}
+use Rattle.algebra.specs.Matrices.{Solves, matrix_power}
 
 -- what stands at the place f in the kept rows: a row that begins there with 1, or noughts
 pub record IsFree {A : Type 0} (R : CommRing A) (w : ℕ) (p : ℕ → ℕ → A) (f : ℕ) : Type 0 where

@@ -3,7 +3,7 @@
 ghost use Rattle.std.specs.Prelude.{◌≡◌, ◌+◌, ◌*◌, ◌%◌, ◌<◌, true, length};
 ghost use Rattle.prime_field.specs.Moduli.{is_modulus};
 ghost use Rattle.prime_field.specs.Field.{field, field_residue};
-ghost use Rattle.prime_field.specs.Linear.{dot};
+ghost use Rattle.algebra.specs.Matrices.{dot};
 ghost use Rattle.prime_field.specs.ResidueLists.{AreBelow, column_of, minus_multiple};
 
 // `a + x y`, modulo q.

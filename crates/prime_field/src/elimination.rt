@@ -4,7 +4,7 @@ ghost use Rattle.std.specs.Prelude.{◌≡◌, ◌≢◌, ℕ, suc, ◌+◌, ◌
 ghost use Rattle.algebra.specs.Below.{Below};
 ghost use Rattle.prime_field.specs.Moduli.{is_modulus};
 ghost use Rattle.prime_field.specs.Field.{field};
-ghost use Rattle.prime_field.specs.Linear.{dot};
+ghost use Rattle.algebra.specs.Matrices.{dot};
 ghost use Rattle.prime_field.specs.ResidueLists.{AreBelow, column_of, matrix_of, IsTabulated, minus_multiple};
 ghost use Rattle.prime_field.specs.Solved.{IsSolved};
 

@@ -5,7 +5,7 @@ ghost use Rattle.algebra.specs.Below.{Below};
 ghost use Rattle.group_table.specs.Numbers.{passing_below};
 ghost use Rattle.prime_field.specs.Moduli.{is_modulus};
 ghost use Rattle.prime_field.specs.Field.{field};
-ghost use Rattle.prime_field.specs.Linear.{Solves, IsCombination, IsReduced};
+ghost use Rattle.algebra.specs.Matrices.{Solves, IsCombination, IsReduced};
 ghost use Rattle.prime_field.specs.Kernels.{IsKernelBasis};
 ghost use Rattle.prime_field.specs.SquareMatrix.{HasEntriesBelow};
 ghost use Rattle.prime_field.specs.ResidueLists.{AreBelow, matrix_of, IsTabulated};

@@ -3,7 +3,7 @@
 ghost use Rattle.std.specs.Prelude.{◌≡◌, ◌≢◌, ℕ, ◌+◌, ◌-◌, ◌*◌, ◌/◌, ◌%◌, ◌<◌, ◌≤◌, true, length, slice_index, slice_range, IfOk};
 ghost use Rattle.prime_field.specs.Moduli.{is_modulus};
 ghost use Rattle.prime_field.specs.Field.{field};
-ghost use Rattle.prime_field.specs.Linear.{dot, IsMinimal};
+ghost use Rattle.algebra.specs.Matrices.{dot, IsMinimal};
 ghost use Rattle.prime_field.specs.SquareMatrix.{HasEntriesBelow};
 ghost use Rattle.prime_field.specs.ResidueLists.{AreBelow, column_of, matrix_of, IsTabulated};
 ghost use Rattle.prime_field.specs.PowerLists.{ListsPowers};

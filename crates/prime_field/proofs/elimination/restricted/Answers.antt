@@ -1,6 +1,6 @@
 use Rattle.std.proofs.Common.{length, sym, ap, ◌∙◌, subst}
 use Rattle.prime_field.specs.Field.{field}
-use Rattle.prime_field.specs.Linear.{dot}
+use Rattle.algebra.specs.Matrices.{dot}
 use Rattle.prime_field.specs.ResidueLists.{AreBelow, column_of, matrix_of, IsTabulated}
 use Rattle.prime_field.proofs.ResidueRows.{values_below}
 use Rattle.prime_field.proofs.elimination.restricted.Goals as goal

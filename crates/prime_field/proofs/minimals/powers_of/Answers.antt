@@ -2,7 +2,7 @@ use Rattle.std.proofs.Common.{◌≡◌, ◌+◌, ◌*◌, ◌/◌, ◌%◌, ◌
 use Rattle.std.specs.Prelude.{slice_range}
 use Rattle.prime_field.specs.Moduli.{is_modulus}
 use Rattle.prime_field.specs.Field.{field}
-use Rattle.prime_field.specs.Linear.{dot}
+use Rattle.algebra.specs.Matrices.{dot}
 use Rattle.prime_field.specs.ResidueLists.{matrix_of, IsTabulated}
 use Rattle.prime_field.specs.PowerLists.{ListsPowers}
 use Rattle.prime_field.proofs.MinimalLists.{first_power, next_powers}

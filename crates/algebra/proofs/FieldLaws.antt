@@ -2,7 +2,7 @@
 use Rattle.std.proofs.Common.{◌≡◌, ◌≢◌, ◌⊎◌, inl, inr, Bool, true, false, refl, sym, ◌∙◌, ap}
 use Rattle.algebra.specs.Structures.{CommRing}
 use Rattle.algebra.proofs.RingLaws.{mul_nought, one_mul}
-use Rattle.prime_field.specs.AbstractField.{Field}
+use Rattle.algebra.specs.Fields.{Field}
 
 module _ {A : Type 0} (R : CommRing A) where
   -- x - y is nought only for equal x and y
