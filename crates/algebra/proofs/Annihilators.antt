@@ -10,12 +10,12 @@ use Rattle.algebra.proofs.FieldLaws.{decide}
 use Rattle.algebra.proofs.LinearMaps.{plus_rules, back, horner_nil, horner_cons, horner_plus, horner_scale, horner_move, act_none, monic_act, iterate, horner_split, horner_one, act_push, plus_front, length_plus_front, horner_plus_front, act_scaled, monic_times, length_monic_times, act_monic_times}
 
 -- a part that sums and multiples don't leave
-record IsSubspace {A V : Type 0} {R : CommRing A} (T : LinearMap R V) (U : V → Type 0) : Type 0 where
-  plus : (u v : V) → U u → U v → U (T.plus u v)
-  scale : (c : A) (v : V) → U v → U (T.scale c v)
+pub record IsSubspace {A V : Type 0} {R : CommRing A} (T : LinearMap R V) (U : V → Type 0) : Type 0 where
+  pub plus : (u v : V) → U u → U v → U (T.plus u v)
+  pub scale : (c : A) (v : V) → U v → U (T.scale c v)
 
 -- v and a multiple of x add up to one of the part U
-abbrev Widened : {A V : Type 0} {R : CommRing A} (T : LinearMap R V) (U : V → Type 0) → V → V → Type 0
+abbrev pub Widened : {A V : Type 0} {R : CommRing A} (T : LinearMap R V) (U : V → Type 0) → V → V → Type 0
 Widened {A} T U x v = (c : A) × U (T.plus v (T.scale c x))
 
 -- u and a polynomial with k coefficients, at T, on v, add up to one of the part W
@@ -27,10 +27,10 @@ abbrev Kills : {A V : Type 0} {R : CommRing A} (T : LinearMap R V) (W : V → Ty
 Kills T W q u = W (act_monic T q u)
 
 -- x takes the place of one of the listed elements
-record IsExchanged {A V : Type 0} {R : CommRing A} (T : LinearMap R V) (U : V → Type 0) (es : List V) (x : V) : Type 0 where
-  rest : List V
-  shorter : suc (length rest) ≡ length es
-  reaches : (v : V) → Reaches T U es v → Reaches T (Widened T U x) rest v
+pub record IsExchanged {A V : Type 0} {R : CommRing A} (T : LinearMap R V) (U : V → Type 0) (es : List V) (x : V) : Type 0 where
+  pub rest : List V
+  pub shorter : suc (length rest) ≡ length es
+  pub reaches : (v : V) → Reaches T U es v → Reaches T (Widened T U x) rest v
 
 -- a monic polynomial of degree d takes everything into the part W
 pub record IsKilled {A V : Type 0} {R : CommRing A} (T : LinearMap R V) (W : V → Type 0) (d : ℕ) : Type 0 where
@@ -39,14 +39,14 @@ pub record IsKilled {A V : Type 0} {R : CommRing A} (T : LinearMap R V) (W : V �
   pub kills : (v : V) → W (act_monic T lower v)
 
 module _ {A V : Type 0} {R : CommRing A} (T : LinearMap R V) where
-  reach_plus : (U : V → Type 0) → IsSubspace T U → (es : List V) (u v : V) → Reaches T U es u → Reaches T U es v → Reaches T U es (T.plus u v)
+  pub reach_plus : (U : V → Type 0) → IsSubspace T U → (es : List V) (u v : V) → Reaches T U es u → Reaches T U es v → Reaches T U es (T.plus u v)
   unfolding Reaches
   reach_plus U s [] u v h k = s.plus u v h k
   reach_plus U s (e ∷ es) u v (c, h) (d, k) =
       let sum : T.plus (T.plus u (T.scale c e)) (T.plus v (T.scale d e)) ≡ T.plus (T.plus u v) (T.scale (R.add c d) e) = simp (T.add_scale, plus_rules, T) in
       (R.add c d, subst (Reaches T U es) sum (reach_plus U s es (T.plus u (T.scale c e)) (T.plus v (T.scale d e)) h k))
 
-  reach_scale : (U : V → Type 0) → IsSubspace T U → (es : List V) (a : A) (v : V) → Reaches T U es v → Reaches T U es (T.scale a v)
+  pub reach_scale : (U : V → Type 0) → IsSubspace T U → (es : List V) (a : A) (v : V) → Reaches T U es v → Reaches T U es (T.scale a v)
   unfolding Reaches
   reach_scale U s [] a v h = s.scale a v h
   reach_scale U s (e ∷ es) a v (c, h) =
@@ -77,7 +77,7 @@ module _ {A V : Type 0} {R : CommRing A} (F : Field R) (T : LinearMap R V) where
       simp (T.scale_plus, ← T.mul_scale, whole, plus_rules, T) in
       opened ∙ back T d (T.plus v (T.scale t x)) e
 
-  exchange : (U : V → Type 0) → IsSubspace T U → (es : List V) (x : V) → Reaches T U es x → U x ⊎ IsExchanged T U es x
+  pub exchange : (U : V → Type 0) → IsSubspace T U → (es : List V) (x : V) → Reaches T U es x → U x ⊎ IsExchanged T U es x
   unfolding Reaches
   exchange U s [] x h = inl h
   exchange U s (e ∷ es) x (c, h) = elim (decide R F c) [

@@ -11,3 +11,5 @@ pub mod FieldLaws
 pub mod PolynomialLaws
 pub mod LinearMaps
 pub mod Annihilators
+pub mod Columns
+pub mod Dependence

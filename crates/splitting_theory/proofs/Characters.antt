@@ -1,14 +1,5 @@
 -- The characters of a split algebra are the values by which its basis multiplies the pieces.
-use Rattle.std.proofs.Common.{◌≡◌, ℕ, Bool, true, false, List, [], ◌∷◌, refl, sym, ◌∙◌, ap, inl, inr}
-use Rattle.std.specs.Prelude.{◌≢◌}
-use mathlib.Core.Path.{ap₂}
-use Rattle.algebra.specs.Structures.{CommRing}
-use Rattle.algebra.specs.Sums.{sum_list}
-use Rattle.algebra.proofs.RingLaws.{nought_add, mul_nought, nought_mul, one_mul, mul_left_comm, add_mul, neg_add_self}
-use Rattle.algebra.proofs.SumLaws.{sum_ext, sum_mul, sum_list_nil, sum_list_cons}
-use Rattle.splitting_theory.specs.Lists.{Each}
-use Rattle.splitting_theory.specs.Splitting.{number, IsPiece, IsSplitting}
-use Rattle.splitting_theory.specs.Algebras.{IsField, HasBasis, evaluate, IsCharacter, HasValues, Among}
+use Rattle.splitting_theory.proofs.Names.{◌≡◌, ℕ, Bool, true, false, List, [], ◌∷◌, refl, sym, ◌∙◌, ap, inl, inr, ◌≢◌, ap₂, CommRing, sum_list, nought_add, mul_nought, nought_mul, one_mul, mul_left_comm, add_mul, neg_add_self, sum_ext, sum_mul, sum_list_nil, sum_list_cons, Each, number, IsPiece, IsSplitting, IsField, HasBasis, evaluate, IsCharacter, HasValues, Among}
 use Rattle.splitting_theory.proofs.Coordinates.{of_nought, of_sum, of_number, evaluate_is, evaluate_add, evaluate_scale, evaluate_nought, evaluate_one, evaluate_product}
 
 module _ {A : Type 0} (F : CommRing A) where

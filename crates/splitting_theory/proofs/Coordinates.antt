@@ -1,13 +1,5 @@
 -- Coordinates over a basis are linear, and so is the value of a linear map; that of a character respects products.
-use Rattle.std.proofs.Common.{◌≡◌, ℕ, zero, suc, ◌<◌, refl, sym, ◌∙◌, ap}
-use Rattle.std.proofs.Math.Dec.{eqb}
-use mathlib.Core.Path.{ap₂}
-use Rattle.algebra.specs.Structures.{CommRing}
-use Rattle.algebra.specs.Sums.{sum_below, pick, multiple}
-use Rattle.algebra.proofs.RingLaws.{nought_mul, one_mul, add_mul, mul_left_comm}
-use Rattle.algebra.proofs.SumLaws.{sum_zero, sum_suc, sum_ext, sum_nought, sum_add, mul_sum, sum_pick, pick_mul, sum_map, pick_map, nought_map, multiple_map}
-use Rattle.splitting_theory.specs.Splitting.{number}
-use Rattle.splitting_theory.specs.Algebras.{HasBasis, evaluate, IsCharacter}
+use Rattle.splitting_theory.proofs.Names.{◌≡◌, ℕ, zero, suc, ◌<◌, refl, sym, ◌∙◌, ap, eqb, ap₂, CommRing, sum_below, pick, multiple, nought_mul, one_mul, add_mul, mul_left_comm, sum_zero, sum_suc, sum_ext, sum_nought, sum_add, mul_sum, sum_pick, pick_mul, sum_map, pick_map, nought_map, multiple_map, number, HasBasis, evaluate, IsCharacter}
 
 module _ {A B : Type 0} (F : CommRing A) (Z : CommRing B) (r : ℕ) (E : HasBasis F Z r) where
   combination : (ℕ → A) → B

@@ -1,16 +1,5 @@
 -- A split algebra has as many pieces as elements in its basis.
-use Rattle.std.proofs.Common.{◌≡◌, ℕ, zero, suc, ◌<◌, ◌≤◌, List, [], ◌∷◌, length, get_or, sym, ◌∙◌, ap, arith, inl, inr, ◌⊎◌}
-use Rattle.std.specs.Prelude.{◌≢◌}
-use Rattle.std.proofs.Math.Dec.{eqb}
-use Rattle.std.proofs.lemmas.Bool.{cases_lt, cases_eq, eq-eqb, ne_eqb}
-use Rattle.std.proofs.Common.{eqb-true}
-use Rattle.algebra.specs.Structures.{CommRing}
-use Rattle.algebra.specs.Sums.{sum_below, sum_list, pick}
-use Rattle.algebra.proofs.RingLaws.{nought_mul}
-use Rattle.algebra.proofs.SumLaws.{sum_zero, sum_ext, sum_nought, sum_mul, mul_sum, sum_first, sum_pick, sum_list_nil, sum_list_cons, pick_of, pick_off, pick_same, mul_pick}
-use Rattle.splitting_theory.specs.Lists.{Each, Pairwise}
-use Rattle.splitting_theory.specs.Splitting.{number, IsPiece, Precedes, IsSplitting}
-use Rattle.splitting_theory.specs.Algebras.{IsField, HasBasis, AreDependent}
+use Rattle.splitting_theory.proofs.Names.{◌≡◌, ℕ, zero, suc, ◌<◌, ◌≤◌, List, [], ◌∷◌, length, get_or, sym, ◌∙◌, ap, arith, inl, inr, ◌⊎◌, ◌≢◌, eqb, cases_lt, cases_eq, eq-eqb, ne_eqb, eqb-true, CommRing, sum_below, sum_list, pick, nought_mul, sum_zero, sum_ext, sum_nought, sum_mul, mul_sum, sum_first, sum_pick, sum_list_nil, sum_list_cons, pick_of, pick_off, pick_same, mul_pick, Each, Pairwise, number, IsPiece, Precedes, IsSplitting, IsField, HasBasis, AreDependent}
 use Rattle.splitting_theory.proofs.Coordinates.{of_nought, of_sum, of_number, coordinate_sum, coordinate_scale, coordinate_at, coordinate_nought, nought_of_coordinates}
 use Rattle.splitting_theory.proofs.Characters.{scale_cancel}
 use Rattle.splitting_theory.proofs.Dependence.{dependent}

@@ -1,7 +1,5 @@
 -- Facts of the elements of a list and of its pairs, through appending and mapping to lists.
-use Rattle.std.proofs.Common.{List, [], ◌∷◌, ◌++◌}
-use Rattle.std.specs.Prelude.{flat_map}
-use Rattle.splitting_theory.specs.Lists.{Each, Pairwise}
+use Rattle.splitting_theory.proofs.Names.{List, [], ◌∷◌, ◌++◌, flat_map, Each, Pairwise}
 
 module _ {X : Type 0} where
   pub each_append : (P : X → Type 0) (xs ys : List X) → Each P xs → Each P ys → Each P (xs ++ ys)

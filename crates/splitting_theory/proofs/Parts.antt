@@ -1,12 +1,5 @@
 -- The parts of an idempotent at the numbers: what each is, and that they add up to it.
-use Rattle.std.proofs.Common.{◌≡◌, ℕ, zero, suc, ◌+◌, ◌-◌, ◌<◌, refl, sym, ◌∙◌, ap, arith}
-use Rattle.std.proofs.Math.Nat.{add-zero, zero-add}
-use mathlib.Core.Path.{ap₂}
-use Rattle.algebra.specs.Structures.{CommRing}
-use Rattle.algebra.specs.Sums.{sum_below, multiple, power}
-use Rattle.algebra.proofs.RingLaws.{ring_rules, sum_rules, nought_add, mul_nought, nought_mul, one_mul, add_cancel, add_mul, mul_add, mul_left_comm, add_fixed, mul_neg, neg_mul, neg_nought, neg_neg, add_neg_add}
-use Rattle.algebra.proofs.SumLaws.{sum_ext, sum_add, sum_neg, sum_mul, sum_constant, multiple_one, multiple_suc, multiple_is_mul, mul_multiple, multiple_add, power_zero, power_suc}
-use Rattle.splitting_theory.specs.Splitting.{IsFixed, number, horner, part}
+use Rattle.splitting_theory.proofs.Names.{◌≡◌, ℕ, zero, suc, ◌+◌, ◌-◌, ◌<◌, refl, sym, ◌∙◌, ap, arith, add-zero, zero-add, ap₂, CommRing, sum_below, multiple, power, ring_rules, sum_rules, nought_add, mul_nought, nought_mul, one_mul, add_cancel, add_mul, mul_add, mul_left_comm, add_fixed, mul_neg, neg_mul, neg_nought, neg_neg, add_neg_add, sum_ext, sum_add, sum_neg, sum_mul, sum_constant, multiple_one, multiple_suc, multiple_is_mul, mul_multiple, multiple_add, power_zero, power_suc, IsFixed, number, horner, part}
 use Rattle.splitting_theory.proofs.PowerSums.{power_sum, power_sum_vanishes, power_sum_last}
 
 module _ {B : Type 0} (Z : CommRing B) where

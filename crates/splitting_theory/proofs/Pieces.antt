@@ -1,15 +1,5 @@
 -- The pieces of one: nonzero idempotents, in order, that add up to one.
-use Rattle.std.proofs.Common.{◌≡◌, ℕ, zero, suc, ◌+◌, ◌-◌, ◌<◌, ◌≤◌, Bool, true, false, List, [], ◌∷◌, ◌++◌, refl, sym, ◌∙◌, ap, subst, arith, inl, inr, ◌⊎◌}
-use Rattle.std.specs.Prelude.{◌≢◌, flat_map}
-use Rattle.std.proofs.Math.Nat.{add-zero, add-suc}
-use Rattle.std.proofs.lemmas.Bool.{cases_lt}
-use mathlib.Core.Path.{ap₂}
-use Rattle.algebra.specs.Structures.{CommRing}
-use Rattle.algebra.specs.Sums.{sum_below, sum_list}
-use Rattle.algebra.proofs.RingLaws.{mul_nought, mul_left_comm}
-use Rattle.algebra.proofs.SumLaws.{sum_zero, sum_suc, sum_list_nil, sum_list_cons, sum_list_append, sum_list_push, sum_list_single}
-use Rattle.splitting_theory.specs.Lists.{Each, Pairwise}
-use Rattle.splitting_theory.specs.Splitting.{IsFixed, ZeroTest, number, part, parts_below, pieces, Acts, IsPiece, Precedes, IsSplitting}
+use Rattle.splitting_theory.proofs.Names.{◌≡◌, ℕ, zero, suc, ◌+◌, ◌-◌, ◌<◌, ◌≤◌, Bool, true, false, List, [], ◌∷◌, ◌++◌, refl, sym, ◌∙◌, ap, subst, arith, inl, inr, ◌⊎◌, ◌≢◌, flat_map, add-zero, add-suc, cases_lt, ap₂, CommRing, sum_below, sum_list, mul_nought, mul_left_comm, sum_zero, sum_suc, sum_list_nil, sum_list_cons, sum_list_append, sum_list_push, sum_list_single, Each, Pairwise, IsFixed, ZeroTest, number, part, parts_below, pieces, Acts, IsPiece, Precedes, IsSplitting}
 use Rattle.splitting_theory.proofs.Lists.{each_append, each_map, pairwise_append, each_flat, pairwise_flat}
 use Rattle.splitting_theory.proofs.Parts.{part_acts, part_within, part_idempotent, part_of_part, apart, parts_apart, part_served, parts_total}
 

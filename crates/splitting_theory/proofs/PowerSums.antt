@@ -1,12 +1,5 @@
 -- Sums of equal powers of the numbers below q, in a ring in which q copies of one are nought.
-use Rattle.std.proofs.Common.{◌≡◌, ℕ, zero, suc, ◌+◌, ◌<◌, sym, ◌∙◌, ap, arith, inl, inr}
-use Rattle.std.proofs.lemmas.Bool.{cases_lt}
-use mathlib.Core.Path.{ap₂}
-use Rattle.algebra.specs.Structures.{CommRing}
-use Rattle.algebra.specs.Sums.{sum_below, multiple, power}
-use Rattle.algebra.proofs.RingLaws.{ring_rules, nought_add, mul_nought, one_mul, add_cancel, mul_add, neg_unique, neg_add_self, add_fixed, mul_neg}
-use Rattle.algebra.proofs.SumLaws.{sum_suc, sum_ext, sum_nought, sum_add, mul_sum, sum_first, sum_constant, multiple_zero, multiple_suc, multiple_is_mul, multiple_nought, multiple_mul, mul_multiple, power_zero, power_suc, power_one, multiple_one, power_add}
-use Rattle.splitting_theory.specs.Splitting.{IsFixed, number}
+use Rattle.splitting_theory.proofs.Names.{◌≡◌, ℕ, zero, suc, ◌+◌, ◌<◌, sym, ◌∙◌, ap, arith, inl, inr, cases_lt, ap₂, CommRing, sum_below, multiple, power, ring_rules, nought_add, mul_nought, one_mul, add_cancel, mul_add, neg_unique, neg_add_self, add_fixed, mul_neg, sum_suc, sum_ext, sum_nought, sum_add, mul_sum, sum_first, sum_constant, multiple_zero, multiple_suc, multiple_is_mul, multiple_nought, multiple_mul, mul_multiple, power_zero, power_suc, power_one, multiple_one, power_add, IsFixed, number}
 
 module _ {B : Type 0} (Z : CommRing B) where
   -- what (y+1)^(m+1) has besides y^(m+1) + (m+1) y^m
