@@ -35,24 +35,15 @@ module _ {A G C : Type 0} (R : CommRing A) (F : Finite G) (P : Group G) (T : Rin
   unscaled x y e = K.unit_mul x y ∙ ap (K.scale (K.factor x y)) (ap K.unit e ∙ K.unit_one)
 
   inverts : (x y : G) → K.scale (K.factor_inverse x y) (K.scale (K.factor x y) T.one) ≡ T.one
-  inverts x y =
-      K.scale_scale (K.factor_inverse x y) (K.factor x y) T.one
-      ∙ ap (λ c. K.scale c T.one) (K.factor_inverts x y)
-      ∙ K.scale_one T.one
+  inverts x y = simp (K.scale_scale, K.factor_inverts, K.scale_one)
 
   inverse_unit : (x : G) → T.mul (inverse x) (K.unit x) ≡ T.one
-  inverse_unit x =
-      K.scale_mul (K.factor_inverse (P.inv x) x) (K.unit (P.inv x)) (K.unit x)
-      ∙ ap (K.scale (K.factor_inverse (P.inv x) x)) (unscaled (P.inv x) x (P.inv_op x))
-      ∙ inverts (P.inv x) x
+  inverse_unit x = simp (K.scale_mul, unscaled (P.inv x) x (P.inv_op x), inverts)
 
   unit_inverse : (x : G) → T.mul (K.unit x) (inverse x) ≡ T.one
   unit_inverse x =
       let right : C = K.scale (K.factor_inverse x (P.inv x)) (K.unit (P.inv x)) in
-      let one : T.mul (K.unit x) right ≡ T.one =
-      K.mul_scale (K.factor_inverse x (P.inv x)) (K.unit x) (K.unit (P.inv x))
-      ∙ ap (K.scale (K.factor_inverse x (P.inv x))) (unscaled x (P.inv x) (P.op_inv x))
-      ∙ inverts x (P.inv x) in
+      let one : T.mul (K.unit x) right ≡ T.one = simp (K.mul_scale, unscaled x (P.inv x) (P.op_inv x), inverts) in
       let same : inverse x ≡ right =
       sym (T.mul_one (inverse x)) ∙ ap (T.mul (inverse x)) (sym one) ∙ sym (T.mul_assoc (inverse x) (K.unit x) right)
       ∙ ap (λ y. T.mul y right) (inverse_unit x) ∙ T.one_mul right in
@@ -153,17 +144,8 @@ module _ {A G C : Type 0} (R : CommRing A) (F : Finite G) (P : Group G) (T : Rin
       ∙ total_constant R F (K.coordinate z x)
 
   pub power_of_scaled : (c : A) (y : C) (n : ℕ) → ring_power T (K.scale c y) n ≡ K.scale (power R c n) (ring_power T y n)
-  power_of_scaled c y zero =
-      power_zero T (K.scale c y) ∙ sym (ap₂ K.scale (sums.power_zero R c) (power_zero T y) ∙ K.scale_one T.one)
-  power_of_scaled c y (suc n) =
-      let v : C = ring_power T y n in
-      let p : A = power R c n in
-      power_suc T (K.scale c y) n
-      ∙ ap (λ w. T.mul w (K.scale c y)) (power_of_scaled c y n)
-      ∙ K.scale_mul p v (K.scale c y)
-      ∙ ap (K.scale p) (K.mul_scale c v y)
-      ∙ K.scale_scale p c (T.mul v y)
-      ∙ sym (ap₂ K.scale (sums.power_suc R c n) (power_suc T y n))
+  power_of_scaled c y zero = simp (power_zero, sums.power_zero, K.scale_one)
+  power_of_scaled c y (suc n) = simp (power_suc, power_of_scaled c y n, K.scale_mul, K.mul_scale, K.scale_scale, sums.power_suc)
 
   module _ (q : ℕ) (characteristic : HasCharacteristic R q) (over : F.size < q)
       (numbers : (c : A) → power R c q ≡ c) (units : (x : G) → ring_power T (K.unit x) q ≡ K.unit x) where

@@ -92,13 +92,8 @@ module _ {A : Type 0} (R : Ring A) where
 
   -- x^(n + 1) = x x^n
   pub power_first : (x : A) (n : ℕ) → ring_power R x (suc n) ≡ R.mul x (ring_power R x n)
-  power_first x zero =
-      power_suc R x 0 ∙ ap (λ y. R.mul y x) (power_zero R x) ∙ R.one_mul x ∙ sym (ap (R.mul x) (power_zero R x) ∙ R.mul_one x)
-  power_first x (suc n) =
-      power_suc R x (suc n)
-      ∙ ap (λ y. R.mul y x) (power_first x n)
-      ∙ R.mul_assoc x (ring_power R x n) x
-      ∙ ap (R.mul x) (sym (power_suc R x n))
+  power_first x zero = simp (power_suc R x 0, power_zero, one_mul, mul_one)
+  power_first x (suc n) = power_suc R x (suc n) ∙ ap (λ y. R.mul y x) (power_first x n) ∙ simp (power_suc, mul_assoc)
 
   pub nought_power : (n : ℕ) → 0 < n → ring_power R R.nought n ≡ R.nought
   nought_power zero positive = absurd (omega arith)
@@ -106,7 +101,7 @@ module _ {A : Type 0} (R : Ring A) where
 
   pub one_power : (n : ℕ) → ring_power R R.one n ≡ R.one
   one_power zero = power_zero R R.one
-  one_power (suc n) = power_suc R R.one n ∙ R.mul_one (ring_power R R.one n) ∙ one_power n
+  one_power (suc n) = simp (power_suc, mul_one, one_power n)
 
   pub power_add : (x : A) (n m : ℕ) → ring_power R x (n + m) ≡ R.mul (ring_power R x n) (ring_power R x m)
   power_add x n zero = simp (add-zero, power_zero, mul_one)
@@ -120,10 +115,5 @@ module _ {A : Type 0} (R : Ring A) where
   pub power_commutes : (x y : A) → R.mul x y ≡ R.mul y x → (n : ℕ) → R.mul (ring_power R x n) y ≡ R.mul y (ring_power R x n)
   power_commutes x y h zero = simp (power_zero, mul_one, one_mul)
   power_commutes x y h (suc n) =
-      ap (λ z. R.mul z y) (power_suc R x n)
-      ∙ R.mul_assoc (ring_power R x n) x y
-      ∙ ap (R.mul (ring_power R x n)) h
-      ∙ sym (R.mul_assoc (ring_power R x n) y x)
-      ∙ ap (λ z. R.mul z x) (power_commutes x y h n)
-      ∙ R.mul_assoc y (ring_power R x n) x
-      ∙ ap (R.mul y) (sym (power_suc R x n))
+      simp (power_suc, mul_assoc, h)
+      (sym (R.mul_assoc (ring_power R x n) y x) ∙ ap (λ z. R.mul z x) (power_commutes x y h n) ∙ R.mul_assoc y (ring_power R x n) x)

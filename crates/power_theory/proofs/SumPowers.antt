@@ -158,28 +158,20 @@ module _ {A : Type 0} (R : Ring A) where
         nothing (suc k) = before-suc (λ k. R.nought) k
 
     turned-plus : (i : ℕ) (f g : ℕ → A) → turned R a b i (plus R f g) ≡ plus R (turned R a b i f) (turned R a b i g)
-    turned-plus zero f g = turned-zero (plus R f g) ∙ sym (ap₂ (plus R) (turned-zero f) (turned-zero g))
-    turned-plus (suc i) f g =
-        turned-suc i (plus R f g) ∙ ap (times_right R a b) (turned-plus i f g) ∙ right-plus (turned R a b i f) (turned R a b i g)
-        ∙ sym (ap₂ (plus R) (turned-suc i f) (turned-suc i g))
+    turned-plus zero f g = simp turned-zero
+    turned-plus (suc i) f g = simp (turned-suc, turned-plus i f g, right-plus)
 
     turned-front : (i : ℕ) (c : A) (f : ℕ → A) → turned R a b i (front R c f) ≡ front R c (turned R a b i f)
-    turned-front zero c f = turned-zero (front R c f) ∙ sym (ap (front R c) (turned-zero f))
-    turned-front (suc i) c f =
-        turned-suc i (front R c f)
-        ∙ ap (times_right R a b) (turned-front i c f)
-        ∙ right-front c (turned R a b i f)
-        ∙ sym (ap (front R c) (turned-suc i f))
+    turned-front zero c f = simp turned-zero
+    turned-front (suc i) c f = simp (turned-suc, turned-front i c f, right-front)
 
     turned-nought : (i : ℕ) → turned R a b i (λ k. R.nought) ≡ (λ k. R.nought)
     turned-nought zero = turned-zero (λ k. R.nought)
     turned-nought (suc i) = turned-suc i (λ k. R.nought) ∙ ap (times_right R a b) (turned-nought i) ∙ right-nought
 
     turned-left : (i : ℕ) (f : ℕ → A) → turned R a b i (times_left R a b f) ≡ times_left R a b (turned R a b i f)
-    turned-left zero f = turned-zero (times_left R a b f) ∙ sym (ap (times_left R a b) (turned-zero f))
-    turned-left (suc i) f =
-        turned-suc i (times_left R a b f) ∙ ap (times_right R a b) (turned-left i f) ∙ sym (left-right (turned R a b i f))
-        ∙ sym (ap (times_left R a b) (turned-suc i f))
+    turned-left zero f = simp turned-zero
+    turned-left (suc i) f = simp (turned-suc, turned-left i f, left-right)
 
     -- the powers of a t + b may be made from the right
     words-right : (n : ℕ) → words R a b (suc n) ≡ times_right R a b (words R a b n)
@@ -239,35 +231,19 @@ module _ {A : Type 0} (R : Ring A) (a b : A) where
   words-over n zero over = absurd (omega arith)
   words-over zero (suc k) over = words-zero-suc R a b k
   words-over (suc n) (suc k) over =
-      words-at n (suc k)
-      ∙ ap₂ (λ u v. R.add (R.mul a u) (R.mul b v)) (before-suc R (words R a b n) k ∙ words-over n k (omega arith)) (words-over n (suc k) (omega arith))
-      ∙ simp (mul_nought, add_nought)
+      simp (words-at, before-suc, words-over n k (omega arith), words-over n (suc k) (omega arith), mul_nought, add_nought)
 
   -- one word has the letter b alone, and one the letter a
   words-none : (n : ℕ) → words R a b n 0 ≡ ring_power R b n
   words-none zero = words-zero-zero R a b ∙ sym (power_zero R b)
-  words-none (suc n) =
-      words-at n 0
-      ∙ ap₂ (λ u v. R.add (R.mul a u) (R.mul b v)) (before-zero R (words R a b n)) (words-none n)
-      ∙ ap (λ u. R.add u (R.mul b (ring_power R b n))) (mul_nought R a)
-      ∙ nought_add R (R.mul b (ring_power R b n))
-      ∙ sym (power_first R b n)
+  words-none (suc n) = simp (words-at, before-zero, words-none n, mul_nought, nought_add, power_first)
 
   words-all : (n : ℕ) → words R a b n n ≡ ring_power R a n
   words-all zero = words-zero-zero R a b ∙ sym (power_zero R a)
-  words-all (suc n) =
-      words-at n (suc n)
-      ∙ ap₂ (λ u v. R.add (R.mul a u) (R.mul b v)) (before-suc R (words R a b n) n ∙ words-all n) (words-over n (suc n) (omega arith))
-      ∙ ap (R.add (R.mul a (ring_power R a n))) (mul_nought R b)
-      ∙ R.add_nought (R.mul a (ring_power R a n))
-      ∙ sym (power_first R a n)
+  words-all (suc n) = simp (words-at, before-suc, words-all n, words-over n (suc n) (omega arith), mul_nought, add_nought, power_first)
 
   sum-before : (n : ℕ) (f : ℕ → A) → ring_sum R (suc n) (before R f) ≡ ring_sum R n f
-  sum-before zero f =
-      sum_suc R 0 (before R f)
-      ∙ ap₂ R.add (sum_zero R (before R f)) (before-zero R f)
-      ∙ R.add_nought R.nought
-      ∙ sym (sum_zero R f)
+  sum-before zero f = simp (sum_suc R 0 (before R f), sum_zero, before-zero, add_nought)
   sum-before (suc n) f =
       sum_suc R (suc n) (before R f) ∙ ap₂ R.add (sum-before n f) (before-suc R f n) ∙ sym (sum_suc R n f)
 
@@ -297,18 +273,12 @@ module _ {A B : Type 0} (R : Ring A) (S : CommRing B) (t : Trace R S) where
 
   trace_sum : (n : ℕ) (f : ℕ → A) → t.trace (ring_sum R n f) ≡ sum_below S n (λ i. t.trace (f i))
   trace_sum zero f = ap t.trace (sum_zero R f) ∙ trace_nought ∙ sym (sums.sum_zero S (λ i. t.trace (f i)))
-  trace_sum (suc n) f =
-      ap t.trace (sum_suc R n f) ∙ t.of_add (ring_sum R n f) (f n) ∙ ap (λ s. S.add s (t.trace (f n))) (trace_sum n f)
-      ∙ sym (sums.sum_suc S n (λ i. t.trace (f i)))
+  trace_sum (suc n) f = simp (sum_suc, t.of_add, trace_sum n f, sums.sum_suc)
 
   module _ (a b : A) where
     -- a factor a t + b may go from one side to the other
     trace_turns : (f : ℕ → A) (k : ℕ) → t.trace (times_left R a b f k) ≡ t.trace (times_right R a b f k)
-    trace_turns f k =
-        ap t.trace (left-at R a b f k)
-        ∙ t.of_add (R.mul a (before R f k)) (R.mul b (f k))
-        ∙ ap₂ S.add (t.of_mul a (before R f k)) (t.of_mul b (f k))
-        ∙ sym (ap t.trace (right-at R a b f k) ∙ t.of_add (R.mul (before R f k) a) (R.mul (f k) b))
+    trace_turns f k = simp (left-at, right-at, t.of_add, t.of_mul a (before R f k), t.of_mul b (f k))
 
     -- the derivative of (a t + b)^n, with i more factors behind it, is n times a (a t + b)^(n + i - 1)
     trace_derivative : (n i m k : ℕ) → n + i ≡ suc m
@@ -321,11 +291,7 @@ module _ {A B : Type 0} (R : Ring A) (S : CommRing B) (t : Trace R S) where
         ∙ sym (sums.multiple_zero S (t.trace (R.mul a (words R a b m k))))
       where
         none : (k : ℕ) → derivative R (words R a b 0) k ≡ R.nought
-        none k =
-            derivative-suc R (words R a b 0) k
-            ∙ ap (λ u. R.add (ring_sum R k (λ i. u)) u) (words-zero-suc R a b k)
-            ∙ R.add_nought (ring_sum R k (λ i. R.nought))
-            ∙ sum_nought R k
+        none k = simp (derivative-suc, words-zero-suc, sum_nought, add_nought)
     trace_derivative (suc n) i m k e =
         let rest : ℕ → A = derivative R (words R a b n) in
         let each : B = t.trace (R.mul a (words R a b m k)) in
