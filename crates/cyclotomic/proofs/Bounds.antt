@@ -1,10 +1,10 @@
 -- Reduced powers of x have size 1, and a product of two values fits where the product of their sizes is below 2^108.
 use Rattle.std.proofs.Common.{◌≡◌, ℕ, zero, suc, ◌*◌, ◌^◌, ◌%◌, ◌≤◌, ◌<◌, List, [], ◌∷◌, ◌++◌, length, get_or, Bool, true, false, refl, sym, ap, ◌∙◌, subst, arith, sum_by, IsPermutation}
 use Rattle.std.proofs.Math.Nat.{mod-lt, mul-le-mul, mul-le-mul_right}
-use Rattle.std.specs.Prelude.{ℤ, pos, negsuc, nat_lt, ◌||◌, Option, Some, None, is_some, is_none, All}
-use Rattle.std.specs.List.{list_all, list_any}
+use Rattle.std.specs.Prelude.{ℤ, pos, negsuc, nat_lt, nat_le, not}
+use Rattle.std.specs.List.{list_all}
+use Rattle.std.proofs.lemmas.Bool.Decides.{nat_tests}
 use Rattle.std.proofs.lemmas.List.Sums.{sum_by-append, sum_by-cons}
-use Rattle.std.proofs.lemmas.List.Elements.{All-cons}
 use Rattle.std.proofs.lemmas.List.Sorted.{sum_by-IsPermutation}
 use borrow.Author.Tests.{ltb-true, ltb-false, le-leb, le-ltb}
 use Rattle.algebra.specs.Sums.{sum_list}
@@ -13,7 +13,7 @@ use Rattle.cyclotomic.specs.Division.{degree}
 use Rattle.cyclotomic.specs.Cyclotomic.{cyclotomic}
 use Rattle.cyclotomic.specs.Conductors.{conductors, is_conductor, phi_of}
 use Rattle.cyclotomic.specs.Ring.{Value, value_sum, value_nought, value_one, value_product, value_root}
-use Rattle.cyclotomic.specs.Fit.{size_of, value_size, value_fits, product_fits, sizes_overflow, formed_terms, listed_sum_overflows, greatest_magnitude}
+use Rattle.cyclotomic.specs.Fit.{size_of, value_size, value_fits, product_fits, sizes_overflow, greatest_magnitude}
 use Rattle.cyclotomic.specs.Laws.Action.{iterate}
 use Rattle.cyclotomic.specs.CyclotomicRing.{remainder_ring}
 use Rattle.cyclotomic.specs.Laws.Values.{value_shift}
@@ -100,7 +100,7 @@ module _ (k : ℕ) (entry : is_conductor k ≡ true) where
       let below : value_size u * value_size v < 2 ^ 108 = ltb-true (value_size u * value_size v) (2 ^ 108) e in
       le-leb (value_size (value_product (cyclotomic k) u v)) greatest_magnitude (omega (arith, below, product_size u v))
 
--- ---- listed sums
+-- ---- sizes together
 pub sizes_overflow-front : {n : ℕ} (xs ys : List (Value n)) → sizes_overflow (xs ++ ys) ≡ false → sizes_overflow xs ≡ false
 unfolding sizes_overflow
 sizes_overflow-front {n} xs ys e =
@@ -131,25 +131,13 @@ sizes_overflow-sum_fits m xs e =
     le-leb (value_size (sum_list (remainder_ring m) xs)) greatest_magnitude
     (omega (arith, ltb-false greatest_magnitude (sum_by size xs) e, size-sum_list m xs))
 
-or_left : (a b : Bool) → (a || b) ≡ false → a ≡ false
-or_left true b e = cc
-or_left false b e = refl
-
-or_right : (a b : Bool) → (a || b) ≡ false → b ≡ false
-or_right true b e = cc
-or_right false b e = e
-
-each : {A : Type 0} (terms : List (Option A)) → list_any (λ term. is_none term) terms ≡ false → All (λ term. is_some term ≡ true) terms
-each [] e = λ k d h. absurd (omega arith)
-each (None ∷ terms) e = cc
-each (Some u ∷ terms) e = All-cons (λ term. is_some term ≡ true) (Some u) terms refl (each terms e)
-
--- where a listed sum doesn't overflow each term is formed,
-pub listed_sum-formed : {n : ℕ} (terms : List (Option (Value n))) → listed_sum_overflows terms ≡ false → All (λ term. is_some term ≡ true) terms
-unfolding listed_sum_overflows
-listed_sum-formed terms e = each terms (or_left (list_any (λ term. is_none term) terms) (sizes_overflow (formed_terms terms)) e)
-
--- and the sizes of the terms don't overflow
-pub listed_sum-sizes : {n : ℕ} (terms : List (Option (Value n))) → listed_sum_overflows terms ≡ false → sizes_overflow (formed_terms terms) ≡ false
-unfolding listed_sum_overflows
-listed_sum-sizes terms e = or_right (list_any (λ term. is_none term) terms) (sizes_overflow (formed_terms terms)) e
+-- one term alone overflows exactly where it doesn't fit
+pub sizes_overflow-one : {n : ℕ} (u : Value n) → sizes_overflow (u ∷ []) ≡ not (value_fits u)
+unfolding sizes_overflow value_fits
+sizes_overflow-one {n} u =
+    let size : Value n → ℕ = λ v. value_size v in
+    let same : sum_by size (u ∷ []) ≡ size u = omega (arith, sum_by-cons size u []) in
+    ap (nat_lt greatest_magnitude) same ∙ not_above (size u) greatest_magnitude
+  where
+    not_above : (a b : ℕ) → nat_lt b a ≡ not (nat_le a b)
+    not_above a b = grind (arith, nat_tests)

@@ -1,9 +1,11 @@
 -- Facts about each entry of the table of conductors, by tests that are computed.
 use Rattle.std.proofs.Common.{◌≡◌, ℕ, zero, suc, ◌*◌, ◌%◌, ◌/◌, ◌<◌, List, [], ◌∷◌, ◌++◌, length, Bool, true, false, refl, sym, ap, ◌∙◌, replicate, eqb-true, eq-eqb, ◌≢◌}
-use Rattle.std.proofs.lemmas.Bool.{ne_eqb}
+use Rattle.std.proofs.lemmas.Bool.{ne_eqb, cases_lt}
+use Rattle.std.proofs.Common.{arith, not, ◌||◌, inl, inr}
 use borrow.Author.Tests.{ltb-true}
 use Rattle.std.specs.Prelude.{ℤ, pos, negsuc, ◌==◌, nat_lt}
-use Rattle.std.specs.List.{list_all}
+use Rattle.std.specs.List.{list_all, list_any}
+use Rattle.std.proofs.Math.Nat.{mod_self, mod-eq_of_lt}
 use Rattle.scan.specs.First.{all_below}
 use Rattle.cyclotomic.specs.Polynomial.{zeros, plus, scaled, times, x_to, at_power, leading, lower}
 use Rattle.cyclotomic.specs.Division.{cancelled, division, quotient, remainder}
@@ -11,7 +13,7 @@ use Rattle.cyclotomic.specs.Cyclotomic.{divided_by_divisors, next_cyclotomic, cy
 use Rattle.cyclotomic.specs.Conductors.{conductors, reductions, reduction_of, is_conductor, phi_of}
 use Rattle.cyclotomic.proofs.Gcd.{euclid}
 use Rattle.cyclotomic.proofs.Rows.{rows_from, power_rows, sum_of_rows}
-use Rattle.cyclotomic.proofs.Tests.{same_number, same_list, same_list_means, at_each_conductor, any_below, any_below_means, all_below_means}
+use Rattle.cyclotomic.proofs.Tests.{same_number, same_number_means, same_list, same_list_means, all_entries, at_each_conductor, any_below, any_below_means, all_below_means}
 
 -- ---- the listed reductions are Phi_K
 is_listed : ℕ → Bool
@@ -100,12 +102,30 @@ all_ternary : list_all (λ (entry : ℕ × ℕ). list_all is_ternary (power_rows
 unfolding is_ternary power_rows rows_from plus scaled leading lower cancelled division remainder conductors reductions reduction_of
 all_ternary = refl
 
--- ---- x^K - 1 is the product of the Phi_d over the divisors d of K
+-- ---- x^d - 1 is the product of the Phi_e over the divisors e of d, and Phi_d is monic, for each divisor d of a conductor
 is_factored : ℕ → Bool
-is_factored k = same_list (divisor_product k k) (x_to_minus_one k)
+is_factored d = same_list (divisor_product d d) (x_to_minus_one d)
 
-all_factored : list_all (λ (entry : ℕ × ℕ). is_factored entry.0) conductors ≡ true
-unfolding is_factored same_list same_number plus scaled times leading lower x_to cancelled division quotient remainder divided_by_divisors next_cyclotomic cyclotomics cyclotomic divisor_product conductors
+is_monic : ℕ → Bool
+is_monic d = same_number (leading (cyclotomic d)) (pos 1)
+
+-- the conductors, and before them the other divisors of conductors
+divisors : List (ℕ × ℕ)
+divisors = (1, 1) ∷ (2, 1) ∷ (3, 2) ∷ (5, 4) ∷ (7, 6) ∷ (10, 4) ∷ (14, 6) ∷ (15, 8) ∷ (21, 12) ∷ conductors
+
+divides_only_if_listed : ℕ → ℕ → Bool
+divides_only_if_listed k d = not (k % d == 0) || list_any (λ (entry : ℕ × ℕ). entry.0 == d) divisors
+
+all_divisors_listed : list_all (λ (entry : ℕ × ℕ). all_below (suc entry.0) (divides_only_if_listed entry.0)) conductors ≡ true
+unfolding divides_only_if_listed divisors conductors all_below
+all_divisors_listed = refl
+
+all_monic : list_all (λ (entry : ℕ × ℕ). is_monic entry.0) divisors ≡ true
+unfolding is_monic divisors same_number plus scaled times leading lower x_to cancelled division quotient remainder divided_by_divisors next_cyclotomic cyclotomics cyclotomic conductors
+all_monic = refl
+
+all_factored : list_all (λ (entry : ℕ × ℕ). is_factored entry.0) divisors ≡ true
+unfolding is_factored divisors same_list same_number plus scaled times leading lower x_to cancelled division quotient remainder divided_by_divisors next_cyclotomic cyclotomics cyclotomic divisor_product conductors
 all_factored = refl
 
 -- ---- K is positive
@@ -116,15 +136,54 @@ all_positive : list_all (λ (entry : ℕ × ℕ). is_positive entry.0) conductor
 unfolding is_positive conductors
 all_positive = refl
 
+divisor_below : (k d : ℕ) → 0 < k → k % d ≡ 0 → d < suc k
+divisor_below k d positive divides = elim (cases_lt k d) [
+  | inl beyond ↦ absurd (omega (arith, mod-eq_of_lt beyond))
+  | inr within ↦ omega arith
+]
+
+-- ---- 1 isn't 0
+unfoldable pub head_of : List ℤ → ℤ
+head_of [] = pos 0
+head_of (a ∷ p) = a
+
+begins_with_one : ℕ → Bool
+begins_with_one k = same_number (head_of (remainder (listed k) (pos 1 ∷ []))) (pos 1)
+
+all_ones : list_all (λ (entry : ℕ × ℕ). begins_with_one entry.0) conductors ≡ true
+unfolding begins_with_one head_of same_number plus scaled leading lower cancelled division remainder conductors reductions reduction_of
+all_ones = refl
+
 -- ---- what the tests mean, at an entry k
 module _ (k : ℕ) (entry : is_conductor k ≡ true) where
   pub conductor_positive : 0 < k
   unfolding is_positive
   conductor_positive = ltb-true 0 k (at_each_conductor is_positive all_positive k entry)
 
-  pub factored : divisor_product k k ≡ x_to_minus_one k
+  -- what passes at each listed divisor passes at each divisor
+  at_divisor : (test : ℕ → Bool) → list_all (λ (e : ℕ × ℕ). test e.0) divisors ≡ true → (d : ℕ) → k % d ≡ 0 → test d ≡ true
+  unfolding divides_only_if_listed
+  at_divisor test all d divides =
+      all_entries test d divisors all
+      (sym (ap (λ b. not b || list_any (λ (e : ℕ × ℕ). e.0 == d) divisors) (eq-eqb (k % d) 0 divides))
+      ∙ all_below_means (suc k) (divides_only_if_listed k)
+      (at_each_conductor (λ j. all_below (suc j) (divides_only_if_listed j)) all_divisors_listed k entry) d
+      (divisor_below k d conductor_positive divides))
+
+  pub divisor_factored : (d : ℕ) → k % d ≡ 0 → divisor_product d d ≡ x_to_minus_one d
   unfolding is_factored
-  factored = same_list_means (divisor_product k k) (x_to_minus_one k) (at_each_conductor is_factored all_factored k entry)
+  divisor_factored d divides = same_list_means (divisor_product d d) (x_to_minus_one d) (at_divisor is_factored all_factored d divides)
+
+  pub divisor_monic : (d : ℕ) → k % d ≡ 0 → leading (cyclotomic d) ≡ pos 1
+  unfolding is_monic
+  divisor_monic d divides = same_number_means (leading (cyclotomic d)) (pos 1) (at_divisor is_monic all_monic d divides)
+
+  pub factored : divisor_product k k ≡ x_to_minus_one k
+  factored = divisor_factored k (mod_self k)
+
+  pub one_is_one : head_of (remainder (listed k) (pos 1 ∷ [])) ≡ pos 1
+  unfolding begins_with_one
+  one_is_one = same_number_means (head_of (remainder (listed k) (pos 1 ∷ []))) (pos 1) (at_each_conductor begins_with_one all_ones k entry)
 
   pub reduction_length : length (reduction_of k) ≡ phi_of k
   unfolding has_degree

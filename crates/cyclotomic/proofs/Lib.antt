@@ -10,3 +10,4 @@ pub mod Sizes
 pub mod Bounds
 pub mod Inverses
 pub mod LongDivision
+pub mod LeastConductor

@@ -1,28 +1,28 @@
 -- x is a root of unity of order K modulo Phi_K: whole multiples cancel, and sums of its powers over all exponents vanish.
 use Rattle.std.proofs.Common.{◌≡◌, ℕ, zero, suc, ◌+◌, ◌*◌, ◌%◌, ◌/◌, ◌<◌, ◌≢◌, List, [], ◌∷◌, length, Bool, true, false, refl, sym, ap, ◌∙◌, arith, replicate, eqb-true, inl, inr}
-use Rattle.std.proofs.Math.Nat.{mod-lt, zero-mul, suc-mul}
+use Rattle.std.proofs.Math.Nat.{mod-lt, mul_comm, zero-mul, suc-mul}
 use Rattle.std.proofs.lemmas.Bool.{cases_eq, ne_eqb, eq-eqb}
 use Rattle.std.proofs.lemmas.Nat.{mul-mod_second}
-use Rattle.std.specs.Prelude.{ℤ, pos, ◌+ℤ◌, ◌*ℤ◌, ◌==◌}
+use Rattle.std.specs.Prelude.{ℤ, pos, ◌+ℤ◌, ◌*ℤ◌, ◌==◌, ◌↔◌}
 use mathlib.Core.Path.{ap₂}
 use borrow.Author.Differences.{up, down, same_in, product_is}
 use Rattle.algebra.specs.Structures.{CommRing}
 use Rattle.algebra.specs.Sums.{sum_below, multiple, power}
 use Rattle.algebra.specs.Roots.{RootOfUnity}
 use Rattle.algebra.proofs.RingLaws.{one_mul, add_cancel, nought_mul}
-use Rattle.algebra.proofs.SumLaws.{sum_suc, sum_first, sum_ext, mul_sum, multiple_zero, multiple_suc, mul_multiple, power_zero, power_suc, power_add, power_mul, one_power}
+use Rattle.algebra.proofs.SumLaws.{sum_suc, sum_first, sum_ext, sum_constant, mul_sum, multiple_zero, multiple_suc, mul_multiple, power_zero, power_suc, power_add, power_mul, one_power}
 use Rattle.algebra.proofs.RootLaws.{power_mod}
 use Rattle.cyclotomic.specs.Polynomial.{zeros, scaled, at_power}
-use Rattle.cyclotomic.specs.Division.{degree}
+use Rattle.cyclotomic.specs.Division.{degree, remainder}
 use Rattle.cyclotomic.specs.Cyclotomic.{cyclotomic}
 use Rattle.cyclotomic.specs.Conductors.{is_conductor}
-use Rattle.cyclotomic.specs.Ring.{Value, value_sum, value_multiple, value_nought, value_one, value_product, value_root}
+use Rattle.cyclotomic.specs.Ring.{Value, value_sum, value_multiple, value_nought, value_of, value_one, value_product, value_root}
 use Rattle.cyclotomic.specs.Laws.Action.{map_power, iterate, act, act-nil, act-cons, act-at_power}
 use Rattle.cyclotomic.specs.CyclotomicRing.{remainder_ring}
 use Rattle.cyclotomic.specs.Laws.Values.{same_value, value_shift, times_x, product-of}
-use Rattle.cyclotomic.proofs.Images.{root-zero, root-sum, product-root}
-use Rattle.cyclotomic.proofs.Checks.{is_proper_divisor, powers_of_multiples, conductor_positive, some_divisor}
-use Rattle.cyclotomic.proofs.Fields.{cyclotomic_period, cyclotomic_sums}
+use Rattle.cyclotomic.proofs.Images.{root-zero, root-sum, root-mod, product-root}
+use Rattle.cyclotomic.proofs.Checks.{head_of, one_is_one, is_proper_divisor, powers_of_multiples, conductor_positive, some_divisor}
+use Rattle.cyclotomic.proofs.Fields.{from_listed, cyclotomic_period, cyclotomic_sums}
 
 -- ---- whole multiples
 zero_factor : (d n : ℕ) → 0 < d → d * n ≡ 0 → n ≡ 0
@@ -39,10 +39,6 @@ cancel_factor d a h e =
 tail_of : List ℤ → List ℤ
 tail_of [] = []
 tail_of (a ∷ p) = p
-
-head_of : List ℤ → ℤ
-head_of [] = pos 0
-head_of (a ∷ p) = a
 
 cancel_scaled : (d n : ℕ) (p : List ℤ) → 0 < d → length p ≡ n → scaled (pos d) p ≡ zeros n → p ≡ zeros n
 unfolding scaled tail_of head_of
@@ -176,6 +172,43 @@ module _ (k : ℕ) (entry : is_conductor k ≡ true) where
       let fixed : value_product m (value_root m g) total ≡ total =
       ap (λ v. value_product m v total) (sym (power-root m g)) ∙ sum_is_fixed_modulo R z k e x_cycle a in
       fixed_is_nought g total (mod-lt (a * e) positive) divides fixed
+
+  one_is_not_nought : value_one (cyclotomic k) ≡ value_nought → ⊥
+  unfolding value_of value_nought head_of
+  one_is_not_nought e =
+      let head = from_listed k entry (λ m. head_of (remainder m (pos 1 ∷ [])) ≡ pos 1) (one_is_one k entry) in
+      let none : head_of (zeros (degree (cyclotomic k))) ≡ pos 0 = nothing (degree (cyclotomic k)) in
+      let clash = sym head ∙ ap (λ v. head_of v.coefficients) e ∙ none in
+      cc
+    where
+      nothing : (n : ℕ) → head_of (zeros n) ≡ pos 0
+      nothing zero = refl
+      nothing (suc n) = refl
+
+  -- where x^v is 1, so are its powers, and K of them add up to 0 unless K divides v
+  one_only_there : (v : ℕ) → value_root (cyclotomic k) v ≡ value_one (cyclotomic k) → v % k ≡ 0
+  one_only_there v is =
+      let m = cyclotomic k in
+      let R = remainder_ring m in
+      let z = value_root m 1 in
+      let each : (j : ℕ) → power R z (j * v) ≡ R.one =
+      λ j. ap (power R z) (mul_comm j v) ∙ power_mul R z v j
+      ∙ ap (λ y. power R y j) (power-root m v ∙ is) ∙ one_power R j in
+      elim (cases_eq (v % k) 0) [
+        | inl divides ↦ divides
+        | inr apart ↦ absurd (one_is_not_nought
+            (cancel_multiple k R.one (conductor_positive k entry)
+            (sym (multiple-is m k R.one) ∙ sym (sum_constant R k R.one)
+            ∙ sum_ext R k (λ j. R.one) (λ j. power R z (j * v)) (λ j h. sym (each j))
+            ∙ x_sum_vanishes v apart)))
+      ]
+
+  pub x_order : (v : ℕ) → (value_root (cyclotomic k) v ≡ value_one (cyclotomic k)) ↔ (v % k ≡ 0)
+  x_order v = (
+    one_only_there v,
+    λ divides. root-mod (cyclotomic k) k (cyclotomic_period k entry) (conductor_positive k entry) v
+        ∙ ap (value_root (cyclotomic k)) divides ∙ root-zero (cyclotomic k),
+  )
 
 -- x as a root of unity in the ring modulo Phi_K
 abbrev pub x_root : (k : ℕ) → is_conductor k ≡ true → RootOfUnity (remainder_ring (cyclotomic k)) k

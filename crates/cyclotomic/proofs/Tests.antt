@@ -70,7 +70,7 @@ any_below_means (suc n) test e = from (any_below n test) (any_below_means n test
     from false found h = (n, h)
 
 -- ---- each entry of the table
-all_entries : (test : ℕ → Bool) (k : ℕ) (entries : List (ℕ × ℕ)) → list_all (λ (entry : ℕ × ℕ). test entry.0) entries ≡ true → list_any (λ (entry : ℕ × ℕ). entry.0 == k) entries ≡ true → test k ≡ true
+pub all_entries : (test : ℕ → Bool) (k : ℕ) (entries : List (ℕ × ℕ)) → list_all (λ (entry : ℕ × ℕ). test entry.0) entries ≡ true → list_any (λ (entry : ℕ × ℕ). entry.0 == k) entries ≡ true → test k ≡ true
 all_entries test k [] all found = cc
 all_entries test k (entry ∷ rest) all found = elim (cases_eq entry.0 k) [
   | inl here ↦ ap test (sym here) ∙ and_left (test entry.0) (list_all (λ (e : ℕ × ℕ). test e.0) rest) all

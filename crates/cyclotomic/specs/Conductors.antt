@@ -1,5 +1,5 @@
 -- The table of conductors, and the polynomials by which values are reduced (Phi_K without its leading 1).
-use Rattle.std.specs.Prelude.{ℕ, ◌%◌, ◌==◌, ℤ, pos, negsuc, Bool, Option, List, [], ◌∷◌, find, map}
+use Rattle.std.specs.Prelude.{◌≡◌, ℕ, ◌%◌, ◌≤◌, ◌==◌, ℤ, pos, negsuc, Bool, true, Option, List, [], ◌∷◌, find, map}
 use Rattle.std.specs.List.{list_any}
 use Rattle.std.specs.Option.{option_map_or}
 
@@ -56,3 +56,9 @@ reduction_of k = option_map_or (λ (entry : ℕ × List ℤ). entry.1) (find (λ
 -- the least entry that is a multiple of m
 unfoldable pub least_conductor : ℕ → Option ℕ
 least_conductor m = find (λ k. k % m == 0) (map (λ (entry : ℕ × ℕ). entry.0) conductors)
+
+-- k is the least conductor that is a multiple of m
+pub record IsLeastConductor (m k : ℕ) : Type 0 where
+  pub conductor : is_conductor k ≡ true
+  pub multiple : k % m ≡ 0
+  pub least : (j : ℕ) → is_conductor j ≡ true → j % m ≡ 0 → k ≤ j

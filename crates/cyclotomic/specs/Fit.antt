@@ -1,6 +1,5 @@
--- Rules of fit: which results are given, and which listed sums overflow (this project's choice).
-use Rattle.std.specs.Prelude.{ℕ, ◌-◌, ◌*◌, ◌^◌, max, nat_le, nat_lt, ◌||◌, ℤ, nat_abs, Bool, Option, Some, None, List, [], ◌∷◌, sum_by, is_none}
-use Rattle.std.specs.List.{list_any}
+-- Rules of fit: which results are given, and which sizes overflow together (this project's choice).
+use Rattle.std.specs.Prelude.{ℕ, ◌-◌, ◌*◌, ◌^◌, max, nat_le, nat_lt, ℤ, nat_abs, Bool, List, [], ◌∷◌, sum_by}
 use Rattle.cyclotomic.specs.Ring.{Value}
 
 -- the largest magnitude that a coefficient may have
@@ -26,13 +25,3 @@ product_fits u v = nat_lt (value_size u * value_size v) (2 ^ 108)
 -- the sizes of the terms add up to more than 2^120 - 1
 unfoldable pub sizes_overflow : {n : ℕ} → List (Value n) → Bool
 sizes_overflow terms = nat_lt greatest_magnitude (sum_by (λ u. value_size u) terms)
-
--- the terms that are there, of terms that are None where one of their steps doesn't fit
-unfoldable pub formed_terms : {A : Type 0} → List (Option A) → List A
-formed_terms [] = []
-formed_terms (None ∷ terms) = formed_terms terms
-formed_terms (Some u ∷ terms) = u ∷ formed_terms terms
-
--- a listed sum overflows where a step of one of its terms doesn't fit, or where the sizes of its terms add up to too much
-unfoldable pub listed_sum_overflows : {n : ℕ} → List (Option (Value n)) → Bool
-listed_sum_overflows terms = list_any (λ term. is_none term) terms || sizes_overflow (formed_terms terms)

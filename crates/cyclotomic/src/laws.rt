@@ -1,15 +1,15 @@
 //! Laws of the definitions: each function has an empty body, and its clauses are theorems.
 
-ghost use Rattle.std.specs.Prelude.{◌≡◌, ◌≢◌, ℕ, ◌+◌, ◌-◌, ◌*◌, ◌%◌, ◌<◌, ◌≤◌, ℤ, pos, List, [], ◌∷◌, ◌++◌, length, true, false, Option, is_some, All, IsPermutation};
+ghost use Rattle.std.specs.Prelude.{◌≡◌, ◌≢◌, ℕ, ◌+◌, ◌-◌, ◌*◌, ◌%◌, ◌<◌, ◌≤◌, ℤ, pos, List, [], ◌∷◌, ◌++◌, length, true, false, Some, None, not, ◌↔◌, IsPermutation};
 ghost use Rattle.std.specs.Int.{IsGcd};
 ghost use Rattle.algebra.specs.Sums.{sum_below, sum_list};
 ghost use Rattle.cyclotomic.specs.Polynomial.{plus, times, scaled, leading, at_power, IsSamePolynomial};
 ghost use Rattle.cyclotomic.specs.Division.{degree, division, remainder};
 ghost use Rattle.cyclotomic.specs.Cyclotomic.{cyclotomic, divisor_product, x_to_minus_one};
-ghost use Rattle.cyclotomic.specs.Conductors.{is_conductor, phi_of, reduction_of};
+ghost use Rattle.cyclotomic.specs.Conductors.{is_conductor, phi_of, reduction_of, least_conductor, IsLeastConductor};
 ghost use Rattle.cyclotomic.specs.Ring.{Value, value_sum, value_negative, value_multiple, value_nought, value_of, value_one, value_product};
 ghost use Rattle.cyclotomic.specs.CyclotomicRing.{CyclotomicValue, cyclotomic_ring, cyclotomic_value, root, galois_image, conjugate};
-ghost use Rattle.cyclotomic.specs.Fit.{value_size, value_fits, product_fits, sizes_overflow, formed_terms, listed_sum_overflows};
+ghost use Rattle.cyclotomic.specs.Fit.{value_size, value_fits, product_fits, sizes_overflow};
 
 /// Long division by a monic polynomial m: p is the quotient times m plus the remainder, which has degree m coefficients.
 pub fn division_laws()
@@ -38,20 +38,26 @@ pub fn ring_laws()
 {}
 
 /// At each conductor K: x^K - 1 is the product of the Phi_d over the divisors d of K, and Phi_K is monic, of degree phi(K),
-/// with the listed lower coefficients.
+/// with the listed lower coefficients. So it is with x^d - 1 and Phi_d at each divisor d of a conductor. What is looked up as the
+/// least conductor that is a multiple of m is that, and where nothing is found no conductor is a multiple of m.
 pub fn conductor_laws()
     ensures factors { (k : ℕ) → is_conductor k ≡ true → divisor_product k k ≡ x_to_minus_one k }
     ensures monic { (k : ℕ) → is_conductor k ≡ true → leading (cyclotomic k) ≡ pos 1 }
     ensures degree { (k : ℕ) → is_conductor k ≡ true → degree (cyclotomic k) ≡ phi_of k }
     ensures reduction { (k : ℕ) → is_conductor k ≡ true → cyclotomic k ≡ reduction_of k ++ (pos 1 ∷ []) }
+    ensures divisor_factors { (k d : ℕ) → is_conductor k ≡ true → k % d ≡ 0 → divisor_product d d ≡ x_to_minus_one d }
+    ensures divisor_monic { (k d : ℕ) → is_conductor k ≡ true → k % d ≡ 0 → leading (cyclotomic d) ≡ pos 1 }
+    ensures least { (m k : ℕ) → least_conductor m ≡ Some k → IsLeastConductor m k }
+    ensures none { (m k : ℕ) → least_conductor m ≡ None → is_conductor k ≡ true → k % m ≢ 0 }
 {}
 
-/// x is a root of unity of order K modulo Phi_K, its powers have coefficients -1, 0 and 1, the sum of its powers vanishes
+/// x is a root of unity of order K modulo Phi_K, exactly: x^v is 1 where K divides v and nowhere else. Its powers have coefficients -1, 0 and 1, the sum of its powers vanishes
 /// at every exponent that isn't a multiple of K, and a whole multiple from 1 that is 0 comes from 0.
 pub fn root_laws()
     ensures period { (k : ℕ) → is_conductor k ≡ true → root k k ≡ value_one (cyclotomic k) }
     ensures product { (k v w : ℕ) → root k (v + w) ≡ value_product (cyclotomic k) (root k v) (root k w) }
     ensures modulo { (k : ℕ) → is_conductor k ≡ true → (v : ℕ) → root k v ≡ root k (v % k) }
+    ensures order { (k : ℕ) → is_conductor k ≡ true → (v : ℕ) → (root k v ≡ value_one (cyclotomic k)) ↔ (v % k ≡ 0) }
     ensures coefficients { (k : ℕ) → is_conductor k ≡ true → (v : ℕ) → value_size (root k v) ≤ 1 }
     ensures vanishing { (k : ℕ) → is_conductor k ≡ true → (e : ℕ) → e % k ≢ 0 → sum_below (cyclotomic_ring k) k (λ j. root k (j * e)) ≡ value_nought }
     ensures cancelling { (k d : ℕ) (u : CyclotomicValue k) → 0 < d → value_multiple (pos d) u ≡ value_nought → u ≡ value_nought }
@@ -72,13 +78,12 @@ pub fn image_laws()
     ensures modulus { (k : ℕ) → is_conductor k ≡ true → (v : ℕ) → value_product (cyclotomic k) (root k v) (conjugate k (root k v)) ≡ value_one (cyclotomic k) }
 {}
 
-/// A product of two values that fit together fits. Where a listed sum doesn't overflow, each term is formed, the sum of
-/// any of them in any order doesn't overflow, and the sum fits.
+/// A product of two values that fit together fits. Where the sizes of terms don't overflow together, the
+/// terms of a front and the terms in any order don't, and their sum fits. One term alone overflows exactly where it doesn't fit.
 pub fn fit_laws()
     ensures product { (k : ℕ) → is_conductor k ≡ true → (u v : CyclotomicValue k) → product_fits u v ≡ true → value_fits (value_product (cyclotomic k) u v) ≡ true }
-    ensures formed { (k : ℕ) (terms : List (Option (CyclotomicValue k))) → listed_sum_overflows terms ≡ false → All (λ term. is_some term ≡ true) terms }
-    ensures sizes { (k : ℕ) (terms : List (Option (CyclotomicValue k))) → listed_sum_overflows terms ≡ false → sizes_overflow (formed_terms terms) ≡ false }
     ensures front { (k : ℕ) (terms more : List (CyclotomicValue k)) → sizes_overflow (terms ++ more) ≡ false → sizes_overflow terms ≡ false }
     ensures order { (k : ℕ) (terms others : List (CyclotomicValue k)) → IsPermutation terms others → sizes_overflow terms ≡ false → sizes_overflow others ≡ false }
     ensures sum { (k : ℕ) (terms : List (CyclotomicValue k)) → sizes_overflow terms ≡ false → value_fits (sum_list (cyclotomic_ring k) terms) ≡ true }
+    ensures one_term { (k : ℕ) (u : CyclotomicValue k) → sizes_overflow (u ∷ []) ≡ not (value_fits u) }
 {}

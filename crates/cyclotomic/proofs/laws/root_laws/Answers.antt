@@ -7,7 +7,7 @@ use Rattle.cyclotomic.proofs.Images.{root-sum}
 use Rattle.cyclotomic.proofs.Fields.{cyclotomic_period}
 use Rattle.cyclotomic.proofs.Inverses.{root_modulo}
 use Rattle.cyclotomic.proofs.Bounds.{root_size}
-use Rattle.cyclotomic.proofs.Orthogonality.{power-root, x_sum_vanishes, cancel_multiple}
+use Rattle.cyclotomic.proofs.Orthogonality.{power-root, x_sum_vanishes, x_order, cancel_multiple}
 use Rattle.cyclotomic.proofs.laws.root_laws.Goals as goal
 
 pub returns-clause-period : goal.returns-clause-period
@@ -30,3 +30,6 @@ returns-clause-vanishing c = λ k entry e apart.
 
 pub returns-clause-cancelling : goal.returns-clause-cancelling
 returns-clause-cancelling c = λ k d u h e. cancel_multiple d u h e
+
+pub returns-clause-order : goal.returns-clause-order
+returns-clause-order c = x_order
