@@ -2,17 +2,22 @@
 use Rattle.std.proofs.Common.{◌≡◌, ◌+◌, ◌<◌, ℕ, Bool, true, false, List, [], ◌∷◌, ◌++◌, map, take, drop, length, get_or, refl, sym, ◌∙◌, ap}
 use Rattle.std.proofs.lemmas.Bool.{false≢true}
 use Rattle.std.proofs.lemmas.List.{take_more, map-append, take-append-drop}
-use Rattle.std.specs.Prelude.{IfSome, is_some}
-use Rattle.std.proofs.Common.{Option, Some, None, subst, ◌||◌, not, arith, zero-add, add-one}
+use Rattle.std.specs.Prelude.{IfSome, is_some, ◌&&◌}
+use Rattle.std.proofs.Common.{Option, Some, None, subst, ◌≤◌, suc, ◌||◌, not, arith, zero-add, add-one}
 use Rattle.std.specs.List.{range_with_len}
-use Rattle.std.proofs.lemmas.Bool.{or_right}
+use Rattle.std.proofs.Math.Bool.{or-true}
 use Rattle.std.proofs.lemmas.List.FromFn.{take-map-range_with_len}
 use Rattle.scan.specs.First.{all_below}
-use Rattle.scan.proofs.Places.{all_below-fails}
+use Rattle.scan.proofs.Places.{all_below-fails, all_below-at, all_below-all}
 use mathlib.Core.Path.{ap₂}
 use Rattle.algebra.specs.Structures.{CommRing}
 use Rattle.algebra.specs.Sums.{sum_list, sum_below}
 use Rattle.algebra.proofs.SumLaws.{sum_list_push, sum_list_range, sum_ext, sum_suc}
+use Rattle.cyclotomic.specs.CyclotomicRing.{cyclotomic_ring}
+use Rattle.cyclotomic.specs.Fit.{value_fits, sizes_overflow}
+use Rattle.cyclotomic.proofs.Bounds.{sizes_overflow-one}
+use Rattle.qd_ring.specs.CyclotomicFit.{cyclotomic_fit}
+use Rattle.qd_ring.specs.Formed.{Formed, listed}
 use Rattle.qd_ring.specs.Fit.{FitRules, sum_overflows, IsTerm}
 
 module _ {A E : Type 0} (R : CommRing A) (of : E → A) (xs : List E) where
@@ -37,29 +42,55 @@ module _ {A E : Type 0} (R : CommRing A) (of : E → A) (xs : List E) where
       shown false o = absurd (false≢true (sym unfit ∙ ap rules.fits (sum_taken i s x h e is) ∙ front_fits rules (i + 1) o))
 
 -- terms with numbers below n
-module _ {A : Type 0} (R : CommRing A) (rules : FitRules R) (n : ℕ) (steps_fit : ℕ → Bool) (value : ℕ → A) (i : ℕ) (inside : i < n) where
-  -- a term with a step that doesn't fit
-  pub overflow_by_step : steps_fit i ≡ false → sum_overflows R rules n steps_fit value ≡ true
-  unfolding sum_overflows
-  overflow_by_step unfit = ap (λ b. not b || rules.overflows (map value (range_with_len 0 n))) (all_below-fails n i steps_fit inside unfit)
+module _ {A : Type 0} (R : CommRing A) (rules : FitRules R) (value : ℕ → A) where
+  listed_sum : (n : ℕ) → sum_list R (map value (range_with_len 0 n)) ≡ sum_below R n value
+  listed_sum n = sum_list_range R 0 n value ∙ sum_ext R n (λ j. value (0 + j)) value (λ j h. ap value (zero-add j))
 
-  partial : sum_list R (map value (range_with_len 0 (i + 1))) ≡ R.add (sum_below R i value) (value i)
-  partial =
-      sum_list_range R 0 (i + 1) value ∙ sum_ext R (i + 1) (λ j. value (0 + j)) value (λ j h. ap value (zero-add j))
-      ∙ ap (λ k. sum_below R k value) (add-one i) ∙ sum_suc R i value
+  -- what doesn't overflow doesn't with fewer terms
+  pub front_below : (m n : ℕ) → m ≤ n → rules.overflows (map value (range_with_len 0 n)) ≡ false
+      → rules.overflows (map value (range_with_len 0 m)) ≡ false
+  front_below m n few o =
+      let terms = map value (range_with_len 0 n) in
+      rules.front (map value (range_with_len 0 m)) (drop m terms)
+      (ap (λ xs. rules.overflows (xs ++ drop m terms)) (sym (take-map-range_with_len value 0 n m few))
+      ∙ ap rules.overflows (take-append-drop m terms) ∙ o)
 
-  -- a partial sum that doesn't fit
-  pub overflow_by_size : (s a : A) → s ≡ sum_below R i value → a ≡ value i → rules.fits (R.add s a) ≡ false → sum_overflows R rules n steps_fit value ≡ true
-  unfolding sum_overflows
-  overflow_by_size s a sum term unfit = shown (rules.overflows (map value (range_with_len 0 n))) refl
-    where
-      shown : (b : Bool) → rules.overflows (map value (range_with_len 0 n)) ≡ b → (not (all_below n steps_fit) || rules.overflows (map value (range_with_len 0 n))) ≡ true
-      shown true o = or_right (not (all_below n steps_fit)) (rules.overflows (map value (range_with_len 0 n))) o
-      shown false o =
-          let parts : map value (range_with_len 0 n) ≡ map value (range_with_len 0 (i + 1)) ++ drop (i + 1) (map value (range_with_len 0 n)) =
-          sym (take-append-drop (i + 1) (map value (range_with_len 0 n))) ∙ ap (λ xs. xs ++ drop (i + 1) (map value (range_with_len 0 n))) (take-map-range_with_len value 0 n (i + 1) (omega arith)) in
-          let front = rules.front (map value (range_with_len 0 (i + 1))) (drop (i + 1) (map value (range_with_len 0 n))) (ap rules.overflows (sym parts) ∙ o) in
-          absurd (false≢true (sym unfit ∙ ap rules.fits (ap₂ R.add sum term ∙ sym partial) ∙ rules.sum_fits (map value (range_with_len 0 (i + 1))) front))
+  -- and its sum fits
+  pub sum_below_fits : (n : ℕ) → rules.overflows (map value (range_with_len 0 n)) ≡ false → rules.fits (sum_below R n value) ≡ true
+  sum_below_fits n o = ap rules.fits (sym (listed_sum n)) ∙ rules.sum_fits (map value (range_with_len 0 n)) o
+
+  module _ (n : ℕ) (steps_fit : ℕ → Bool) where
+    -- a listed sum overflows where its terms are too great, whether or not their steps fit
+    pub overflow_unless : (rules.overflows (map value (range_with_len 0 n)) ≡ false → ⊥) → sum_overflows R rules n steps_fit value ≡ true
+    unfolding sum_overflows
+    overflow_unless great = shown (rules.overflows (map value (range_with_len 0 n))) refl
+      where
+        shown : (b : Bool) → rules.overflows (map value (range_with_len 0 n)) ≡ b → (not (all_below n steps_fit) || b) ≡ true
+        shown true o = or-true (not (all_below n steps_fit))
+        shown false o = absurd (great o)
+
+    -- where it doesn't overflow all steps fit, and its terms aren't too great
+    pub listed_parts : sum_overflows R rules n steps_fit value ≡ false
+        → (all_below n steps_fit ≡ true) × (rules.overflows (map value (range_with_len 0 n)) ≡ false)
+    unfolding sum_overflows
+    listed_parts o = parts (all_below n steps_fit) (rules.overflows (map value (range_with_len 0 n))) o
+      where
+        parts : (a b : Bool) → (not a || b) ≡ false → (a ≡ true) × (b ≡ false)
+        parts true b o = (refl, o)
+        parts false b o = cc
+
+    module _ (i : ℕ) (inside : i < n) where
+      -- a term with a step that doesn't fit
+      pub overflow_by_step : steps_fit i ≡ false → sum_overflows R rules n steps_fit value ≡ true
+      unfolding sum_overflows
+      overflow_by_step unfit = ap (λ b. not b || rules.overflows (map value (range_with_len 0 n))) (all_below-fails n i steps_fit inside unfit)
+
+      -- a partial sum that doesn't fit
+      pub overflow_by_size : (s a : A) → s ≡ sum_below R i value → a ≡ value i → rules.fits (R.add s a) ≡ false
+          → sum_overflows R rules n steps_fit value ≡ true
+      overflow_by_size s a sum term unfit =
+          let here = sum_suc R i value ∙ ap₂ R.add (sym sum) (sym term) in
+          overflow_unless (λ o. false≢true (sym unfit ∙ ap rules.fits (sym here) ∙ sum_below_fits (suc i) (front_below (suc i) n (omega arith) o)))
 
 -- one more numbered term
 pub sum_below_more : {A : Type 0} (R : CommRing A) (value : ℕ → A) (i : ℕ) (s a : A) → s ≡ sum_below R i value → a ≡ value i → R.add s a ≡ sum_below R (i + 1) value
@@ -71,3 +102,38 @@ term_stands of steps_fit value answer a t e = subst (λ o. IfSome o (λ b. of b 
 
 pub term_missing : {E A : Type 0} (of : E → A) (steps_fit : Bool) (value : A) (answer : Option E) → IsTerm of steps_fit value answer → answer ≡ None → steps_fit ≡ false
 term_missing of steps_fit value answer t e = sym t.there ∙ ap is_some e
+
+-- ---- listed sums of values of the cyclotomic ring
+module _ (k n : ℕ) (term : ℕ → Formed k) (fit : (listed k n term).fits ≡ true) where
+  parts : (all_below n (λ i. (term i).fits) ≡ true) × (sizes_overflow (map (λ i. (term i).value) (range_with_len 0 n)) ≡ false)
+  parts = listed_parts (cyclotomic_ring k) (cyclotomic_fit k) (λ i. (term i).value) n (λ i. (term i).fits) (not_true _ fit)
+    where
+      not_true : (b : Bool) → not b ≡ true → b ≡ false
+      not_true true e = cc
+      not_true false e = refl
+
+  pub listed_formed : (i : ℕ) → i < n → (term i).fits ≡ true
+  listed_formed i inside = all_below-at n i (λ j. (term j).fits) parts.0 inside
+
+  pub listed_sizes : sizes_overflow (map (λ i. (term i).value) (range_with_len 0 n)) ≡ false
+  listed_sizes = parts.1
+
+  pub listed_front : (m : ℕ) → m ≤ n → (listed k m term).fits ≡ true
+  unfolding sum_overflows
+  listed_front m few =
+      ap₂ (λ a b. not (not a || b))
+      (all_below-all m (λ i. (term i).fits) (λ i inside. listed_formed i (omega arith)))
+      (front_below (cyclotomic_ring k) (cyclotomic_fit k) (λ i. (term i).value) m n few listed_sizes)
+
+  pub listed_value_fits : value_fits (listed k n term).value ≡ true
+  listed_value_fits = sum_below_fits (cyclotomic_ring k) (cyclotomic_fit k) (λ i. (term i).value) n listed_sizes
+
+pub listed_one : (k : ℕ) (term : ℕ → Formed k) → (listed k 1 term).fits ≡ ((term 0).fits && value_fits (term 0).value)
+unfolding sum_overflows all_below
+listed_one k term =
+    ap (λ b. not (not (term 0).fits || b)) (sizes_overflow-one (term 0).value) ∙ both (term 0).fits (value_fits (term 0).value)
+  where
+    both : (a b : Bool) → not (not a || not b) ≡ (a && b)
+    both true true = refl
+    both true false = refl
+    both false b = refl

@@ -3,7 +3,6 @@ use Rattle.std.proofs.Common.{◌≡◌, ◌+◌, ◌<◌, ◌≤◌, ℕ, Bool,
 use Rattle.std.specs.Prelude.{sum_by}
 use Rattle.std.specs.List.{range_with_len}
 use Rattle.std.proofs.lemmas.Bool.{or_right, ltb-false, le-ltb}
-use Rattle.std.proofs.lemmas.List.{take-append-drop}
 use Rattle.std.proofs.lemmas.List.FromFn.{take-map-range_with_len, sum_by-map-range_with_len_more}
 use mathlib.Core.Path.{ap₂}
 use Rattle.scan.specs.First.{all_below}
@@ -12,15 +11,22 @@ use Rattle.algebra.proofs.SumLaws.{sum_zero}
 use Rattle.cyclotomic.specs.Ring.{value_sum, value_nought}
 use Rattle.cyclotomic.specs.CyclotomicRing.{CyclotomicValue, cyclotomic_ring, cyclotomic_value}
 use Rattle.cyclotomic.specs.Fit.{value_size, value_fits, greatest_magnitude, sizes_overflow}
-use Rattle.cyclotomic.proofs.Bounds.{sizes_overflow-front}
 use Rattle.qd_ring.specs.Fit.{sum_overflows}
 use Rattle.qd_ring.specs.CyclotomicFit.{cyclotomic_fit}
 use Rattle.qd_ring.specs.declared.cyc.Cyc.{Cyc}
-use Rattle.qd_ring.proofs.ListedSums.{overflow_by_step, overflow_by_size, sum_below_more}
+use Rattle.qd_ring.proofs.ListedSums.{front_below, overflow_unless, overflow_by_step, overflow_by_size, sum_below_more}
 use Rattle.qd_ring.specs.Formed.{Formed, Forms, listed}
 use Rattle.qd_ring.specs.Totals.{IsTotal}
 
 module _ {k : ℕ} (term : ℕ → Formed k) where
+  -- the sizes of the first n terms together
+  abbrev sizes_before : ℕ → ℕ
+  sizes_before n = sum_by (λ v. value_size v) (map (λ j. (term j).value) (range_with_len 0 n))
+
+  sizes_more : (i sizes : ℕ) (u : CyclotomicValue k) → sizes ≡ sizes_before i → u ≡ (term i).value → sizes + value_size u ≡ sizes_before (i + 1)
+  sizes_more i sizes u add same =
+      ap₂ (λ a v. a + value_size v) add same ∙ sym (sum_by-map-range_with_len_more (λ v. value_size v) (λ j. (term j).value) 0 i i (zero-add i))
+
   -- no terms
   pub total_none : IsTotal term 0 value_nought 0
   total_none = record {
@@ -36,7 +42,7 @@ module _ {k : ℕ} (term : ℕ → Formed k) where
   total_more i sum sizes u t fit same small = record {
     fit = all_below-step i (λ j. (term j).fits) t.fit fit;
     adds = sum_below_more (cyclotomic_ring k) (λ j. (term j).value) i sum u t.adds same;
-    sizes_add = ap₂ (λ a b. a + b) t.sizes_add (ap (λ v. value_size v) same) ∙ sym (sum_by-map-range_with_len_more (λ v. value_size v) (λ j. (term j).value) 0 i i (zero-add i));
+    sizes_add = sizes_more i sizes u t.sizes_add same;
     small = small;
   }
 
@@ -54,34 +60,24 @@ module _ {k : ℕ} (term : ℕ → Formed k) where
   -- a term with a step that doesn't fit
   pub total_misses : (i n : ℕ) → i < n → (term i).fits ≡ false → Forms (listed k n term) None
   total_misses i n inside unfit =
-      overflowing n (overflow_by_step (cyclotomic_ring k) (cyclotomic_fit k) n (λ j. (term j).fits) (λ j. (term j).value) i inside unfit)
+      overflowing n (overflow_by_step (cyclotomic_ring k) (cyclotomic_fit k) (λ j. (term j).value) n (λ j. (term j).fits) i inside unfit)
 
   -- a sum that doesn't fit
   pub total_unfit : (i n : ℕ) (sum : CyclotomicValue k) (sizes : ℕ) (u : CyclotomicValue k) → i < n → IsTotal term i sum sizes → u ≡ (term i).value
       → value_fits (value_sum sum u) ≡ false → Forms (listed k n term) None
   total_unfit i n sum sizes u inside t same unfit =
-      overflowing n (overflow_by_size (cyclotomic_ring k) (cyclotomic_fit k) n (λ j. (term j).fits) (λ j. (term j).value) i inside sum u t.adds same unfit)
-
-  -- what would follow if they didn't
-  too_great : (i n : ℕ) (sum : CyclotomicValue k) (sizes : ℕ) (u : CyclotomicValue k) → i < n → IsTotal term i sum sizes → u ≡ (term i).value
-      → greatest_magnitude < sizes + value_size u → sizes_overflow (map (λ j. (term j).value) (range_with_len 0 n)) ≡ false → ⊥
-  unfolding sizes_overflow
-  too_great i n sum sizes u inside t same great o =
-      let terms = map (λ j. (term j).value) (range_with_len 0 n) in
-      let parts : terms ≡ map (λ j. (term j).value) (range_with_len 0 (i + 1)) ++ drop (i + 1) terms =
-      sym (take-append-drop (i + 1) terms) ∙ ap (λ xs. xs ++ drop (i + 1) terms) (take-map-range_with_len (λ j. (term j).value) 0 n (i + 1) (omega arith)) in
-      let front = sizes_overflow-front (map (λ j. (term j).value) (range_with_len 0 (i + 1))) (drop (i + 1) terms) (ap sizes_overflow (sym parts) ∙ o) in
-      let below = ltb-false greatest_magnitude (sum_by (λ v. value_size v) (map (λ j. (term j).value) (range_with_len 0 (i + 1)))) front in
-      let sizes_are = ap₂ (λ a b. a + b) t.sizes_add (ap (λ v. value_size v) same) ∙ sym (sum_by-map-range_with_len_more (λ v. value_size v) (λ j. (term j).value) 0 i i (zero-add i)) in
-      omega (arith, sizes_are, below, great)
+      overflowing n (overflow_by_size (cyclotomic_ring k) (cyclotomic_fit k) (λ j. (term j).value) n (λ j. (term j).fits) i inside sum u t.adds same unfit)
 
   -- sizes that add up to too much
+  too_great : (i n sizes : ℕ) (u : CyclotomicValue k) → i < n → sizes ≡ sizes_before i → u ≡ (term i).value → greatest_magnitude < sizes + value_size u
+      → sizes_overflow (map (λ j. (term j).value) (range_with_len 0 n)) ≡ false → ⊥
+  unfolding sizes_overflow
+  too_great i n sizes u inside add same great o =
+      let front = front_below (cyclotomic_ring k) (cyclotomic_fit k) (λ j. (term j).value) (i + 1) n (omega arith) o in
+      omega (arith, sizes_more i sizes u add same, ltb-false greatest_magnitude (sizes_before (i + 1)) front, great)
+
   pub total_great : (i n : ℕ) (sum : CyclotomicValue k) (sizes : ℕ) (u : CyclotomicValue k) → i < n → IsTotal term i sum sizes → u ≡ (term i).value
       → greatest_magnitude < sizes + value_size u → Forms (listed k n term) None
-  unfolding sum_overflows
-  total_great i n sum sizes u inside t same great = overflowing n (shown (sizes_overflow (map (λ j. (term j).value) (range_with_len 0 n))) refl)
-    where
-      shown : (b : Bool) → sizes_overflow (map (λ j. (term j).value) (range_with_len 0 n)) ≡ b
-          → (not (all_below n (λ j. (term j).fits)) || sizes_overflow (map (λ j. (term j).value) (range_with_len 0 n))) ≡ true
-      shown true o = or_right (not (all_below n (λ j. (term j).fits))) (sizes_overflow (map (λ j. (term j).value) (range_with_len 0 n))) o
-      shown false o = absurd (too_great i n sum sizes u inside t same great o)
+  total_great i n sum sizes u inside t same great =
+      overflowing n (overflow_unless (cyclotomic_ring k) (cyclotomic_fit k) (λ j. (term j).value) n (λ j. (term j).fits)
+      (too_great i n sizes u inside t.sizes_add same great))

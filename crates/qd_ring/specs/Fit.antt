@@ -1,5 +1,5 @@
 -- Rules of fit over a commutative ring: which results are given, and which listed sums overflow (this project's rules).
-use Rattle.std.specs.Prelude.{◌≡◌, ℕ, not, ◌&&◌, ◌||◌, map, Option, is_some, IfSome, Bool, true, false, List, ◌++◌, IsPermutation, refl}
+use Rattle.std.specs.Prelude.{◌≡◌, ℕ, not, ◌&&◌, ◌||◌, map, Option, is_some, IfSome, Bool, true, false, List, [], ◌∷◌, ◌++◌, IsPermutation, refl}
 use Rattle.algebra.specs.Structures.{CommRing}
 use Rattle.std.specs.List.{range_with_len}
 use Rattle.scan.specs.First.{all_below}
@@ -18,6 +18,8 @@ pub record FitRules {A : Type 0} (R : CommRing A) : Type 0 where
   pub order : (xs ys : List A) → IsPermutation xs ys → overflows xs ≡ false → overflows ys ≡ false
   -- and its sum fits
   pub sum_fits : (xs : List A) → overflows xs ≡ false → fits (sum_list R xs) ≡ true
+  -- one term alone overflows exactly where it doesn't fit
+  pub one_term : (x : A) → overflows (x ∷ []) ≡ not (fits x)
 
 -- every result fits and no listed sum overflows
 abbrev pub no_limits : {A : Type 0} (R : CommRing A) → FitRules R
@@ -28,6 +30,7 @@ no_limits R = record {
   front = λ xs ys h. h;
   order = λ xs ys p h. h;
   sum_fits = λ xs h. refl;
+  one_term = λ x. refl;
 }
 
 -- the steps of the term z^e (a b) fit: its product, then its multiplication by the root

@@ -1,6 +1,6 @@
 //! Laws of sizes: each function has an empty body, and its clauses are theorems.
 
-ghost use Rattle.std.specs.Prelude.{◌≡◌, ℕ, ◌+◌, ◌*◌, ◌^◌, ◌<◌, ◌≤◌, ℤ, pos, nat_abs, [], ◌∷◌, Bool, true, false, map, sum_by};
+ghost use Rattle.std.specs.Prelude.{◌≡◌, ℕ, ◌+◌, ◌*◌, ◌^◌, ◌<◌, ◌≤◌, ◌&&◌, ℤ, pos, nat_abs, [], ◌∷◌, Bool, true, false, map, sum_by};
 ghost use Rattle.std.specs.Int.{IsGcd};
 ghost use Rattle.std.specs.List.{range_with_len};
 ghost use Rattle.scan.specs.First.{all_below};
@@ -9,9 +9,10 @@ ghost use Rattle.cyclotomic.specs.Conductors.{is_conductor, phi_of};
 ghost use Rattle.cyclotomic.specs.Cyclotomic.{cyclotomic};
 ghost use Rattle.cyclotomic.specs.Ring.{value_sum, value_multiple, value_nought, value_product};
 ghost use Rattle.cyclotomic.specs.CyclotomicRing.{CyclotomicValue, cyclotomic_ring, cyclotomic_value, root, conjugate, galois_image};
-ghost use Rattle.cyclotomic.specs.Fit.{value_size, value_fits, product_fits, greatest_magnitude};
+ghost use Rattle.cyclotomic.specs.Fit.{value_size, value_fits, product_fits, sizes_overflow, greatest_magnitude};
 ghost use Rattle.qd_ring.specs.Fit.{sum_overflows};
 ghost use Rattle.qd_ring.specs.CyclotomicFit.{cyclotomic_fit};
+ghost use Rattle.qd_ring.specs.Formed.{Formed, listed};
 ghost use Rattle.qd_ring.specs.RootSums.{IsSumOfRoots};
 
 /// How great the results of the operations are, by the sizes of what they are formed of: a reduced power of x has size at most 1,
@@ -32,6 +33,21 @@ pub fn size_laws()
         → all_below n steps_fit ≡ true → ((i : ℕ) → i < n → value_size (value i) ≤ most)
         → n * most ≤ greatest_magnitude
         → sum_overflows (cyclotomic_ring k) (cyclotomic_fit k) n steps_fit value ≡ false }
+{}
+
+/// Listed sums as they are formed: where one doesn't overflow, each term is formed, the sizes of the terms don't overflow together, a
+/// front of it doesn't overflow, and the sum fits. A sum of one term is formed exactly where that term is formed and fits.
+pub fn listed_sum_laws()
+    ensures formed { (k n : ℕ) (term : ℕ → Formed k) → (listed k n term).fits ≡ true
+        → (i : ℕ) → i < n → (term i).fits ≡ true }
+    ensures sizes { (k n : ℕ) (term : ℕ → Formed k) → (listed k n term).fits ≡ true
+        → sizes_overflow (map (λ i. (term i).value) (range_with_len 0 n)) ≡ false }
+    ensures front { (k m n : ℕ) (term : ℕ → Formed k) → m ≤ n → (listed k n term).fits ≡ true
+        → (listed k m term).fits ≡ true }
+    ensures sum { (k n : ℕ) (term : ℕ → Formed k) → (listed k n term).fits ≡ true
+        → value_fits (listed k n term).value ≡ true }
+    ensures one_term { (k : ℕ) (term : ℕ → Formed k)
+        → (listed k 1 term).fits ≡ ((term 0).fits && value_fits (term 0).value) }
 {}
 
 /// Sums of roots of unity: a sum of r roots has size at most r; conjugates, Galois images and root multiples of sums of r roots are

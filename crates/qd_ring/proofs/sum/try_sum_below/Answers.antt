@@ -12,12 +12,12 @@ loop-i-init g c = record {
 
 pub returns-in_default-clause-overflow : goal.returns-in_default-clause-overflow
 returns-in_default-clause-overflow g c = λ steps_fit value each.
-    overflow_by_step (g.R.Ring.ops c.args.ring.now) (g.R.Ring.rules c.args.ring.now) c.args.n steps_fit value c.loop-i.i c.loop-i-test.true
+    overflow_by_step (g.R.Ring.ops c.args.ring.now) (g.R.Ring.rules c.args.ring.now) value c.args.n steps_fit c.loop-i.i c.loop-i-test.true
     (term_missing (g.R.Ring.of c.args.ring.now) (steps_fit c.loop-i.i) (value c.loop-i.i) c.term.result (each c.loop-i.i c.term.result c.loop-i-test.true c.term.ensures) c.in_default.is)
 
 pub returns-in_default-try_add-clause-overflow : goal.returns-in_default-try_add-clause-overflow
 returns-in_default-try_add-clause-overflow g c = λ steps_fit value each.
-    overflow_by_size (g.R.Ring.ops c.args.ring.now) (g.R.Ring.rules c.args.ring.now) c.args.n steps_fit value c.loop-i.i c.loop-i-test.true
+    overflow_by_size (g.R.Ring.ops c.args.ring.now) (g.R.Ring.rules c.args.ring.now) value c.args.n steps_fit c.loop-i.i c.loop-i-test.true
     (g.R.Ring.of c.args.ring.now c.loop-i.sum) (g.R.Ring.of c.args.ring.now c.in-Some.next) (c.loop-i.invariant.sum steps_fit value each)
     (term_stands (g.R.Ring.of c.args.ring.now) (steps_fit c.loop-i.i) (value c.loop-i.i) c.term.result c.in-Some.next (each c.loop-i.i c.term.result c.loop-i-test.true c.term.ensures) c.in-Some.is)
     (sym c.in_default-try_add.ensures.fits)
