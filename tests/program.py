@@ -1,5 +1,4 @@
-"""What the scripts of this folder share: the program that is tried, the independent program, runs of one process each, and the form of
-an answer."""
+"""What the scripts of this folder share: the program that is tried, runs of one process each, and the form of an answer."""
 
 from __future__ import annotations
 
@@ -10,19 +9,14 @@ import re
 import signal
 import subprocess
 import sys
-import tempfile
-from collections.abc import Callable
 from dataclasses import dataclass
 from pathlib import Path
 
 sys.dont_write_bytecode = True
 
 TOP = Path(__file__).resolve().parent.parent
-REFERENCE = TOP.parent / "shared/oracle"
 SECONDS = 60
 NO_MEMORY = b"refused 14 memory\n"
-
-Reference = Callable[[list, bytes], tuple]
 
 
 @dataclass(frozen=True)
@@ -60,38 +54,25 @@ def module_at(path: Path, name: str):
     return module
 
 
-def the_reference(folder: str | Path, versions: int) -> Reference | None:
-    """A function from the words of a command and a document to what is to be written and the status, or None where the independent
-    program is missing. It reads documents up to that version."""
-    file = Path(folder) / "qdouble_ref.py"
-    if not file.is_file():
-        return None
-    module = module_at(file, "qdouble_ref")
-    if versions == 1:
-        module.BOTH_VERSIONS = ()    # the commands that read version 2 as well
-    return lambda words, text: module.run(words, lambda: text)
-
-
 class Runs:
-    """Runs of a program, one after the other, with one file for what it reads and one for what it writes."""
+    """Runs of a program, one after the other. What it reads and what it writes are files in memory."""
 
     def __init__(self, program: Path, environment: dict | None = None, seconds: float = SECONDS):
         self.program, self.seconds = str(program), seconds
         self.environment = {**os.environ, **(environment or {})}
-        self.files = [tempfile.TemporaryFile() for _ in range(3)]
+        self.read, self.write, self.tell = (os.memfd_create(name) for name in ("read", "write", "tell"))
+        self.actions = [(os.POSIX_SPAWN_DUP2, file, at) for file, at in ((self.read, 0), (self.write, 1), (self.tell, 3))]
 
     def run(self, words: list, text: bytes, more: dict | None = None) -> Ran:
         """One run with these words and this input, and with these variables besides."""
-        read, write, tell = (file.fileno() for file in self.files)
-        for file, content in ((read, text), (write, b""), (tell, b"")):
+        for file, content in ((self.read, text), (self.write, b""), (self.tell, b"")):
             os.ftruncate(file, 0)
             os.pwrite(file, content, 0)
             os.lseek(file, 0, os.SEEK_SET)
-        actions = [(os.POSIX_SPAWN_DUP2, read, 0), (os.POSIX_SPAWN_DUP2, write, 1), (os.POSIX_SPAWN_DUP2, tell, 3)]
         environment = {**self.environment, **more} if more else self.environment
-        child = os.posix_spawn(self.program, [self.program, *words], environment, file_actions=actions)
+        child = os.posix_spawn(self.program, [self.program, *words], environment, file_actions=self.actions)
         status = self.status_of(child)
-        return Ran(self.all_of(write), status, self.all_of(tell))
+        return Ran(self.all_of(self.write), status, self.all_of(self.tell))
 
     def status_of(self, child: int) -> int:
         """The status of a process when it has ended. One that takes too long is ended."""
