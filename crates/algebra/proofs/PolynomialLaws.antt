@@ -31,11 +31,11 @@ module _ {A : Type 0} (R : CommRing A) where
       (division_step x a c (value R f x) (value R f a) (value R (quotient R f a) x) (division f a x))
 
   -- a polynomial whose coefficients but the first are nought has the first as its value
-  pub value_nought : (f : List A) (a c : A) → AllNought R f → value R (c ∷ f) a ≡ c
+  pub value_constant : (f : List A) (a c : A) → AllNought R f → value R (c ∷ f) a ≡ c
   unfolding AllNought
-  value_nought [] a c h = simp (value_cons, value_nil, mul_nought, R.add_nought)
-  value_nought (d ∷ f) a c h =
-      let rest : value R (d ∷ f) a ≡ R.nought = value_nought f a d h.1 ∙ h.0 in
+  value_constant [] a c h = simp (value_cons, value_nil, mul_nought, R.add_nought)
+  value_constant (d ∷ f) a c h =
+      let rest : value R (d ∷ f) a ≡ R.nought = value_constant f a d h.1 ∙ h.0 in
       value_cons c (d ∷ f) a ∙ simp (rest, mul_nought, R.add_nought)
 
   -- a polynomial with root a is nought where its quotient is
@@ -44,4 +44,4 @@ module _ {A : Type 0} (R : CommRing A) where
   quotient_nought [] a h = tt
   quotient_nought (c ∷ f) a h =
       let inner : AllNought R f = quotient_nought f a h.1 in
-      (sym (value_nought f a c inner) ∙ h.0, inner)
+      (sym (value_constant f a c inner) ∙ h.0, inner)

@@ -21,7 +21,8 @@ use Rattle.prime_field.specs.Laws.Moduli.{modulus_over_one}
 use Rattle.prime_field.specs.ResidueLists.{AreBelow}
 use Rattle.algebra.specs.Polynomials.{value, AllNought}
 use Rattle.algebra.proofs.PolynomialLaws.{value_nil, value_cons}
-use Rattle.prime_field.proofs.PolynomialValues.{residue_field, value_at_nil, value_at_cons, nought_of}
+use Rattle.prime_field.proofs.PolynomialValues.{residue_field, residues_apart, coefficient_nought, roots_are}
+use Rattle.prime_field.specs.Laws.Field.{value_nought}
 use Rattle.splitting_theory.specs.Splitting.{IsFixed, ZeroTest, number}
 use Rattle.splitting_theory.specs.Algebras.{HasBasis}
 use Rattle.splitting_theory.proofs.Coordinates.{of_number}
@@ -65,34 +66,10 @@ module _ (q : ℕ) (listed : is_modulus q ≡ true) where
   abbrev of : ℕ → Below q
   of v = field_residue q listed v
 
-  value_of_residues : (x : ℕ) (p : List ℕ) → (value (field q listed) (map of p) (of x)).value ≡ value_at q x p
-  value_of_residues x [] = ap (λ y. y.value) (value_nil (field q listed) (of x)) ∙ zero-mod q ∙ sym (value_at_nil q x)
-  value_of_residues x (a ∷ p) =
-      let v = (value (field q listed) (map of p) (of x)).value in
-      ap (λ y. y.value) (value_cons (field q listed) (of a) (map of p) (of x))
-      ∙ mod-add-mod a q (x % q * v % q)
-      ∙ add-mod-mod a (x % q * v) q
-      ∙ sym (add-mod-mod a (x % q * v) q)
-      ∙ ap (λ w. (a + w) % q) (mul-mod_first x v q)
-      ∙ add-mod-mod a (x * v) q
-      ∙ ap (λ w. (a + x * w) % q) (value_of_residues x p)
-      ∙ sym (value_at_cons q x a p)
-
-  -- the roots among the numbers below q
-  same_roots : (f : List ℕ) → passing_below q (is_root q f) ≡ passing_below q (λ v. (residue_field q listed).is_nought (value (field q listed) (map of f) (of v)))
-  same_roots f =
-      passing_below-ext q (is_root q f) (λ v. (residue_field q listed).is_nought (value (field q listed) (map of f) (of v))) (λ v h. ap (λ w. w == 0) (sym (value_of_residues v f)))
-
-  coefficients_nought : (p : List ℕ) → AllNought (field q listed) (map of p) → (k : ℕ) → k < length p → get_or p k 0 % q ≡ 0
-  unfolding AllNought
-  coefficients_nought [] h k less = absurd (omega arith)
-  coefficients_nought (a ∷ p) h zero less = ap (λ y. y.value) h.0 ∙ zero-mod q
-  coefficients_nought (a ∷ p) h (suc k) less = coefficients_nought p h.1 k (omega arith)
-
   all_nought_of : (p : List (Below q)) → ((k : ℕ) → k < length (map (λ c. c.value) p) → get_or (map (λ c. c.value) p) k 0 % q ≡ 0) → AllNought (field q listed) p
   unfolding AllNought
   all_nought_of [] h = tt
-  all_nought_of (a ∷ p) h = (nought_of q listed a (sym (mod-eq_of_lt a.below) ∙ h 0 (omega arith)), all_nought_of p (λ k less. h (suc k) (omega arith)))
+  all_nought_of (a ∷ p) h = (value_nought q listed a (sym (mod-eq_of_lt a.below) ∙ h 0 (omega arith)), all_nought_of p (λ k less. h (suc k) (omega arith)))
 
   residues_of_values : (p : List (Below q)) → map of (map (λ c. c.value) p) ≡ p
   residues_of_values [] = refl
@@ -102,10 +79,6 @@ module _ (q : ℕ) (listed : is_modulus q ≡ true) where
   values_below [] k less = absurd (omega arith)
   values_below (a ∷ p) zero less = a.below
   values_below (a ∷ p) (suc k) less = values_below p k (omega arith)
-
-  residues_apart : (i j : ℕ) → i < j → j < q → of i ≢ of j
-  residues_apart i j less below e =
-      absurd (let values : i % q ≡ j % q = ap (λ y. y.value) e in let a : i % q ≡ i = mod-eq_of_lt (omega arith) in let b : j % q ≡ j = mod-eq_of_lt (omega arith) in omega arith)
 
 module _ (ring : ModRing) (s : TwistedSubgroup) (serves : Serves ring s) (t : ℕ) (t_below : t < rank s) where
   abbrev R : CommRing (Below ring.q)
@@ -170,12 +143,12 @@ module _ (ring : ModRing) (s : TwistedSubgroup) (serves : Serves ring s) (t : �
   splits f m =
       let count : suc (length (passing_below ring.q (λ v. (residue_field ring.q ring.listed).is_nought (value R (map residue_at f) (residue_at v))))) ≡ length (map residue_at f) =
       roots_of_least R (residue_field ring.q ring.listed) C N E ring.q I residue_at residue_number (residues_apart ring.q ring.listed) (E.at t) (map residue_at f)
-      (λ all. (let none = coefficients_nought ring.q ring.listed f all (length f - 1) (let some = m.some in omega arith) in
+      (λ all. (let none = coefficient_nought ring.q ring.listed f all (length f - 1) (let some = m.some in omega arith) in
       absurd (let wrong : 1 ≡ 0 = sym one_is_one ∙ ap (λ n. n % ring.q) (sym m.monic) ∙ none in omega arith)))
       (nought_in_centre f m.nought)
       (λ g less h. all_nought_of ring.q ring.listed g
       (m.least (number_at g) (let a = length-map g (λ (c : Below ring.q). c.value) in let b = length-map f residue_at in omega arith) (of_residues g h))) in
-      let same = ap (λ (xs : List ℕ). length xs) (same_roots ring.q ring.listed f) in
+      let same = ap (λ (xs : List ℕ). length xs) (roots_are ring.q ring.listed ring.q f) in
       let size_of = length-map f residue_at in
       omega arith
 
@@ -203,7 +176,7 @@ module _ (ring : ModRing) (s : TwistedSubgroup) (serves : Serves ring s) (t : �
               ap (λ n. get_or (number_at least_polynomial) (n - 1) 0) count ∙ last_value (λ (c : Below ring.q). c.value) R.nought least_polynomial some
               ∙ ap (λ (c : Below ring.q). c.value) least_monic ∙ one_is_one;
           nought = of_residues least_polynomial (annihilates R (residue_field ring.q ring.listed) C N E ring.q I residue_at residue_number (residues_apart ring.q ring.listed) (E.at t));
-          least = λ g less h. coefficients_nought ring.q ring.listed g
+          least = λ g less h. coefficient_nought ring.q ring.listed g
               (annihilator_least R (residue_field ring.q ring.listed) C N E ring.q I residue_at residue_number (residues_apart ring.q ring.listed) (E.at t) (map residue_at g)
               (let a = length-map g residue_at in omega arith) (nought_in_centre g h));
         },

@@ -1,14 +1,5 @@
 -- What the ring object computes, as operations of the ring of residues.
-use Rattle.std.proofs.Common.{◌≡◌, ℕ, ◌+◌, ◌*◌, ◌%◌, ◌<◌, true, sym, ap, ◌∙◌, add-one}
-use Rattle.std.proofs.Math.Nat.{mod-mod, mod-eq_of_lt, mod-add-mod, add-mod-mod}
-use Rattle.std.proofs.lemmas.Nat.{mul-mod}
-use Rattle.algebra.specs.Below.{below_equal}
-use Rattle.algebra.specs.Sums.{power}
-use Rattle.algebra.specs.Roots.{RootOfUnity}
-use Rattle.algebra.proofs.SumLaws.{power_suc}
-use Rattle.algebra.proofs.RootLaws.{power_mod}
-use Rattle.prime_field.specs.Moduli.{is_modulus}
-use Rattle.prime_field.specs.Field.{field, field_residue}
+use Rattle.prime_field.proofs.Names.{◌≡◌, ℕ, ◌+◌, ◌*◌, ◌%◌, ◌<◌, true, sym, ap, ◌∙◌, add-one, mod-mod, mod-eq_of_lt, mod-add-mod, add-mod-mod, mul-mod, below_equal, power, RootOfUnity, power_suc, power_mod, is_modulus, field, field_residue}
 
 module _ (q : ℕ) (listed : is_modulus q ≡ true) where
   pub sum_residue : (a b : ℕ) → field_residue q listed ((a + b) % q) ≡ (field q listed).add (field_residue q listed a) (field_residue q listed b)

@@ -1,15 +1,5 @@
 -- Each conductor has a modulus over 60: it is 1 modulo the conductor, and the cyclotomic polynomial has a root modulo it.
-use Rattle.std.proofs.Common.{◌≡◌, ◌≢◌, ℕ, ◌%◌, ◌<◌, List, [], ◌∷◌, true, false, Bool, Some, None, refl, sym, ap, ◌∙◌, arith}
-use Rattle.std.proofs.lemmas.Bool.{eq-eqb, ltb-true, eqb-true}
-use Rattle.std.specs.Prelude.{◌==◌, ◌||◌, ◌&&◌, not, nat_lt, is_some, if◌then◌else◌}
-use Rattle.std.specs.List.{list_all, list_any}
-use Rattle.scan.specs.First.{first}
-use Rattle.cyclotomic.specs.Conductors.{conductors, is_conductor, reductions, reduction_of}
-use Rattle.cyclotomic.proofs.Tests.{and_left, and_right, at_each_conductor}
-use Rattle.cyclotomic.proofs.Checks.{listed, cyclotomic_is}
-use Rattle.prime_field.specs.Evaluation.{whole_modulo, reduced, value_at, is_root}
-use Rattle.prime_field.specs.Moduli.{moduli, is_modulus, least_root, ServesConductor}
-use Rattle.prime_field.specs.Laws.Moduli.{some_value, modulus_bound}
+use Rattle.prime_field.proofs.Names.{◌≡◌, ◌≢◌, ℕ, ◌%◌, ◌<◌, List, [], ◌∷◌, true, false, Bool, Some, None, refl, sym, ap, ◌∙◌, arith, eq-eqb, ltb-true, eqb-true, ◌==◌, ◌||◌, ◌&&◌, not, nat_lt, is_some, if◌then◌else◌, list_all, list_any, first, conductors, is_conductor, reductions, reduction_of, and_left, and_right, at_each_conductor, listed, cyclotomic_is, whole_modulo, reduced, value_at, is_root, moduli, is_modulus, least_root, ServesConductor, some_value, modulus_bound}
 use Rattle.prime_field.proofs.Faults.{no_fault}
 
 -- ---- a modulus for a conductor

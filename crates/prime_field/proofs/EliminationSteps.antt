@@ -1,29 +1,16 @@
 -- Solving linear equations over a field one after another: what is kept is, for each place, the column of the basis that begins
 -- there, or noughts where none does.
-use Rattle.std.proofs.Common.{◌≡◌, ◌≢◌, ◌⊎◌, inl, inr, ℕ, suc, ◌<◌, refl, sym, ◌∙◌, ap, arith}
-use Rattle.std.specs.Prelude.{nat_eq}
-use Rattle.std.proofs.lemmas.Bool.{cases_eq, cases_lt, eq-eqb, ne_eqb}
-use mathlib.Core.Path.{ap₂}
-use Rattle.algebra.specs.Structures.{CommRing}
-use Rattle.algebra.specs.Sums.{sum_below, pick}
-use Rattle.algebra.proofs.RingLaws.{ring_rules, mul_nought, one_mul, product_rules}
-use Rattle.algebra.proofs.SumLaws.{sum_ext, sum_nought, sum_add, sum_neg, mul_sum, sum_mul, sum_exchange, sum_pick, pick_of, pick_off, mul_pick}
-use Rattle.algebra.specs.Matrices.{dot, Solves}
-use Rattle.prime_field.specs.Solved.{IsFree, IsGone, IsSolved}
+use Rattle.prime_field.proofs.Names.{◌≡◌, ◌≢◌, ◌⊎◌, inl, inr, ℕ, suc, ◌<◌, refl, sym, ◌∙◌, ap, arith, nat_eq, cases_eq, cases_lt, eq-eqb, ne_eqb, ap₂, CommRing, sum_below, pick, ring_rules, mul_nought, one_mul, product_rules, sum_ext, sum_nought, sum_add, sum_neg, mul_sum, sum_mul, sum_exchange, sum_pick, pick_of, pick_off, mul_pick, dot, Solves, dot_is, IsFree, IsGone, IsSolved}
 
 module _ {A : Type 0} (R : CommRing A) where
-  pub dot_is : (w : ℕ) (x y : ℕ → A) → dot R w x y ≡ sum_below R w (λ j. R.mul (x j) (y j))
-  unfolding dot
-  dot_is w x y = refl
-
   pub dot_ext : (w : ℕ) (x y u v : ℕ → A) → ((j : ℕ) → j < w → x j ≡ u j) → ((j : ℕ) → j < w → y j ≡ v j) → dot R w x y ≡ dot R w u v
   dot_ext w x y u v h k =
-      dot_is w x y ∙ sum_ext R w (λ j. R.mul (x j) (y j)) (λ j. R.mul (u j) (v j)) (λ j p. ap (λ z. R.mul z (y j)) (h j p) ∙ ap (R.mul (u j)) (k j p)) ∙ sym (dot_is w u v)
+      dot_is R w x y ∙ sum_ext R w (λ j. R.mul (x j) (y j)) (λ j. R.mul (u j) (v j)) (λ j p. ap (λ z. R.mul z (y j)) (h j p) ∙ ap (R.mul (u j)) (k j p)) ∙ sym (dot_is R w u v)
 
   -- x . (y - c z) = x . y - c (x . z)
   pub dot_reduced : (w : ℕ) (x y z : ℕ → A) (c : A) → dot R w x (λ j. R.add (y j) (R.neg (R.mul c (z j)))) ≡ R.add (dot R w x y) (R.neg (R.mul c (dot R w x z)))
   dot_reduced w x y z c =
-      dot_is w x (λ j. R.add (y j) (R.neg (R.mul c (z j))))
+      dot_is R w x (λ j. R.add (y j) (R.neg (R.mul c (z j))))
       ∙ sum_ext R w (λ j. R.mul (x j) (R.add (y j) (R.neg (R.mul c (z j))))) (λ j. R.add (R.mul (x j) (y j)) (R.neg (R.mul c (R.mul (x j) (z j))))) (λ j p. simp (ring_rules, R))
       ∙ sum_add R w (λ j. R.mul (x j) (y j)) (λ j. R.neg (R.mul c (R.mul (x j) (z j))))
       ∙ ap (R.add (sum_below R w (λ j. R.mul (x j) (y j)))) (sum_neg R w (λ j. R.mul c (R.mul (x j) (z j))) ∙ ap R.neg (sym (mul_sum R w c (λ j. R.mul (x j) (z j)))))
@@ -75,11 +62,11 @@ module _ {A : Type 0} (R : CommRing A) where
     expanded : (v : ℕ → A) → Solves R (suc n) w e v → sum_below R w (λ f. R.mul (v f) (dot R w (e n) (p f))) ≡ R.nought
     expanded v sv =
         sum_ext R w (λ f. R.mul (v f) (dot R w (e n) (p f))) (λ f. sum_below R w (λ m. R.mul (e n m) (R.mul (v f) (p f m))))
-        (λ f h. ap (R.mul (v f)) (dot_is w (e n) (p f)) ∙ mul_sum R w (v f) (λ m. R.mul (e n m) (p f m)) ∙ sum_ext R w (λ m. R.mul (v f) (R.mul (e n m) (p f m))) (λ m. R.mul (e n m) (R.mul (v f) (p f m))) (λ m k. simp (product_rules, R)))
+        (λ f h. ap (R.mul (v f)) (dot_is R w (e n) (p f)) ∙ mul_sum R w (v f) (λ m. R.mul (e n m) (p f m)) ∙ sum_ext R w (λ m. R.mul (v f) (R.mul (e n m) (p f m))) (λ m. R.mul (e n m) (R.mul (v f) (p f m))) (λ m k. simp (product_rules, R)))
         ∙ sum_exchange R w w (λ f m. R.mul (e n m) (R.mul (v f) (p f m)))
         ∙ sum_ext R w (λ m. sum_below R w (λ f. R.mul (e n m) (R.mul (v f) (p f m)))) (λ m. R.mul (e n m) (v m))
         (λ m h. sym (mul_sum R w (e n m) (λ f. R.mul (v f) (p f m))) ∙ ap (R.mul (e n m)) (solved.complete v (λ i k. sv i (omega arith)) m h))
-        ∙ sym (dot_is w (e n) v)
+        ∙ sym (dot_is R w (e n) v)
         ∙ sv n (omega arith)
 
     next_complete : (v : ℕ → A) → Solves R (suc n) w e v → (m : ℕ) → m < w → sum_below R w (λ f. R.mul (v f) (next f m)) ≡ v m
@@ -131,7 +118,7 @@ module _ {A : Type 0} (R : CommRing A) where
             })
         by_row other (inr gone) =
             let nothing : dot R w (e n) (p f) ≡ R.nought =
-            dot_is w (e n) (p f) ∙ sum_ext R w (λ m. R.mul (e n m) (p f m)) (λ m. R.nought) (λ m k. ap (R.mul (e n m)) (gone m k) ∙ mul_nought R (e n m)) ∙ sum_nought R w in
+            dot_is R w (e n) (p f) ∙ sum_ext R w (λ m. R.mul (e n m) (p f m)) (λ m. R.nought) (λ m k. ap (R.mul (e n m)) (gone m k) ∙ mul_nought R (e n m)) ∙ sum_nought R w in
             inr (λ m k. stays f m h k nothing ∙ gone m k)
 
     pub one_more : IsSolved R (suc n) w e next

@@ -1,9 +1,5 @@
 -- The first condition that fails, from the tests before it.
-use Rattle.std.proofs.Common.{◌≡◌, ◌≢◌, ℕ, ◌%◌, ◌≤◌, ◌<◌, true, false, Some, None, ◌&&◌, nat_lt, ◌⊎◌, inl, inr, refl, arith}
-use Rattle.std.proofs.lemmas.Bool.{ne_eqb}
-use Rattle.std.proofs.lemmas.Bool.Decides.{nat_tests}
-use Rattle.prime_field.specs.Moduli.{is_modulus, least_root, modulus_fault}
-use Rattle.prime_field.specs.declared.fault.ModulusFault.TheVariants.{Range, Unlisted, DividesConductor, NoRoot}
+use Rattle.prime_field.proofs.Names.{◌≡◌, ◌≢◌, ℕ, ◌%◌, ◌≤◌, ◌<◌, true, false, Some, None, ◌&&◌, nat_lt, ◌⊎◌, inl, inr, refl, arith, ne_eqb, nat_tests, is_modulus, least_root, modulus_fault, Range, Unlisted, DividesConductor, NoRoot}
 
 module _ (q above k : ℕ) where
   between : above < q → q < 65536 → (nat_lt above q && nat_lt q 65536) ≡ true

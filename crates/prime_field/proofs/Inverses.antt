@@ -1,10 +1,5 @@
 -- What is said of the answer of an inverse.
-use Rattle.std.proofs.Common.{◌≡◌, ◌≢◌, ℕ, ◌*◌, ◌%◌, ◌<◌, true, Option, Some, None, IfSome, IfNone, inl, inr, sym, ◌∙◌, arith, Fits, w32}
-use Rattle.std.proofs.lemmas.Bool.{cases_eq}
-use Rattle.std.proofs.lemmas.Nat.{mul-le}
-use Rattle.prime_field.specs.Moduli.{is_modulus}
-use Rattle.prime_field.specs.Inverses.{inverse_modulo}
-use Rattle.prime_field.specs.Laws.Moduli.{modulus_bound, inverse_means, inverse_there, inverse_absent}
+use Rattle.prime_field.proofs.Names.{◌≡◌, ◌≢◌, ℕ, ◌*◌, ◌%◌, ◌<◌, true, Option, Some, None, IfSome, IfNone, inl, inr, sym, ◌∙◌, arith, Fits, w32, cases_eq, mul-le, is_modulus, inverse_modulo, modulus_bound, inverse_means, inverse_there, inverse_absent}
 
 -- products of residues fit
 pub residues_fit : (q : ℕ) → is_modulus q ≡ true → (a b : ℕ) → a < q → b < q → Fits w32 (a * b)

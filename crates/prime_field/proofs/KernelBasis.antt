@@ -1,17 +1,5 @@
 -- The kept rows that aren't gone are the basis of the solutions in reduced form.
-use Rattle.std.proofs.Common.{◌≡◌, ◌≢◌, inl, inr, ℕ, zero, suc, ◌<◌, Bool, true, false, List, [], ◌∷◌, ◌++◌, length, get_or, length-append, add-one, refl, sym, ◌∙◌, ap, arith}
-use Rattle.std.proofs.lemmas.Bool.{cases_order}
-use Rattle.std.proofs.lemmas.List.{get_or_push, get_or_append_left}
-use Rattle.std.proofs.lemmas.List.Elements.{All-get_or}
-use mathlib.Core.Path.{ap₂}
-use Rattle.algebra.specs.Structures.{CommRing}
-use Rattle.algebra.specs.Sums.{sum_below, pick}
-use Rattle.algebra.proofs.RingLaws.{mul_nought}
-use Rattle.algebra.proofs.SumLaws.{sum_zero, sum_suc, sum_ext, pick_of, pick_off}
-use Rattle.group_table.specs.Numbers.{passing_below}
-use Rattle.group_table.proofs.Numbers.{passing_below-zero, passing_below-passes, passing_below-fails, IsPassing, passing_below-all, passing_below-ascending}
-use Rattle.algebra.specs.Matrices.{Solves, IsCombination, IsReduced}
-use Rattle.prime_field.specs.Solved.{IsFree, IsGone, IsSolved}
+use Rattle.prime_field.proofs.Names.{◌≡◌, ◌≢◌, inl, inr, ℕ, zero, suc, ◌<◌, Bool, true, false, List, [], ◌∷◌, ◌++◌, length, get_or, length-append, add-one, refl, sym, ◌∙◌, ap, arith, cases_order, get_or_push, get_or_append_left, All-get_or, ap₂, CommRing, sum_below, pick, mul_nought, sum_zero, sum_suc, sum_ext, pick_of, pick_off, passing_below, passing_below-zero, passing_below-passes, passing_below-fails, IsPassing, passing_below-all, passing_below-ascending, Solves, IsCombination, IsReduced, IsFree, IsGone, IsSolved}
 
 module _ {A : Type 0} (R : CommRing A) where
   -- a sum over the numbers that pass a test

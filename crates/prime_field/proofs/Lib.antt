@@ -1,3 +1,4 @@
+pub mod Names
 pub mod PolynomialRoots
 pub mod EliminationSteps
 pub mod KernelBasis

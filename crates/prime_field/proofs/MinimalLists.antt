@@ -1,18 +1,5 @@
 -- The lists that the search of a minimal polynomial goes through.
-use Rattle.std.proofs.Common.{◌≡◌, ◌⊎◌, inl, inr, ℕ, suc, ◌+◌, ◌-◌, ◌*◌, ◌/◌, ◌%◌, ◌<◌, Bool, true, false, get_or, List, ◌++◌, length, length-append, add-one, refl, sym, ◌∙◌, ap, subst, arith}
-use Rattle.std.specs.Prelude.{slice_range, nat_eq, not, if◌then◌else◌}
-use Rattle.std.proofs.Math.Nat.{div-lt_iff_lt-mul}
-use Rattle.std.proofs.lemmas.Bool.{cases_eq, cases_lt, ne_eqb, eq-eqb}
-use Rattle.std.proofs.lemmas.List.{get_or_append_left, get_or-append-add}
-use Rattle.algebra.specs.Structures.{CommRing}
-use Rattle.algebra.specs.Sums.{pick}
-use Rattle.algebra.proofs.SumLaws.{sum_ext, pick_true, pick_false}
-use Rattle.prime_field.specs.Moduli.{is_modulus}
-use Rattle.prime_field.specs.Field.{field, field_residue}
-use Rattle.algebra.specs.Matrices.{dot, matrix_power, IsMinimal}
-use Rattle.prime_field.specs.Solved.{IsFree, IsGone, IsSolved, power_equations, IsLastNonzero}
-use Rattle.prime_field.specs.ResidueLists.{AreBelow, column_of, matrix_of, IsTabulated}
-use Rattle.prime_field.specs.PowerLists.{ListsPowers}
+use Rattle.prime_field.proofs.Names.{◌≡◌, ◌⊎◌, inl, inr, ℕ, suc, ◌+◌, ◌-◌, ◌*◌, ◌/◌, ◌%◌, ◌<◌, Bool, true, false, get_or, List, ◌++◌, length, length-append, add-one, refl, sym, ◌∙◌, ap, subst, arith, slice_range, nat_eq, not, if◌then◌else◌, div-lt_iff_lt-mul, cases_eq, cases_lt, ne_eqb, eq-eqb, get_or_append_left, get_or-append-add, CommRing, pick, sum_ext, pick_true, pick_false, is_modulus, field, field_residue, dot, matrix_power, IsMinimal, IsFree, IsGone, IsSolved, power_equations, IsLastNonzero, AreBelow, column_of, matrix_of, IsTabulated, ListsPowers}
 use Rattle.prime_field.proofs.EliminationSteps.{dot_ext, equations_ext}
 use Rattle.prime_field.proofs.KernelBasis.{IsTold}
 use Rattle.prime_field.proofs.KernelLists.{begins_at, told}

@@ -1,23 +1,5 @@
 -- The last of the kept rows for the equations of a matrix's powers is the matrix's minimal polynomial.
-use Rattle.std.proofs.Common.{◌≡◌, inl, inr, ℕ, zero, suc, ◌+◌, ◌-◌, ◌*◌, ◌/◌, ◌%◌, ◌<◌, ◌≤◌, List, [], ◌∷◌, ◌++◌, length, get_or, length-append, refl, sym, ◌∙◌, ap, add-zero, arith}
-use Rattle.std.proofs.Math.Nat.{mod-lt, zero-mul, div-lt_iff_lt-mul}
-use Rattle.std.proofs.lemmas.Nat.{div-add-mod'}
-use Rattle.group_table.proofs.Square.{place_below}
-use Rattle.std.proofs.lemmas.List.{get_or_push}
-use Rattle.std.specs.Prelude.{nat_eq, nat_lt}
-use Rattle.std.proofs.lemmas.Bool.{cases_lt, cases_eq, eq-eqb, ne_eqb, lt-ltb, le-ltb}
-use mathlib.Core.Path.{ap₂, fun_ext}
-use Rattle.algebra.specs.Structures.{CommRing}
-use Rattle.algebra.specs.Sums.{sum_below, pick}
-use Rattle.algebra.proofs.RingLaws.{mul_nought, nought_mul, one_mul, ring_rules, add_mul}
-use Rattle.algebra.proofs.SumLaws.{sum_zero, sum_ext, sum_nought, sum_add, mul_sum, sum_first, sum_split, sum_reindex, pick_of, pick_off}
-use Rattle.algebra.specs.Fields.{Field}
-use Rattle.algebra.specs.Matrices.{dot, Solves, matrix_power, matrix_polynomial, IsAnnihilator, IsMinimal}
-use Rattle.algebra.specs.Modules.{LinearMap, horner, act, IsStable, Reaches}
-use Rattle.prime_field.specs.Solved.{IsFree, IsGone, IsSolved}
-use Rattle.prime_field.proofs.EliminationSteps.{dot_is}
-use Rattle.algebra.proofs.LinearMaps.{move_none, horner_nil, horner_cons, horner_move, monic_is}
-use Rattle.algebra.proofs.Annihilators.{killed}
+use Rattle.prime_field.proofs.Names.{◌≡◌, inl, inr, ℕ, zero, suc, ◌+◌, ◌-◌, ◌*◌, ◌/◌, ◌%◌, ◌<◌, ◌≤◌, List, [], ◌∷◌, ◌++◌, length, get_or, length-append, refl, sym, ◌∙◌, ap, add-zero, arith, mod-lt, zero-mul, div-lt_iff_lt-mul, div-add-mod', place_below, get_or_push, nat_eq, nat_lt, cases_lt, cases_eq, eq-eqb, ne_eqb, lt-ltb, le-ltb, ap₂, fun_ext, CommRing, sum_below, pick, mul_nought, nought_mul, one_mul, ring_rules, add_mul, sum_zero, sum_ext, sum_nought, sum_add, mul_sum, sum_first, sum_split, sum_reindex, pick_of, pick_off, Field, dot, Solves, matrix_power, matrix_polynomial, IsAnnihilator, IsMinimal, horner, act, IsFree, IsGone, IsSolved, move_none, horner_nil, horner_cons, horner_move, monic_is, dot_is, columns, IsNoughtBelow, nought_stable, units, length_units, units_reach, killed}
 
 module _ {A : Type 0} (R : CommRing A) where
   pub power_at_zero : (w : ℕ) (a : ℕ → ℕ → A) (i j : ℕ) → matrix_power R w a zero i j ≡ pick R (nat_eq i j) R.one
@@ -32,79 +14,13 @@ module _ {A : Type 0} (R : CommRing A) where
   unfolding matrix_polynomial
   matrix_polynomial_is w a n f i j = refl
 
-  pub dot_plus : (w : ℕ) (x u v : ℕ → A) → dot R w x (λ i. R.add (u i) (v i)) ≡ R.add (dot R w x u) (dot R w x v)
-  dot_plus w x u v =
-      dot_is R w x (λ i. R.add (u i) (v i)) ∙ sum_ext R w (λ j. R.mul (x j) (R.add (u j) (v j))) (λ j. R.add (R.mul (x j) (u j)) (R.mul (x j) (v j))) (λ j h. R.mul_add (x j) (u j) (v j))
-      ∙ sum_add R w (λ j. R.mul (x j) (u j)) (λ j. R.mul (x j) (v j)) ∙ sym (ap₂ R.add (dot_is R w x u) (dot_is R w x v))
-
-  pub dot_scale : (w : ℕ) (x : ℕ → A) (c : A) (v : ℕ → A) → dot R w x (λ i. R.mul c (v i)) ≡ R.mul c (dot R w x v)
-  dot_scale w x c v =
-      dot_is R w x (λ i. R.mul c (v i)) ∙ sum_ext R w (λ j. R.mul (x j) (R.mul c (v j))) (λ j. R.mul c (R.mul (x j) (v j))) (λ j h. simp (ring_rules, R))
-      ∙ sym (mul_sum R w c (λ j. R.mul (x j) (v j))) ∙ ap (R.mul c) (sym (dot_is R w x v))
-
-  -- columns, with "times a"
-  abbrev pub columns : ℕ → (ℕ → ℕ → A) → LinearMap R (ℕ → A)
-  columns w a = record {
-    plus = λ u v i. R.add (u i) (v i);
-    none = λ i. R.nought;
-    scale = λ c v i. R.mul c (v i);
-    move = λ v i. dot R w (a i) v;
-    plus_assoc = λ u v x. fun_ext (λ i. R.add_assoc (u i) (v i) (x i));
-    plus_comm = λ u v. fun_ext (λ i. R.add_comm (u i) (v i));
-    plus_none = λ v. fun_ext (λ i. R.add_nought (v i));
-    scale_plus = λ c u v. fun_ext (λ i. R.mul_add c (u i) (v i));
-    add_scale = λ c d v. fun_ext (λ i. add_mul R c d (v i));
-    mul_scale = λ c d v. fun_ext (λ i. R.mul_assoc c d (v i));
-    one_scale = λ v. fun_ext (λ i. one_mul R (v i));
-    nought_scale = λ v. fun_ext (λ i. nought_mul R (v i));
-    move_plus = λ u v. fun_ext (λ i. dot_plus w (a i) u v);
-    move_scale = λ c v. fun_ext (λ i. dot_scale w (a i) c v);
-  }
-
-  -- the columns that are nought below w
-  abbrev IsNoughtBelow : ℕ → (ℕ → A) → Type 0
-  IsNoughtBelow w v = (i : ℕ) → i < w → v i ≡ R.nought
-
-  nought_stable : (w : ℕ) (a : ℕ → ℕ → A) → IsStable (columns w a) (IsNoughtBelow w)
-  nought_stable w a = record {
-    none = λ i h. refl;
-    plus = λ u v h k i l. ap₂ R.add (h i l) (k i l) ∙ R.add_nought R.nought;
-    scale = λ c v h i l. ap (R.mul c) (h i l) ∙ mul_nought R c;
-    move = λ v h i l. dot_is R w (a i) v ∙ sum_ext R w (λ j. R.mul (a i j) (v j)) (λ j. R.nought) (λ j k. ap (R.mul (a i j)) (h j k) ∙ mul_nought R (a i j)) ∙ sum_nought R w;
-  }
-
-  abbrev unit : ℕ → ℕ → A
-  unit j i = pick R (nat_eq i j) R.one
-
-  -- the units at the places below n
-  unfoldable units : ℕ → List (ℕ → A)
-  units zero = []
-  units (suc n) = unit n ∷ units n
-
-  length_units : (n : ℕ) → length (units n) ≡ n
-  unfolding units
-  length_units zero = refl
-  length_units (suc n) = ap suc (length_units n)
-
-  -- a column that is nought from n to w is reached with the units below n
-  units_reach : (w : ℕ) (a : ℕ → ℕ → A) (n : ℕ) (v : ℕ → A) → ((i : ℕ) → n ≤ i → i < w → v i ≡ R.nought) → Reaches (columns w a) (IsNoughtBelow w) (units n) v
-  unfolding units Reaches
-  units_reach w a zero v h = λ i k. h i (omega arith) k
-  units_reach w a (suc n) v h = (
-    R.neg (v n),
-    units_reach w a n (λ i. R.add (v i) (R.mul (R.neg (v n)) (unit n i))) (λ i k l. elim (cases_eq i n) [
-      | inl same ↦ ap (R.add (v i)) (ap (R.mul (R.neg (v n))) (pick_of R (nat_eq i n) R.one (eq-eqb i n same)) ∙ R.mul_one (R.neg (v n))) ∙ ap (λ j. R.add (v i) (R.neg (v j))) (sym same) ∙ R.add_neg (v i)
-      | inr apart ↦ ap (R.add (v i)) (ap (R.mul (R.neg (v n))) (pick_off R (nat_eq i n) R.one (ne_eqb i n apart)) ∙ mul_nought R (R.neg (v n))) ∙ R.add_nought (v i) ∙ h i (omega arith) l
-    ]),
-  )
-
   -- the polynomial at a on the j-th column of a power of a
   act_powers : (w : ℕ) (a : ℕ → ℕ → A) (f : List A) (s j i : ℕ)
-      → act (columns w a) f (λ l. matrix_power R w a s l j) i ≡ sum_below R (length f) (λ k. R.mul (get_or f k R.nought) (matrix_power R w a (s + k) i j))
+      → act (columns R w a) f (λ l. matrix_power R w a s l j) i ≡ sum_below R (length f) (λ k. R.mul (get_or f k R.nought) (matrix_power R w a (s + k) i j))
   act_powers w a [] s j i =
-      ap (λ v. v i) (horner_nil (columns w a) (λ l. matrix_power R w a s l j) (λ l. R.nought)) ∙ sym (sum_zero R (λ k. R.mul (get_or [] k R.nought) (matrix_power R w a (s + k) i j)))
+      ap (λ v. v i) (horner_nil (columns R w a) (λ l. matrix_power R w a s l j) (λ l. R.nought)) ∙ sym (sum_zero R (λ k. R.mul (get_or [] k R.nought) (matrix_power R w a (s + k) i j)))
   act_powers w a (c ∷ f) s j i =
-      let T = columns w a in
+      let T = columns R w a in
       let v : ℕ → A = λ l. matrix_power R w a s l j in
       let next : ℕ → A = λ l. matrix_power R w a (suc s) l j in
       let moved : T.move v ≡ next = fun_ext (λ l. sym (power_at_suc w a s l j)) in
@@ -125,9 +41,9 @@ module _ {A : Type 0} (R : CommRing A) where
 
   pub monic_annihilator : Field R → (w : ℕ) (a : ℕ → ℕ → A) → HasMonic w a
   monic_annihilator F w a =
-      let k = killed F (columns w a) (IsNoughtBelow w) (nought_stable w a) (units w) (λ v. units_reach w a w v (λ i h l. absurd (omega arith))) in
+      let k = killed F (columns R w a) (IsNoughtBelow R w) (nought_stable R w a) (units R w) (λ v. units_reach R w a w v (λ i h l. absurd (omega arith))) in
       let f : List A = k.lower in
-      let size : length f ≡ w = k.degree ∙ length_units w in
+      let size : length f ≡ w = k.degree ∙ length_units R w in
       let whole : length (f ++ R.one ∷ []) ≡ suc w = omega (arith, length-append f (R.one ∷ [])) in
       record {
         coefficients = λ i. get_or (f ++ R.one ∷ []) i R.nought;
@@ -138,7 +54,7 @@ module _ {A : Type 0} (R : CommRing A) where
             ∙ sum_ext R (length (f ++ R.one ∷ [])) (λ m. R.mul (get_or (f ++ R.one ∷ []) m R.nought) (matrix_power R w a m i j)) (λ m. R.mul (get_or (f ++ R.one ∷ []) m R.nought) (matrix_power R w a (0 + m) i j))
             (λ m q. let e : m ≡ 0 + m = omega arith in ap (λ z. R.mul (get_or (f ++ R.one ∷ []) m R.nought) (matrix_power R w a z i j)) e)
             ∙ sym (act_powers w a (f ++ R.one ∷ []) 0 j i)
-            ∙ ap (λ v. v i) (monic_is (columns w a) f (λ m. matrix_power R w a 0 m j))
+            ∙ ap (λ v. v i) (monic_is (columns R w a) f (λ m. matrix_power R w a 0 m j))
             ∙ k.kills (λ m. matrix_power R w a 0 m j) i h;
       }
 

@@ -1,12 +1,5 @@
 -- Steps of the evaluation of a polynomial modulo q, from its leading coefficient down.
-use Rattle.std.proofs.Common.{◌≡◌, ℕ, suc, ◌+◌, ◌-◌, ◌*◌, ◌%◌, ◌≤◌, ◌<◌, List, [], ◌∷◌, ◌++◌, length, drop, get_or, true, false, sym, ap, ◌∙◌, arith}
-use Rattle.std.specs.Prelude.{ℤ, pos, negsuc, nat_abs}
-use Rattle.std.proofs.Math.Nat.{mod-lt, mod-eq_of_lt, mul-zero, add-zero}
-use Rattle.std.proofs.Math.Seq.{drop-cons, drop-length}
-use Rattle.std.proofs.lemmas.Nat.{mul-le}
-use borrow.Author.Differences.{lt-true, lt-false}
-use lib.Signed.{lt_z}
-use Rattle.prime_field.specs.Evaluation.{whole_modulo, reduced, value_at}
+use Rattle.prime_field.proofs.Names.{◌≡◌, ℕ, suc, ◌+◌, ◌-◌, ◌*◌, ◌%◌, ◌≤◌, ◌<◌, List, [], ◌∷◌, ◌++◌, length, drop, get_or, true, false, sym, ap, ◌∙◌, arith, ℤ, pos, negsuc, nat_abs, mod-lt, mod-eq_of_lt, mul-zero, add-zero, drop-cons, drop-length, lt-true, lt-false, lt_z, whole_modulo, reduced, value_at}
 
 -- ---- a coefficient
 pub negative_modulo : (q m : ℕ) (c : ℤ) → m ≡ nat_abs c → lt_z c (pos 0) ≡ true → (q - m % q) % q ≡ whole_modulo q c
@@ -25,15 +18,6 @@ whole_modulo_below q (pos n) positive = mod-lt n positive
 whole_modulo_below q (negsuc n) positive = mod-lt (q - suc n % q) positive
 
 -- ---- a value
-pub value_below : (q r : ℕ) (p : List ℕ) → 0 < q → value_at q r p < q
-unfolding value_at
-value_below q r [] positive = positive
-value_below q r (a ∷ p) positive = mod-lt (a + r * value_at q r p) positive
-
--- the products and sums on the way fit
-pub product_bound : (a b n : ℕ) → a < n → b < n → n ≤ 65536 → a * b ≤ 4294836225
-product_bound a b n a_below b_below n_small = mul-le a b 65535 65535 (omega arith) (omega arith)
-
 module _ (q r : ℕ) (low : List ℤ) where
   -- the value of the polynomial with leading coefficient 1 and the lower coefficients from place i on
   abbrev pub value_from : ℕ → ℕ

@@ -1,13 +1,5 @@
 -- A polynomial over a field has fewer roots than coefficients.
-use Rattle.std.proofs.Common.{◌≡◌, ◌≢◌, ℕ, zero, suc, ◌<◌, Bool, true, false, List, [], ◌∷◌, length, length-append, add-one, refl, sym, ◌∙◌, ap, arith}
-use Rattle.algebra.specs.Structures.{CommRing}
-use Rattle.algebra.specs.Fields.{Field}
-use Rattle.algebra.specs.Polynomials.{value, AllNought, quotient}
-use Rattle.algebra.proofs.RingLaws.{add_left_comm}
-use Rattle.algebra.proofs.FieldLaws.{difference_nought, test_product}
-use Rattle.algebra.proofs.PolynomialLaws.{value_cons, length_quotient, division, value_nought, quotient_nought}
-use Rattle.group_table.specs.Numbers.{passing_below}
-use Rattle.group_table.proofs.Numbers.{passing_below-zero, passing_below-passes, passing_below-fails, passing_below-ext}
+use Rattle.prime_field.proofs.Names.{◌≡◌, ◌≢◌, ℕ, zero, suc, ◌<◌, Bool, true, false, List, [], ◌∷◌, length, length-append, add-one, refl, sym, ◌∙◌, ap, arith, CommRing, Field, value, AllNought, quotient, add_left_comm, difference_nought, test_product, value_cons, length_quotient, division, value_constant, quotient_nought, passing_below, passing_below-zero, passing_below-passes, passing_below-fails, passing_below-ext}
 
 module _ {A : Type 0} (R : CommRing A) (F : Field R) where
   -- at points x other than a root a, the polynomial is nought where its quotient is
@@ -39,7 +31,7 @@ module _ {A : Type 0} (R : CommRing A) (F : Field R) where
       by true e few =
           let root : value R (c ∷ f) (at n) ≡ R.nought = F.passes (value R (c ∷ f) (at n)) e in
           let g = quotient R f (at n) in
-          let rest : AllNought R g → ⊥ = λ h. some (sym (value_nought R f (at n) c (quotient_nought R f (at n) h)) ∙ root, quotient_nought R f (at n) h) in
+          let rest : AllNought R g → ⊥ = λ h. some (sym (value_constant R f (at n) c (quotient_nought R f (at n) h)) ∙ root, quotient_nought R f (at n) h) in
           let less : length (passing_below n (λ i. F.is_nought (value R g (at i)))) < length g = few g rest in
           let same : passing_below n test ≡ passing_below n (λ i. F.is_nought (value R g (at i))) =
           passing_below-ext n test (λ i. F.is_nought (value R g (at i))) (λ i h. same_roots c f (at n) (at i) root (distinct i n h (omega arith))) in

@@ -1,32 +1,9 @@
 -- Values of polynomials modulo q, coefficient by coefficient from the last, and how many roots there are.
-use Rattle.std.proofs.Common.{◌≡◌, ◌≢◌, ℕ, zero, suc, ◌+◌, ◌-◌, ◌*◌, ◌%◌, ◌<◌, ◌≤◌, Bool, true, false, List, [], ◌∷◌, length, get_or, drop, drop-cons, refl, sym, ◌∙◌, ap, subst, arith, eqb-true}
-use Rattle.std.proofs.Math.Nat.{mod-lt, mod-add-mod, mod-eq_of_lt, zero-mod, add-mod-mod, mul-le-mul_right}
-use Rattle.std.proofs.lemmas.Nat.{mul-mod_first}
-use Rattle.std.proofs.lemmas.Bool.{eq-eqb}
-use Rattle.std.specs.Prelude.{map, ◌==◌, nat_lt, unwrap_or}
-use Rattle.std.proofs.lemmas.List.{length-map}
-use Rattle.std.specs.List.{list_all}
-use borrow.Author.Tests.{ltb-true}
-use Rattle.algebra.specs.Below.{Below, below_equal}
-use Rattle.group_table.specs.Numbers.{passing_below}
-use Rattle.group_table.proofs.Numbers.{passing_below-ext}
-use Rattle.prime_field.specs.Moduli.{moduli, is_modulus}
-use Rattle.prime_field.specs.Inverses.{inverse_modulo}
-use Rattle.prime_field.specs.Field.{field, field_residue}
-use Rattle.prime_field.specs.Evaluation.{value_at, is_root}
-use Rattle.prime_field.specs.Polynomials.{HasCoefficient}
-use Rattle.prime_field.specs.Laws.Moduli.{at_each_modulus, modulus_over_one, inverse_there, inverse_means}
-use Rattle.algebra.specs.Fields.{Field}
-use Rattle.algebra.specs.Polynomials.{value, AllNought}
-use Rattle.algebra.proofs.PolynomialLaws.{value_nil, value_cons}
+use Rattle.prime_field.proofs.Names.{◌≡◌, ◌≢◌, ℕ, zero, suc, ◌+◌, ◌-◌, ◌*◌, ◌%◌, ◌<◌, ◌≤◌, Bool, true, false, List, [], ◌∷◌, length, get_or, drop, drop-cons, refl, sym, ◌∙◌, ap, subst, arith, eqb-true, mod-lt, mod-add-mod, mod-eq_of_lt, zero-mod, add-mod-mod, mul-le-mul_right, mul-mod_first, eq-eqb, map, ◌==◌, unwrap_or, length-map, Below, below_equal, Field, value, AllNought, value_nil, value_cons, passing_below, passing_below-ext, is_modulus, inverse_modulo, field, field_residue, value_at, is_root, HasCoefficient, modulus_bound, modulus_over_one, inverse_there, inverse_means, nought_value, value_nought}
 use Rattle.prime_field.proofs.PolynomialRoots.{fewer_roots}
 
-all_small : list_all (λ q. nat_lt q 65536) moduli ≡ true
-unfolding moduli
-all_small = refl
-
 pub modulus_small : (q : ℕ) → is_modulus q ≡ true → q < 65536
-modulus_small q listed = ltb-true q 65536 (at_each_modulus (λ m. nat_lt m 65536) all_small q listed)
+modulus_small q listed = omega (arith, modulus_bound q listed)
 
 pub value_at_nil : (q x : ℕ) → value_at q x [] ≡ 0
 unfolding value_at
@@ -37,8 +14,9 @@ unfolding value_at
 value_at_cons q x a p = refl
 
 pub value_at_below : (q x : ℕ) (p : List ℕ) → 0 < q → value_at q x p < q
-value_at_below q x [] h = rw (value_at_nil q x) h
-value_at_below q x (a ∷ p) h = rw (value_at_cons q x a p) (mod-lt (a + x * value_at q x p) h)
+unfolding value_at
+value_at_below q x [] h = h
+value_at_below q x (a ∷ p) h = mod-lt (a + x * value_at q x p) h
 
 -- the product of two numbers below q, and one more
 pub product_small : (q a x y : ℕ) → q < 65536 → a < q → x < q → y < q → a + x * y ≤ 4294901760
@@ -57,12 +35,6 @@ value_step q x i v p positive within e =
 -- ---- residues modulo a listed prime are a field
 
 module _ (q : ℕ) (listed : is_modulus q ≡ true) where
-  pub nought_of : (x : Below q) → x.value ≡ 0 → x ≡ (field q listed).nought
-  nought_of x e = below_equal _ _ (e ∙ sym (zero-mod q))
-
-  pub value_of_nought : (x : Below q) → x ≡ (field q listed).nought → x.value ≡ 0
-  value_of_nought x e = ap (λ y. y.value) e ∙ zero-mod q
-
   -- the number below q that is the inverse of a, or 0 where there is none
   abbrev inverse_or_zero : ℕ → ℕ
   inverse_or_zero a = unwrap_or (inverse_modulo q a) 0
@@ -72,58 +44,64 @@ module _ (q : ℕ) (listed : is_modulus q ≡ true) where
 
   pub inverse_product : (x : Below q) → x ≢ (field q listed).nought → (field q listed).mul x (field_residue q listed (inverse_or_zero x.value)) ≡ (field q listed).one
   inverse_product x h =
-      let there = inverse_there q listed x.value (λ e. h (nought_of x (sym (mod-eq_of_lt x.below) ∙ e))) in
+      let there = inverse_there q listed x.value (λ e. h (value_nought q listed x (sym (mod-eq_of_lt x.below) ∙ e))) in
       let means = inverse_means q x.value there.0 there.1 in
       let found : inverse_or_zero x.value ≡ there.0 = ap (λ o. unwrap_or o 0) there.1 in
-      below_equal _ _ (ap (λ b. (x.value * (b % q)) % q) found ∙ ap (λ b. (x.value * b) % q) (mod-eq_of_lt means.0) ∙ means.1 ∙ sym (mod-eq_of_lt (modulus_over_one q listed)))
+      below_equal _ _
+      (ap (λ b. (x.value * (b % q)) % q) found ∙ ap (λ b. (x.value * b) % q) (mod-eq_of_lt means.0) ∙ means.1 ∙ sym (mod-eq_of_lt (modulus_over_one q listed)))
 
   pub one_apart : (field q listed).one ≢ (field q listed).nought
   one_apart e =
-      let over : 1 < q = modulus_over_one q listed in
-      let a : 1 % q ≡ 0 % q = ap (λ y. y.value) e in
-      let b : 1 % q ≡ 1 = mod-eq_of_lt over in
-      let c : 0 % q ≡ 0 = zero-mod q in
+      let none : 1 % q ≡ 0 = nought_value q listed (field q listed).one e in
+      let one : 1 % q ≡ 1 = mod-eq_of_lt (modulus_over_one q listed) in
       absurd (omega arith)
 
   abbrev pub residue_field : Field (field q listed)
   residue_field = record {
     inverse = λ x. field_residue q listed (inverse_or_zero x.value);
     is_nought = λ x. x.value == 0;
-    passes = λ x e. nought_of x (eqb-true x.value 0 e);
-    fails = λ x e h. false_not_true (x.value == 0) e (eq-eqb x.value 0 (value_of_nought x h));
+    passes = λ x e. value_nought q listed x (eqb-true x.value 0 e);
+    fails = λ x e h. false_not_true (x.value == 0) e (eq-eqb x.value 0 (nought_value q listed x h));
     mul_inverse = λ x h. inverse_product x h;
     one_is_not_nought = one_apart;
   }
 
-  value_of_residues : (x : ℕ) (p : List ℕ) → (value (field q listed) (map (field_residue q listed) p) (field_residue q listed x)).value ≡ value_at q x p
-  value_of_residues x [] = ap (λ y. y.value) (value_nil (field q listed) (field_residue q listed x)) ∙ zero-mod q ∙ sym (value_at_nil q x)
+  -- residues of different numbers below q are different
+  pub residues_apart : (i j : ℕ) → i < j → j < q → field_residue q listed i ≢ field_residue q listed j
+  residues_apart i j less below e =
+      let values : i % q ≡ j % q = ap (λ y. y.value) e in
+      let first : i % q ≡ i = mod-eq_of_lt (omega arith) in
+      let second : j % q ≡ j = mod-eq_of_lt below in
+      absurd (omega arith)
+
+  pub value_of_residues : (x : ℕ) (p : List ℕ) → (value (field q listed) (map (field_residue q listed) p) (field_residue q listed x)).value ≡ value_at q x p
+  unfolding value_at
+  value_of_residues x [] = ap (λ y. y.value) (value_nil (field q listed) (field_residue q listed x)) ∙ zero-mod q
   value_of_residues x (a ∷ p) =
       let v = (value (field q listed) (map (field_residue q listed) p) (field_residue q listed x)).value in
       ap (λ y. y.value) (value_cons (field q listed) (field_residue q listed a) (map (field_residue q listed) p) (field_residue q listed x))
-      ∙ mod-add-mod a q (x % q * v % q)
-      ∙ add-mod-mod a (x % q * v) q
-      ∙ sym (add-mod-mod a (x % q * v) q)
-      ∙ ap (λ w. (a + w) % q) (mul-mod_first x v q)
-      ∙ add-mod-mod a (x * v) q
-      ∙ ap (λ w. (a + x * w) % q) (value_of_residues x p)
-      ∙ sym (value_at_cons q x a p)
+      ∙ mod-add-mod a q (x % q * v % q) ∙ add-mod-mod a (x % q * v) q ∙ sym (add-mod-mod a (x % q * v) q)
+      ∙ ap (λ w. (a + w) % q) (mul-mod_first x v q) ∙ add-mod-mod a (x * v) q ∙ ap (λ w. (a + x * w) % q) (value_of_residues x p)
 
-  coefficient_nought : (p : List ℕ) → AllNought (field q listed) (map (field_residue q listed) p) → (k : ℕ) → k < length p → get_or p k 0 % q ≡ 0
+  pub coefficient_nought : (p : List ℕ) → AllNought (field q listed) (map (field_residue q listed) p) → (k : ℕ) → k < length p → get_or p k 0 % q ≡ 0
   unfolding AllNought
   coefficient_nought [] h k less = absurd (omega arith)
-  coefficient_nought (a ∷ p) h zero less = ap (λ y. y.value) h.0 ∙ zero-mod q
+  coefficient_nought (a ∷ p) h zero less = nought_value q listed (field_residue q listed a) h.0
   coefficient_nought (a ∷ p) h (suc k) less = coefficient_nought p h.1 k (omega arith)
+
+  -- the roots below n are the residues at which the value is nought
+  pub roots_are : (n : ℕ) (p : List ℕ)
+      → passing_below n (is_root q p) ≡ passing_below n (λ i. residue_field.is_nought (value (field q listed) (map (field_residue q listed) p) (field_residue q listed i)))
+  roots_are n p =
+      passing_below-ext n (is_root q p) (λ i. residue_field.is_nought (value (field q listed) (map (field_residue q listed) p) (field_residue q listed i)))
+      (λ i h. ap (λ v. v == 0) (sym (value_of_residues i p)))
 
   -- a polynomial with a coefficient that isn't 0 modulo q has fewer roots than coefficients
   pub few_roots : (n : ℕ) (p : List ℕ) → HasCoefficient q p → n ≤ q → length (passing_below n (is_root q p)) < length p
   few_roots n p some within =
-      let few : length (passing_below n (λ i. (value (field q listed) (map (field_residue q listed) p) (field_residue q listed i)).value == 0)) < length (map (field_residue q listed) p) =
-      fewer_roots (field q listed) residue_field n (field_residue q listed)
-      (λ i j h l e. (let values : i % q ≡ j % q = ap (λ y. y.value) e in let a : i % q ≡ i = mod-eq_of_lt (omega arith) in let b : j % q ≡ j = mod-eq_of_lt (omega arith) in omega arith))
+      let few = fewer_roots (field q listed) residue_field n (field_residue q listed) (λ i j h l. residues_apart i j h (omega arith))
       (map (field_residue q listed) p) (λ h. some.2 (coefficient_nought p h some.0 some.1)) in
-      let same : passing_below n (is_root q p) ≡ passing_below n (λ i. (value (field q listed) (map (field_residue q listed) p) (field_residue q listed i)).value == 0) =
-      passing_below-ext n (is_root q p) (λ i. (value (field q listed) (map (field_residue q listed) p) (field_residue q listed i)).value == 0) (λ i h. ap (λ v. v == 0) (sym (value_of_residues i p))) in
-      rw same (omega (arith, few, length-map p (field_residue q listed)))
+      rw (roots_are n p) (omega (arith, few, length-map p (field_residue q listed)))
 
 -- so that the roots of a polynomial of at most 61 coefficients are at most 60
 pub roots_fit : (q p x : ℕ) (coefficients f items : List ℕ) → is_modulus q ≡ true → q ≡ p → coefficients ≡ f → HasCoefficient p f → length coefficients ≤ 61 → x ≤ q

@@ -1,16 +1,5 @@
 -- Each modulus is a prime, and the residues modulo it are a field.
-use Rattle.std.proofs.Common.{◌≡◌, ◌≢◌, ℕ, ◌%◌, ◌<◌, true, false, Bool, refl, sym, ap, ◌∙◌, arith, ◌⊎◌, inl, inr}
-use Rattle.std.proofs.lemmas.Bool.{cases_eq, ne_eqb, eq-eqb}
-use Rattle.std.proofs.Math.Nat.{mod-zero, mod-eq_of_lt}
-use Rattle.std.specs.Prelude.{◌==◌, ◌||◌, not}
-use Rattle.std.specs.List.{list_all}
-use Rattle.scan.specs.First.{all_below}
-use Rattle.algebra.specs.Below.{Below, below_equal}
-use Rattle.cyclotomic.proofs.Tests.{all_below_means}
-use Rattle.prime_field.specs.Moduli.{moduli, is_modulus}
-use Rattle.prime_field.specs.Field.{field}
-use Rattle.prime_field.specs.Laws.Moduli.{at_each_modulus, modulus_over_one, modulus_positive, inverse_unique}
-use Rattle.prime_field.specs.Laws.Field.{nought_value, value_nought, residue_product}
+use Rattle.prime_field.proofs.Names.{◌≡◌, ◌≢◌, ℕ, ◌%◌, ◌<◌, true, false, Bool, refl, sym, ap, ◌∙◌, arith, ◌⊎◌, inl, inr, cases_eq, ne_eqb, eq-eqb, mod-zero, mod-eq_of_lt, ◌==◌, ◌||◌, not, list_all, all_below, Below, below_equal, all_below_means, moduli, is_modulus, field, at_each_modulus, modulus_over_one, modulus_positive, inverse_unique, nought_value, value_nought, residue_product}
 
 -- d is 0 or 1, or doesn't divide q
 is_no_divisor : ℕ → ℕ → Bool

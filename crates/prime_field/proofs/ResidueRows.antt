@@ -1,18 +1,5 @@
 -- The lists that elimination goes through, as rows of residues.
-use Rattle.std.proofs.Common.{◌≡◌, ◌≢◌, ◌⊎◌, inl, inr, ℕ, suc, ◌+◌, ◌-◌, ◌*◌, ◌/◌, ◌%◌, ◌<◌, ◌≤◌, Bool, true, false, get_or, drop, List, length, refl, sym, ◌∙◌, ap, subst, arith, length-drop}
-use Rattle.std.proofs.lemmas.List.{length-take}
-use Rattle.std.specs.Prelude.{slice_range, nat_eq, if◌then◌else◌}
-use Rattle.std.proofs.Math.Nat.{mod-eq_of_lt, mul-add-mod_self_right}
-use Rattle.std.proofs.lemmas.Nat.{div-mul-add, mul-add-lt, mul-mod_first, mul-mod_second}
-use Rattle.algebra.specs.Below.{Below, below_equal}
-use Rattle.algebra.specs.Sums.{pick}
-use Rattle.algebra.proofs.SumLaws.{pick_true, pick_false}
-use Rattle.prime_field.specs.Moduli.{is_modulus}
-use Rattle.prime_field.specs.Field.{field, field_residue}
-use Rattle.algebra.specs.Matrices.{dot}
-use Rattle.prime_field.specs.Solved.{IsSolved}
-use Rattle.prime_field.specs.ResidueLists.{AreBelow, column_of, matrix_of, IsTabulated, minus_multiple}
-use Rattle.prime_field.specs.Laws.Moduli.{modulus_over_one}
+use Rattle.prime_field.proofs.Names.{◌≡◌, ◌≢◌, ◌⊎◌, inl, inr, ℕ, suc, ◌+◌, ◌-◌, ◌*◌, ◌/◌, ◌%◌, ◌<◌, ◌≤◌, Bool, true, false, get_or, drop, List, length, refl, sym, ◌∙◌, ap, subst, arith, length-drop, length-take, slice_range, nat_eq, if◌then◌else◌, mod-eq_of_lt, mul-add-mod_self_right, div-mul-add, mul-add-lt, mul-mod_first, mul-mod_second, Below, below_equal, pick, pick_true, pick_false, is_modulus, field, field_residue, dot, IsSolved, AreBelow, column_of, matrix_of, IsTabulated, minus_multiple, modulus_over_one}
 use Rattle.prime_field.proofs.EliminationSteps.{dot_ext, identity, nothing_solved, one_more, none_more, solved_ext}
 use Rattle.prime_field.proofs.ResidueSums.{residue_of_value, at_slice}
 

@@ -1,18 +1,5 @@
 -- Sums and products modulo q, as those of residues.
-use Rattle.std.proofs.Common.{◌≡◌, ℕ, ◌+◌, ◌-◌, ◌*◌, ◌%◌, ◌<◌, true, get_or, drop, List, [], ◌∷◌, ◌++◌, length, length-append, inl, inr, add-one, sym, ◌∙◌, ap, arith}
-use Rattle.std.proofs.Math.Nat.{mod-eq_of_lt, mod-lt, mod-add-mod, add-mod-mod}
-use Rattle.std.proofs.lemmas.Nat.{mul-mod_first, mul-mod_second}
-use Rattle.std.specs.Prelude.{slice_range}
-use Rattle.std.proofs.lemmas.Bool.{cases_eq}
-use Rattle.std.proofs.lemmas.List.{get_or_push, get_or_append_left, get_or-take, get_or-drop}
-use Rattle.prime_field.specs.ResidueLists.{IsTabulated}
-use Rattle.algebra.specs.Below.{Below, below_equal}
-use Rattle.algebra.specs.Sums.{sum_below}
-use Rattle.algebra.proofs.SumLaws.{sum_suc}
-use Rattle.algebra.proofs.RingLaws.{nought_add, neg_mul}
-use Rattle.prime_field.specs.Moduli.{is_modulus}
-use Rattle.prime_field.specs.Field.{field, field_residue}
-use Rattle.prime_field.specs.Laws.Moduli.{modulus_positive}
+use Rattle.prime_field.proofs.Names.{◌≡◌, ℕ, ◌+◌, ◌-◌, ◌*◌, ◌%◌, ◌<◌, true, get_or, drop, List, [], ◌∷◌, ◌++◌, length, length-append, inl, inr, add-one, sym, ◌∙◌, ap, arith, mod-eq_of_lt, mod-lt, mod-add-mod, add-mod-mod, mul-mod_first, mul-mod_second, slice_range, cases_eq, get_or_push, get_or_append_left, get_or-take, get_or-drop, IsTabulated, Below, below_equal, sum_below, sum_suc, nought_add, neg_mul, is_modulus, field, field_residue, modulus_positive}
 
 module _ (q : ℕ) (listed : is_modulus q ≡ true) where
   -- the residue of a residue's value

@@ -1,17 +1,6 @@
 -- The order of the least root modulo q of the cyclotomic polynomial of K is K, which divides q - 1.
-use Rattle.std.proofs.Common.{◌≡◌, ℕ, suc, ◌-◌, ◌%◌, ◌<◌, true, sym, ap, ◌∙◌, arith, inl, inr}
-use Rattle.std.proofs.lemmas.Bool.{cases_eq}
-use Rattle.std.proofs.Math.Nat.{mod-eq_of_lt}
-use Rattle.algebra.specs.Structures.{CommRing}
-use Rattle.algebra.specs.Sums.{power}
-use Rattle.algebra.specs.Roots.{RootOfUnity}
-use Rattle.algebra.proofs.RingLaws.{mul_left_comm}
-use Rattle.algebra.proofs.SumLaws.{power_suc}
-use Rattle.algebra.proofs.RootLaws.{fixed_is_nought}
-use Rattle.prime_field.specs.Moduli.{is_modulus}
-use Rattle.prime_field.specs.Field.{field}
-use Rattle.prime_field.specs.Laws.Moduli.{modulus_over_one, modulus_positive}
-use Rattle.prime_field.specs.Laws.Field.{nought_value, residue_power}
+use Rattle.prime_field.proofs.Names.{◌≡◌, ℕ, suc, ◌-◌, ◌%◌, ◌<◌, true, sym, ap, ◌∙◌, arith, inl, inr, cases_eq, mod-eq_of_lt, CommRing, power, RootOfUnity, mul_left_comm, power_suc, fixed_is_nought, is_modulus, field, modulus_positive, residue_power}
+use Rattle.prime_field.proofs.PolynomialValues.{one_apart}
 
 -- what a root of unity doesn't change from one power to the next is 1
 module _ {A : Type 0} (R : CommRing A) (z : A) (n : ℕ) (positive : 0 < n) (cycle : power R z n ≡ R.one) where
@@ -23,12 +12,6 @@ module _ {A : Type 0} (R : CommRing A) (z : A) (n : ℕ) (positive : 0 < n) (cyc
       sym (R.mul_one x) ∙ ap (R.mul x) (sym inverse) ∙ mul_left_comm R x w z ∙ ap (R.mul w) fixed ∙ inverse
 
 module _ (q : ℕ) (listed : is_modulus q ≡ true) where
-  one_is_not_nought : (field q listed).one ≡ (field q listed).nought → ⊥
-  one_is_not_nought e =
-      let zero_one : 1 % q ≡ 0 = nought_value q listed (field q listed).one e in
-      let one_one : 1 % q ≡ 1 = mod-eq_of_lt (modulus_over_one q listed) in
-      absurd (omega (arith, zero_one, one_one))
-
   module _ (k : ℕ) (u : RootOfUnity (field q listed) k) where
     -- a power of the root is 1 only where the exponent is a multiple of k
     pub order_divides : (e : ℕ) → power (field q listed) u.root e ≡ (field q listed).one → e % k ≡ 0
@@ -36,7 +19,7 @@ module _ (q : ℕ) (listed : is_modulus q ≡ true) where
       | inl multiple ↦ multiple
       | inr apart ↦
           absurd
-          (one_is_not_nought
+          (one_apart q listed
           (fixed_is_nought (field q listed) u e apart (field q listed).one ((field q listed).mul_one (power (field q listed) u.root e) ∙ one_power)))
     ]
 

@@ -1,12 +1,5 @@
-use Rattle.std.proofs.Common.{◌≡◌, length, sym, ap, ◌∙◌, arith, refl}
-use Rattle.std.proofs.Math.Nat.{zero-mod}
-use Rattle.algebra.specs.Sums.{sum_below}
-use Rattle.algebra.proofs.SumLaws.{sum_zero}
-use Rattle.prime_field.specs.Field.{field}
-use Rattle.prime_field.specs.ResidueLists.{column_of}
-use Rattle.prime_field.proofs.EliminationSteps.{dot_is}
+use Rattle.prime_field.proofs.Names.{◌≡◌, length, sym, ap, ◌∙◌, arith, refl, zero-mod, sum_below, sum_zero, field, column_of, dot_is, modulus_positive}
 use Rattle.prime_field.proofs.ResidueSums.{sum_step}
-use Rattle.prime_field.specs.Laws.Moduli.{modulus_positive}
 use Rattle.prime_field.proofs.arithmetic.dot.Goals as goal
 
 pub loop-i-init : goal.loop-i-init

@@ -1,8 +1,4 @@
-use Rattle.std.proofs.Common.{◌≡◌, ◌<◌, true}
-use Rattle.algebra.specs.Sums.{sum_below}
-use Rattle.prime_field.specs.Moduli.{is_modulus}
-use Rattle.prime_field.specs.Field.{field}
-use Rattle.prime_field.specs.ResidueLists.{column_of}
+use Rattle.prime_field.proofs.Names.{◌≡◌, ◌<◌, true, sum_below, is_modulus, field, column_of}
 use Rattle.prime_field.proofs.arithmetic.dot.Given as goal
 
 abbrev pub invariant-loop-i : goal.invariant-loop-i

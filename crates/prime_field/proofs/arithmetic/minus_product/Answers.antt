@@ -1,5 +1,4 @@
-use Rattle.std.proofs.Common.{◌∙◌}
-use Rattle.prime_field.specs.ResidueLists.{minus_multiple}
+use Rattle.prime_field.proofs.Names.{◌∙◌, minus_multiple}
 use Rattle.prime_field.proofs.ResidueSums.{minus_product_value}
 use Rattle.prime_field.proofs.arithmetic.minus_product.Goals as goal
 

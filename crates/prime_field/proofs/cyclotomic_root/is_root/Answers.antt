@@ -1,9 +1,5 @@
 -- The listed coefficients with a last 1 are those of the cyclotomic polynomial.
-use Rattle.std.proofs.Common.{[], ◌∷◌, ◌++◌, pos, nat_eq, sym, ap, ◌∙◌, arith}
-use Rattle.cyclotomic.specs.Fit.{size_of}
-use Rattle.cyclotomic.proofs.Checks.{cyclotomic_is}
-use Rattle.qd_ring.specs.ReductionSigns.{reduction_ternary}
-use Rattle.prime_field.specs.Evaluation.{reduced, is_root}
+use Rattle.prime_field.proofs.Names.{[], ◌∷◌, ◌++◌, pos, nat_eq, sym, ap, ◌∙◌, arith, size_of, cyclotomic_is, reduction_ternary, reduced, is_root}
 use Rattle.prime_field.proofs.cyclotomic_root.is_root.Goals as goal
 
 pub monic_value-requires-clause-ternary : goal.monic_value-requires-clause-ternary

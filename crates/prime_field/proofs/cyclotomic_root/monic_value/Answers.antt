@@ -1,7 +1,6 @@
-use Rattle.std.proofs.Common.{◌≡◌, ℕ, ◌+◌, ◌-◌, ◌*◌, ◌%◌, ◌≤◌, ◌<◌, pos, ap, ◌∙◌, arith, get_or}
-use Rattle.qd_ring.proofs.BufferLaws.{read_8, size_at}
-use Rattle.prime_field.specs.Evaluation.{whole_modulo, value_at}
-use Rattle.prime_field.proofs.MonicValues.{whole_modulo_below, value_below, product_bound, value_from, value_from_end, value_from_step}
+use Rattle.prime_field.proofs.Names.{◌≡◌, ℕ, ◌+◌, ◌-◌, ◌*◌, ◌%◌, ◌≤◌, ◌<◌, pos, ap, ◌∙◌, arith, get_or, read_8, size_at, whole_modulo, value_at}
+use Rattle.prime_field.proofs.MonicValues.{whole_modulo_below, value_from, value_from_end, value_from_step}
+use Rattle.prime_field.proofs.PolynomialValues.{value_at_below, product_small}
 use Rattle.prime_field.proofs.cyclotomic_root.monic_value.Goals as goal
 
 pub loop-i-init : goal.loop-i-init
@@ -9,17 +8,17 @@ loop-i-init c = value_from_end c.args.q c.args.r c.args.lower.now c.requires.ove
 
 -- the value so far is below q
 so_far : (q r v : ℕ) (p : _) → 1 < q → v ≡ value_at q r p → v < q
-so_far q r v p over_one e = omega (arith, e, value_below q r p (omega arith))
+so_far q r v p over_one e = omega (arith, e, value_at_below q r p (omega arith))
 
 coefficient_is : (c : goal.After-residue_of) → c.residue_of.result ≡ whole_modulo c.args.q (get_or c.args.lower.now (c.loop-i.i - 1) (pos 0))
 coefficient_is c =
     let a = get_or c.args.lower.now (c.loop-i.i - 1) (pos 0) in
     c.residue_of.ensures ∙ ap (whole_modulo c.args.q) (read_8 a (omega (arith, size_at c.args.lower.now (c.loop-i.i - 1), c.requires.ternary)))
 
-bound : (c : goal.After-residue_of) → c.args.r * c.loop-i.value ≤ 4294836225
+bound : (c : goal.After-residue_of) → 0 + c.args.r * c.loop-i.value ≤ 4294901760
 bound c =
-    product_bound c.args.r c.loop-i.value c.args.q c.requires.r_below
-    (so_far c.args.q c.args.r c.loop-i.value _ c.requires.over_one c.loop-i.invariant) (omega (arith, c.requires.small))
+    product_small c.args.q 0 c.args.r c.loop-i.value c.requires.small (omega (arith, c.requires.over_one)) c.requires.r_below
+    (so_far c.args.q c.args.r c.loop-i.value _ c.requires.over_one c.loop-i.invariant)
 
 pub overflow_mul-value : goal.overflow_mul-value
 overflow_mul-value c = record { fits = omega (arith, bound c) }

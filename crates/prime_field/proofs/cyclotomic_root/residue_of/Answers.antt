@@ -1,6 +1,4 @@
-use Rattle.std.proofs.Common.{w8, ap, ◌∙◌, of_z, to_z}
-use Rattle.std.proofs.lemmas.Int.{to_z-of_z}
-use Rattle.prime_field.specs.Evaluation.{whole_modulo}
+use Rattle.prime_field.proofs.Names.{w8, ap, ◌∙◌, of_z, to_z, to_z-of_z, whole_modulo}
 use Rattle.prime_field.proofs.MonicValues.{negative_modulo, natural_modulo}
 use Rattle.prime_field.proofs.cyclotomic_root.residue_of.Goals as goal
 

@@ -1,5 +1,4 @@
-use Rattle.std.proofs.Common.{◌≡◌, ◌≢◌, ◌<◌, ℕ, get_or}
-use Rattle.std.specs.Prelude.{MatchOption}
+use Rattle.prime_field.proofs.Names.{◌≡◌, ◌≢◌, ◌<◌, ℕ, get_or, MatchOption}
 use Rattle.prime_field.proofs.elimination.last_nonzero.Given as goal
 
 abbrev pub invariant-loop-i : goal.invariant-loop-i

@@ -1,7 +1,4 @@
-use Rattle.std.proofs.Common.{length, sym, ap, ◌∙◌, subst}
-use Rattle.prime_field.specs.Field.{field}
-use Rattle.algebra.specs.Matrices.{dot}
-use Rattle.prime_field.specs.ResidueLists.{AreBelow, column_of, matrix_of, IsTabulated}
+use Rattle.prime_field.proofs.Names.{length, sym, ap, ◌∙◌, subst, field, dot, AreBelow, column_of, matrix_of, IsTabulated}
 use Rattle.prime_field.proofs.ResidueRows.{values_below}
 use Rattle.prime_field.proofs.elimination.restricted.Goals as goal
 

@@ -1,7 +1,4 @@
-use Rattle.std.proofs.Common.{◌*◌, ◌/◌, ◌%◌, ◌+◌, suc, get_or, sym, subst, arith}
-use Rattle.prime_field.specs.Field.{field}
-use Rattle.prime_field.specs.Solved.{IsSolved}
-use Rattle.prime_field.specs.ResidueLists.{matrix_of}
+use Rattle.prime_field.proofs.Names.{◌*◌, ◌/◌, ◌%◌, ◌+◌, suc, get_or, sym, subst, arith, field, IsSolved, matrix_of}
 use Rattle.prime_field.proofs.ResidueRows.{multiples_below, solved_already, solved_next}
 use Rattle.prime_field.proofs.elimination.restricted_by.Goals as goal
 

@@ -1,7 +1,4 @@
-use Rattle.std.proofs.Common.{◌≡◌, ◌*◌, sym, ap, arith, subst, add-one}
-use Rattle.prime_field.specs.Field.{field, field_residue}
-use Rattle.prime_field.specs.ResidueLists.{matrix_of}
-use Rattle.prime_field.specs.Solved.{IsSolved}
+use Rattle.prime_field.proofs.Names.{◌≡◌, ◌*◌, sym, ap, arith, subst, add-one, field, field_residue, matrix_of, IsSolved}
 use Rattle.prime_field.proofs.ResidueRows.{identity_solves, identity_below}
 use Rattle.prime_field.proofs.ResidueSums.{at_slice}
 use Rattle.prime_field.proofs.elimination.solutions.Goals as goal

@@ -1,8 +1,4 @@
-use Rattle.std.proofs.Common.{◌≡◌, ◌*◌, length, true}
-use Rattle.prime_field.specs.Moduli.{is_modulus}
-use Rattle.prime_field.specs.Field.{field}
-use Rattle.prime_field.specs.Solved.{IsSolved}
-use Rattle.prime_field.specs.ResidueLists.{AreBelow, matrix_of}
+use Rattle.prime_field.proofs.Names.{◌≡◌, ◌*◌, length, true, is_modulus, field, IsSolved, AreBelow, matrix_of}
 use Rattle.prime_field.proofs.elimination.solutions.Given as goal
 
 abbrev pub invariant-loop-i : goal.invariant-loop-i

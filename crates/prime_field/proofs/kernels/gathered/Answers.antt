@@ -1,5 +1,4 @@
-use Rattle.std.proofs.Common.{◌<◌, ◌+◌, ◌*◌, ◌/◌, ◌%◌, arith, get_or}
-use Rattle.std.proofs.Math.Nat.{mod-lt, div-lt_iff_lt-mul}
+use Rattle.prime_field.proofs.Names.{◌<◌, ◌+◌, ◌*◌, ◌/◌, ◌%◌, arith, get_or, mod-lt, div-lt_iff_lt-mul}
 use Rattle.prime_field.proofs.ResidueRows.{place_in}
 use Rattle.prime_field.proofs.kernels.gathered.Goals as goal
 

@@ -1,7 +1,4 @@
-use Rattle.std.proofs.Common.{◌≡◌, sym, subst, true}
-use Rattle.prime_field.specs.Moduli.{is_modulus}
-use Rattle.prime_field.specs.Kernels.{IsKernelBasis}
-use Rattle.prime_field.specs.ResidueLists.{AreBelow}
+use Rattle.prime_field.proofs.Names.{◌≡◌, sym, subst, true, is_modulus, IsKernelBasis, AreBelow}
 use Rattle.prime_field.proofs.KernelLists.{entries_below}
 use Rattle.prime_field.proofs.kernels.kernel.Goals as goal
 

@@ -1,5 +1,4 @@
-use Rattle.std.proofs.Common.{arith, length, ap}
-use Rattle.group_table.proofs.Numbers.{length-passing_below}
+use Rattle.prime_field.proofs.Names.{arith, length, ap, length-passing_below}
 use Rattle.prime_field.proofs.KernelLists.{begins_at, beginnings_below, kernel_basis, listing_carried}
 use Rattle.prime_field.proofs.kernels.kernel_of.Goals as goal
 

@@ -1,8 +1,4 @@
-use Rattle.prime_field.specs.Field.{field}
-use Rattle.prime_field.specs.Laws.Moduli.{modulus_positive}
-use Rattle.prime_field.specs.Laws.Evaluation.{value-plus, value-times}
-use Rattle.prime_field.specs.Laws.Residues.{polynomial_value}
-use Rattle.prime_field.specs.Laws.Field.{value_of_remainder}
+use Rattle.prime_field.proofs.Names.{field, modulus_positive, value-plus, value-times, polynomial_value, value_of_remainder}
 use Rattle.prime_field.proofs.laws.evaluation_laws.Goals as goal
 
 pub returns-clause-value : goal.returns-clause-value

@@ -1,5 +1,4 @@
-use Rattle.std.proofs.Common.{◌+◌, ◌-◌, ◌*◌, ◌/◌, ◌%◌, get_or, sym, ap, ◌∙◌, length, subst}
-use Rattle.prime_field.specs.ResidueLists.{AreBelow, IsTabulated}
+use Rattle.prime_field.proofs.Names.{◌+◌, ◌-◌, ◌*◌, ◌/◌, ◌%◌, get_or, sym, ap, ◌∙◌, length, subst, AreBelow, IsTabulated}
 use Rattle.prime_field.proofs.MinimalLists.{equations_below, rows_solved}
 use Rattle.prime_field.proofs.minimals.annihilators.Goals as goal
 

@@ -1,7 +1,4 @@
-use Rattle.std.proofs.Common.{length, sym, subst}
-use Rattle.prime_field.specs.Field.{field}
-use Rattle.algebra.specs.Matrices.{IsMinimal}
-use Rattle.prime_field.specs.ResidueLists.{AreBelow, matrix_of, column_of}
+use Rattle.prime_field.proofs.Names.{length, sym, subst, field, IsMinimal, AreBelow, matrix_of, column_of}
 use Rattle.prime_field.proofs.KernelLists.{entries_below}
 use Rattle.prime_field.proofs.minimals.minimal.Goals as goal
 

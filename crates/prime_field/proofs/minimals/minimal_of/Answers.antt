@@ -1,6 +1,4 @@
-use Rattle.std.proofs.Common.{◌+◌, ◌-◌, ◌*◌, get_or, subst}
-use Rattle.prime_field.specs.Solved.{IsLastNonzero}
-use Rattle.prime_field.specs.ResidueLists.{IsTabulated}
+use Rattle.prime_field.proofs.Names.{◌+◌, ◌-◌, ◌*◌, get_or, subst, IsLastNonzero, IsTabulated}
 use Rattle.prime_field.proofs.MinimalLists.{found, poly_below}
 use Rattle.prime_field.proofs.minimals.minimal_of.Goals as goal
 

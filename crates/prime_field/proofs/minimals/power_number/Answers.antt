@@ -1,5 +1,4 @@
-use Rattle.std.proofs.Common.{◌≡◌, ◌<◌, ◌≤◌, ◌+◌, ◌*◌, ◌/◌, ◌%◌, ap, ◌∙◌, arith, ℕ, zero, suc, List, length}
-use Rattle.std.proofs.Math.Nat.{mod-lt, zero-mul}
+use Rattle.prime_field.proofs.Names.{◌≡◌, ◌<◌, ◌≤◌, ◌+◌, ◌*◌, ◌/◌, ◌%◌, ap, ◌∙◌, arith, ℕ, zero, suc, List, length, mod-lt, zero-mul}
 use Rattle.prime_field.proofs.ResidueRows.{place_in, dot_of_rows}
 use Rattle.prime_field.proofs.minimals.power_number.Goals as goal
 

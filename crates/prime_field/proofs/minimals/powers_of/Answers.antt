@@ -1,10 +1,4 @@
-use Rattle.std.proofs.Common.{◌≡◌, ◌+◌, ◌*◌, ◌/◌, ◌%◌, ◌++◌, true, ap, ◌∙◌, arith, subst}
-use Rattle.std.specs.Prelude.{slice_range}
-use Rattle.prime_field.specs.Moduli.{is_modulus}
-use Rattle.prime_field.specs.Field.{field}
-use Rattle.algebra.specs.Matrices.{dot}
-use Rattle.prime_field.specs.ResidueLists.{matrix_of, IsTabulated}
-use Rattle.prime_field.specs.PowerLists.{ListsPowers}
+use Rattle.prime_field.proofs.Names.{◌≡◌, ◌+◌, ◌*◌, ◌/◌, ◌%◌, ◌++◌, true, ap, ◌∙◌, arith, subst, slice_range, is_modulus, field, dot, matrix_of, IsTabulated, ListsPowers}
 use Rattle.prime_field.proofs.MinimalLists.{first_power, next_powers}
 use Rattle.prime_field.proofs.minimals.powers_of.Goals as goal
 

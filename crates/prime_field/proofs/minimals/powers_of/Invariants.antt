@@ -1,7 +1,4 @@
-use Rattle.std.proofs.Common.{◌≡◌, ◌+◌, ◌*◌, length, true}
-use Rattle.prime_field.specs.Moduli.{is_modulus}
-use Rattle.prime_field.specs.ResidueLists.{AreBelow}
-use Rattle.prime_field.specs.PowerLists.{ListsPowers}
+use Rattle.prime_field.proofs.Names.{◌≡◌, ◌+◌, ◌*◌, length, true, is_modulus, AreBelow, ListsPowers}
 use Rattle.prime_field.proofs.minimals.powers_of.Given as goal
 
 abbrev pub invariant-loop-k : goal.invariant-loop-k

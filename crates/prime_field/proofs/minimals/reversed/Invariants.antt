@@ -1,6 +1,4 @@
-use Rattle.std.proofs.Common.{◌+◌, ◌-◌, ◌*◌}
-use Rattle.std.specs.Prelude.{slice_index}
-use Rattle.prime_field.specs.ResidueLists.{IsTabulated}
+use Rattle.prime_field.proofs.Names.{◌+◌, ◌-◌, ◌*◌, slice_index, IsTabulated}
 use Rattle.prime_field.proofs.minimals.reversed.Given as goal
 
 abbrev pub invariant-loop-k : goal.invariant-loop-k

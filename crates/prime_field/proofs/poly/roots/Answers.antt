@@ -1,6 +1,4 @@
-use Rattle.std.proofs.Common.{◌∷◌, [], ◌++◌, length, sym, ap, ◌∙◌, arith, lit<}
-use Rattle.group_table.proofs.Numbers.{passing_below-zero, passing_below-passes, passing_below-fails}
-use Rattle.prime_field.specs.Evaluation.{is_root}
+use Rattle.prime_field.proofs.Names.{◌∷◌, [], ◌++◌, length, sym, ap, ◌∙◌, arith, lit<, passing_below-zero, passing_below-passes, passing_below-fails, is_root}
 use Rattle.prime_field.proofs.PolynomialValues.{roots_fit}
 use Rattle.prime_field.proofs.poly.roots.Goals as goal
 use Rattle.prime_field.proofs.poly.roots.Goals.{then-is_root, else-is_root}

@@ -1,6 +1,4 @@
-use Rattle.std.proofs.Common.{◌≡◌}
-use Rattle.group_table.specs.Numbers.{passing_below}
-use Rattle.prime_field.specs.Evaluation.{is_root}
+use Rattle.prime_field.proofs.Names.{◌≡◌, passing_below, is_root}
 use Rattle.prime_field.proofs.poly.roots.Given as goal
 
 abbrev pub invariant-loop-x : goal.invariant-loop-x

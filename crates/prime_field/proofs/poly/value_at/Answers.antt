@@ -1,7 +1,4 @@
-use Rattle.std.proofs.Common.{drop, sym, ap, ◌∙◌, arith}
-use Rattle.std.proofs.Math.Seq.{drop-length}
-use Rattle.prime_field.specs.Evaluation.{value_at}
-use Rattle.prime_field.specs.Laws.Moduli.{modulus_positive}
+use Rattle.prime_field.proofs.Names.{drop, sym, ap, ◌∙◌, arith, drop-length, value_at, modulus_positive}
 use Rattle.prime_field.proofs.PolynomialValues.{value_at_nil, value_at_below, value_step}
 use Rattle.prime_field.proofs.poly.value_at.Goals as goal
 

@@ -1,5 +1,4 @@
-use Rattle.std.proofs.Common.{◌≡◌, drop}
-use Rattle.prime_field.specs.Evaluation.{value_at}
+use Rattle.prime_field.proofs.Names.{◌≡◌, drop, value_at}
 use Rattle.prime_field.proofs.poly.value_at.Given as goal
 
 abbrev pub invariant-loop-i : goal.invariant-loop-i

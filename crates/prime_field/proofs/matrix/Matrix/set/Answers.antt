@@ -1,6 +1,4 @@
-use Rattle.std.proofs.Common.{◌≡◌, ◌≢◌, ◌⊎◌, ◌<◌, ◌+◌, ◌*◌, ℕ, List, get_or, get_or-set_other, subst}
-use Rattle.std.specs.Prelude.{slice_set}
-use Rattle.prime_field.specs.SquareMatrix.{Square, entry}
+use Rattle.prime_field.proofs.Names.{◌≡◌, ◌≢◌, ◌⊎◌, ◌<◌, ◌+◌, ◌*◌, ℕ, List, get_or, get_or-set_other, subst, slice_set, Square, entry}
 use Rattle.prime_field.proofs.ResidueRows.{places_apart}
 use Rattle.prime_field.proofs.matrix.Matrix.set.Goals as goal
 

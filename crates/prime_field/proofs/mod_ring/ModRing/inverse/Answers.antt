@@ -1,7 +1,4 @@
-use Rattle.std.proofs.Common.{◌≡◌, ◌∙◌}
-use Rattle.std.proofs.Math.Nat.{mod-lt}
-use Rattle.prime_field.specs.Inverses.{inverse_modulo}
-use Rattle.prime_field.specs.Laws.Moduli.{modulus_positive, inverse_mod}
+use Rattle.prime_field.proofs.Names.{◌≡◌, ◌∙◌, mod-lt, inverse_modulo, modulus_positive, inverse_mod}
 use Rattle.prime_field.proofs.Inverses.{inverse_below, inverse_product, inverse_of_other, inverse_of_nought}
 use Rattle.prime_field.proofs.mod_ring.ModRing.inverse.Goals as goal
 

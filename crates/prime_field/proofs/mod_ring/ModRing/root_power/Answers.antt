@@ -1,10 +1,4 @@
-use Rattle.std.proofs.Common.{◌≡◌, ◌*◌, sym, ap, ◌∙◌, arith}
-use Rattle.std.proofs.Math.Nat.{mod-lt}
-use Rattle.algebra.specs.Sums.{power}
-use Rattle.algebra.proofs.SumLaws.{power_zero}
-use Rattle.prime_field.specs.Field.{field, field_residue}
-use Rattle.prime_field.specs.Laws.Moduli.{modulus_over_one, modulus_positive}
-use Rattle.prime_field.specs.Laws.Field.{least_root_means}
+use Rattle.prime_field.proofs.Names.{◌≡◌, ◌*◌, sym, ap, ◌∙◌, arith, mod-lt, power, power_zero, field, field_residue, modulus_over_one, modulus_positive, least_root_means}
 use Rattle.prime_field.proofs.Inverses.{residues_fit}
 use Rattle.prime_field.proofs.Computing.{power_step}
 use Rattle.prime_field.proofs.mod_ring.ModRing.root_power.Goals as goal

@@ -1,6 +1,4 @@
-use Rattle.std.proofs.Common.{◌≡◌, ◌<◌}
-use Rattle.algebra.specs.Sums.{power}
-use Rattle.prime_field.specs.Field.{field, field_residue}
+use Rattle.prime_field.proofs.Names.{◌≡◌, ◌<◌, power, field, field_residue}
 use Rattle.prime_field.proofs.mod_ring.ModRing.root_power.Given as goal
 
 abbrev pub invariant-loop-step : goal.invariant-loop-step

@@ -1,6 +1,4 @@
-use Rattle.std.proofs.Common.{ap}
-use Rattle.std.proofs.lemmas.Bool.{eq-eqb, eqb-true}
-use Rattle.prime_field.specs.Field.{field_residue}
+use Rattle.prime_field.proofs.Names.{ap, eq-eqb, eqb-true, field_residue}
 use Rattle.prime_field.proofs.Computing.{same_residue}
 use Rattle.prime_field.proofs.mod_ring_laws.ModRingRing.same.Goals as goal
 

@@ -1,5 +1,4 @@
-use Rattle.std.proofs.Common.{arith}
-use Rattle.prime_field.specs.Laws.Moduli.{modulus_bound}
+use Rattle.prime_field.proofs.Names.{arith, modulus_bound}
 use Rattle.prime_field.proofs.Computing.{sum_residue}
 use Rattle.prime_field.proofs.mod_ring_laws.ModRingRing.try_add.Goals as goal
 
