@@ -10,3 +10,4 @@ pub mod Solved
 pub mod SquareMatrix
 pub mod Kernels
 pub mod PowerLists
+pub mod RingObject

@@ -13,7 +13,9 @@ pub(crate) fn plus_product(q: u32, a: u32, x: u32, y: u32) -> u32
     requires x_below { x < q }
     requires y_below { y < q }
     ensures sum { result ≡ (a + x * y) % q }
-    ensures residue { (listed : is_modulus q ≡ true) → result ≡ ((field q listed).add (field_residue q listed a) ((field q listed).mul (field_residue q listed x) (field_residue q listed y))).value }
+    ensures residue { (listed : is_modulus q ≡ true) → result
+        ≡ ((field q listed).add (field_residue q listed a) ((field q listed).mul (field_residue q
+        listed x) (field_residue q listed y))).value }
     ensures below { result < q }
 {
     (a + x * y) % q
@@ -39,7 +41,9 @@ pub(crate) fn dot(q: u32, x: &[u32], y: &[u32]) -> u32
     requires same_length { length x.now ≡ length y.now }
     requires x_below { AreBelow q x.now }
     requires y_below { AreBelow q y.now }
-    ensures dot { (listed : is_modulus q ≡ true) → result ≡ (dot (field q listed) (length x.now) (column_of q listed x.now) (column_of q listed y.now)).value }
+    ensures dot { (listed : is_modulus q ≡ true) → result
+        ≡ (dot (field q listed) (length x.now) (column_of q listed x.now) (column_of q listed
+        y.now)).value }
     ensures below { result < q }
 {
     let mut sum = 0;

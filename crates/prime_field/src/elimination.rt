@@ -18,15 +18,18 @@ use std::alloc::Global;
 pub(crate) fn identity(alloc: Global, w: usize) -> Result<Vec<u32>, Memory>
     requires some { 0 < w }
     requires few { w ≤ 61 }
-    ensures rows { IfOk result (λ rows. IsTabulated (w * w) (λ k. if nat_eq (k / w) (k % w) then 1 else 0) rows.items) }
+    ensures rows { IfOk result (λ rows. IsTabulated (w * w) (λ k.
+        if nat_eq (k / w) (k % w) then 1 else 0) rows.items) }
 {
     tabulate(alloc, w * w, |k| u32::from(k / w == k % w))
 }
 
 // The place of the last number that isn't 0.
 pub(crate) fn last_nonzero(numbers: &[u32]) -> Option<usize>
-    ensures last { IfSome result (λ j. (j < length numbers.now) × (slice_index numbers.now j ≢ 0) × ((k : ℕ) → j < k → k < length numbers.now → slice_index numbers.now k ≡ 0)) }
-    ensures none { IfNone result ((k : ℕ) → k < length numbers.now → slice_index numbers.now k ≡ 0) }
+    ensures last { IfSome result (λ j. (j < length numbers.now) × (slice_index numbers.now j ≢ 0)
+        × ((k : ℕ) → j < k → k < length numbers.now → slice_index numbers.now k ≡ 0)) }
+    ensures none { IfNone result ((k : ℕ) → k < length numbers.now
+        → slice_index numbers.now k ≡ 0) }
 {
     let mut last = None;
     for (i, number) in numbers.iter().enumerate() {
@@ -58,7 +61,9 @@ fn failure(q: u32, rows: &[u32], w: usize, equation: &[u32], f: usize) -> u32
     requires width { length equation.now ≡ w }
     requires equation_below { AreBelow q equation.now }
     requires f_below { f < w }
-    ensures number { (listed : is_modulus q ≡ true) → result ≡ (dot (field q listed) w (column_of q listed equation.now) (matrix_of q listed w rows.now f)).value }
+    ensures number { (listed : is_modulus q ≡ true) → result
+        ≡ (dot (field q listed) w (column_of q listed equation.now) (matrix_of q listed w rows.now
+        f)).value }
     ensures below { result < q }
 {
     let start = f * w;
@@ -79,7 +84,9 @@ fn failures(
     requires rows_below { AreBelow q rows.now }
     requires width { length equation.now ≡ w }
     requires equation_below { AreBelow q equation.now }
-    ensures numbers { (listed : is_modulus q ≡ true) → IfOk result (λ numbers. IsTabulated w (λ f. (dot (field q listed) w (column_of q listed equation.now) (matrix_of q listed w rows.now f)).value) numbers.items) }
+    ensures numbers { (listed : is_modulus q ≡ true) → IfOk result (λ numbers.
+        IsTabulated w (λ f. (dot (field q listed) w (column_of q listed equation.now) (matrix_of q
+        listed w rows.now f)).value) numbers.items) }
 {
     tabulate(alloc, w, |f| failure(q, rows, w, equation, f))
 }
@@ -102,7 +109,9 @@ fn reduced_number(
     requires j_below { j < w }
     requires c_below { c < q }
     requires k_below { k < w * w }
-    ensures number { (listed : is_modulus q ≡ true) → result ≡ minus_multiple q listed (slice_index rows.now k) (slice_index numbers.now (k / w)) c (slice_index rows.now (j * w + k % w)) }
+    ensures number { (listed : is_modulus q ≡ true) → result
+        ≡ minus_multiple q listed (slice_index rows.now k) (slice_index numbers.now (k / w)) c
+        (slice_index rows.now (j * w + k % w)) }
     ensures below { result < q }
 {
     let b = rows[j * w + k % w];
@@ -127,7 +136,9 @@ fn reduced(
     requires numbers_below { AreBelow q numbers.now }
     requires j_below { j < w }
     requires c_below { c < q }
-    ensures rows { (listed : is_modulus q ≡ true) → IfOk result (λ next. IsTabulated (w * w) (λ k. minus_multiple q listed (slice_index rows.now k) (slice_index numbers.now (k / w)) c (slice_index rows.now (j * w + k % w))) next.items) }
+    ensures rows { (listed : is_modulus q ≡ true) → IfOk result (λ next.
+        IsTabulated (w * w) (λ k. minus_multiple q listed (slice_index rows.now k) (slice_index
+        numbers.now (k / w)) c (slice_index rows.now (j * w + k % w))) next.items) }
 {
     tabulate(
         alloc,
@@ -152,7 +163,14 @@ fn restricted_by(
     requires numbers_below { AreBelow ring.now.q numbers.now }
     ensures square { IfOk result (λ next. length next.items ≡ w * w) }
     ensures below { IfOk result (λ next. AreBelow ring.now.q next.items) }
-    ensures solved { (listed : is_modulus ring.now.q ≡ true) (n : ℕ) (e : ℕ → ℕ → Below ring.now.q) (equation : List ℕ) → ((m : ℕ) → m < w → e n m ≡ column_of ring.now.q listed equation m) → IsTabulated w (λ f. (dot (field ring.now.q listed) w (column_of ring.now.q listed equation) (matrix_of ring.now.q listed w rows.now f)).value) numbers.now → IsSolved (field ring.now.q listed) n w e (matrix_of ring.now.q listed w rows.now) → IfOk result (λ next. IsSolved (field ring.now.q listed) (suc n) w e (matrix_of ring.now.q listed w next.items)) }
+    ensures solved { (listed : is_modulus ring.now.q ≡ true) (n : ℕ) (e : ℕ → ℕ
+        → Below ring.now.q) (equation : List ℕ)
+        → ((m : ℕ) → m < w → e n m ≡ column_of ring.now.q listed equation m)
+        → IsTabulated w (λ f. (dot (field ring.now.q listed) w (column_of ring.now.q listed
+        equation) (matrix_of ring.now.q listed w rows.now f)).value) numbers.now
+        → IsSolved (field ring.now.q listed) n w e (matrix_of ring.now.q listed w rows.now)
+        → IfOk result (λ next. IsSolved (field ring.now.q listed) (suc n) w e (matrix_of ring.now.q
+        listed w next.items)) }
 {
     let Some(j) = last_nonzero(numbers) else {
         let same = Vec::from_slice(alloc, rows)?;
@@ -178,7 +196,11 @@ fn restricted(
     requires equation_below { AreBelow ring.now.q equation.now }
     ensures square { IfOk result (λ next. length next.items ≡ w * w) }
     ensures below { IfOk result (λ next. AreBelow ring.now.q next.items) }
-    ensures solved { (listed : is_modulus ring.now.q ≡ true) (n : ℕ) (e : ℕ → ℕ → Below ring.now.q) → ((m : ℕ) → m < w → e n m ≡ column_of ring.now.q listed equation.now m) → IsSolved (field ring.now.q listed) n w e (matrix_of ring.now.q listed w rows.now) → IfOk result (λ next. IsSolved (field ring.now.q listed) (suc n) w e (matrix_of ring.now.q listed w next.items)) }
+    ensures solved { (listed : is_modulus ring.now.q ≡ true) (n : ℕ) (e : ℕ → ℕ → Below ring.now.q)
+        → ((m : ℕ) → m < w → e n m ≡ column_of ring.now.q listed equation.now m)
+        → IsSolved (field ring.now.q listed) n w e (matrix_of ring.now.q listed w rows.now)
+        → IfOk result (λ next. IsSolved (field ring.now.q listed) (suc n) w e (matrix_of ring.now.q
+        listed w next.items)) }
 {
     let numbers = failures(alloc, ring.q, rows, w, equation)?;
     let next = restricted_by(alloc, ring, rows, w, numbers.as_slice())?;
@@ -201,7 +223,9 @@ pub(crate) fn solutions(
     requires below { AreBelow ring.now.q equations.now }
     ensures square { IfOk result (λ rows. length rows.items ≡ w * w) }
     ensures below { IfOk result (λ rows. AreBelow ring.now.q rows.items) }
-    ensures solved { (listed : is_modulus ring.now.q ≡ true) → IfOk result (λ rows. IsSolved (field ring.now.q listed) n w (matrix_of ring.now.q listed w equations.now) (matrix_of ring.now.q listed w rows.items)) }
+    ensures solved { (listed : is_modulus ring.now.q ≡ true)
+        → IfOk result (λ rows. IsSolved (field ring.now.q listed) n w (matrix_of ring.now.q listed w
+        equations.now) (matrix_of ring.now.q listed w rows.items)) }
 {
     let mut rows = identity(alloc, w)?;
     for i in 0..n {

@@ -30,7 +30,8 @@ fn begins_at(rows: &[u32], w: u32, f: u32) -> bool
 fn beginnings(alloc: Global, rows: &[u32], w: u32) -> Result<Nats, Memory>
     requires few { w ≤ 60 }
     requires square { length rows.now ≡ w * w }
-    ensures places { IfOk result (λ places. places ≡ passing_below w (λ f. not (slice_index rows.now (f * w + f) == 0))) }
+    ensures places { IfOk result (λ places. places ≡ passing_below w (λ f.
+        not (slice_index rows.now (f * w + f) == 0))) }
 {
     Nats::passing_below(alloc, w, |f| begins_at(rows, w, f))
 }
@@ -42,7 +43,8 @@ fn gathered(alloc: Global, rows: &[u32], w: u32, places: &Nats) -> Result<Nats, 
     requires square { length rows.now ≡ w * w }
     requires few_places { length places.now ≤ w }
     requires places_below { (i : ℕ) → i < length places.now → slice_index places.now i < w }
-    ensures rows { IfOk result (λ basis. IsTabulated (length places.now * w) (λ k. slice_index rows.now (slice_index places.now (k / w) * w + k % w)) basis) }
+    ensures rows { IfOk result (λ basis. IsTabulated (length places.now * w) (λ k.
+        slice_index rows.now (slice_index places.now (k / w) * w + k % w)) basis) }
 {
     let mut basis = Nats::empty(alloc);
     for k in 0..places.len() * w {
@@ -59,7 +61,8 @@ fn kernel_of(alloc: Global, ring: &ModRing, w: u32, numbers: &[u32]) -> Result<N
     requires few { w ≤ 60 }
     requires square { length numbers.now ≡ w * w }
     requires below { AreBelow ring.now.q numbers.now }
-    ensures basis { (listed : is_modulus ring.now.q ≡ true) → IfOk result (λ basis. IsKernelBasis ring.now.q listed w numbers.now basis) }
+    ensures basis { (listed : is_modulus ring.now.q ≡ true)
+        → IfOk result (λ basis. IsKernelBasis ring.now.q listed w numbers.now basis) }
 {
     let rows = solutions(alloc, ring, w as usize, numbers, w as usize)?;
     let places = beginnings(alloc, rows.as_slice(), w)?;
@@ -72,11 +75,22 @@ fn kernel_of(alloc: Global, ring: &ModRing, w: u32, numbers: &[u32]) -> Result<N
 /// row before, and every other row has 0 at its place.
 pub fn kernel(alloc: Global, ring: &ModRing, a: &Matrix) -> Result<Nats, Memory>
     requires entries_below { HasEntriesBelow ring.now.q a.now }
-    ensures whole_rows { IfOk result (λ basis. length basis ≡ length basis / a.now.width * a.now.width) }
+    ensures whole_rows { IfOk result (λ basis. length basis
+        ≡ length basis / a.now.width * a.now.width) }
     ensures below { IfOk result (λ basis. AreBelow ring.now.q basis) }
-    ensures in_kernel { (listed : is_modulus ring.now.q ≡ true) → IfOk result (λ basis. (i : ℕ) → i < length basis / a.now.width → Solves (field ring.now.q listed) a.now.width a.now.width (matrix_of ring.now.q listed a.now.width a.now.numbers) (matrix_of ring.now.q listed a.now.width basis i)) }
-    ensures spans { (listed : is_modulus ring.now.q ≡ true) → IfOk result (λ basis. (v : ℕ → Below ring.now.q) → Solves (field ring.now.q listed) a.now.width a.now.width (matrix_of ring.now.q listed a.now.width a.now.numbers) v → (x : ℕ → Below ring.now.q) × IsCombination (field ring.now.q listed) (length basis / a.now.width) a.now.width (matrix_of ring.now.q listed a.now.width basis) x v) }
-    ensures reduced { (listed : is_modulus ring.now.q ≡ true) → IfOk result (λ basis. IsReduced (field ring.now.q listed) (length basis / a.now.width) a.now.width (matrix_of ring.now.q listed a.now.width basis)) }
+    ensures in_kernel { (listed : is_modulus ring.now.q ≡ true)
+        → IfOk result (λ basis. (i : ℕ) → i < length basis / a.now.width
+        → Solves (field ring.now.q listed) a.now.width a.now.width (matrix_of ring.now.q listed
+        a.now.width a.now.numbers) (matrix_of ring.now.q listed a.now.width basis i)) }
+    ensures spans { (listed : is_modulus ring.now.q ≡ true)
+        → IfOk result (λ basis. (v : ℕ → Below ring.now.q)
+        → Solves (field ring.now.q listed) a.now.width a.now.width (matrix_of ring.now.q listed
+        a.now.width a.now.numbers) v → (x : ℕ → Below ring.now.q)
+        × IsCombination (field ring.now.q listed) (length basis / a.now.width) a.now.width
+        (matrix_of ring.now.q listed a.now.width basis) x v) }
+    ensures reduced { (listed : is_modulus ring.now.q ≡ true)
+        → IfOk result (λ basis. IsReduced (field ring.now.q listed) (length basis / a.now.width)
+        a.now.width (matrix_of ring.now.q listed a.now.width basis)) }
 {
     let numbers = a.as_slice();
     let w = a.width();

@@ -52,7 +52,8 @@ impl Matrix {
         requires j_below { j < self.old.width }
         ensures width { self.new.width ≡ self.old.width }
         ensures written { entry self.new i j ≡ v }
-        ensures others { (k l : ℕ) → k < self.old.width → l < self.old.width → (k ≢ i) ⊎ (l ≢ j) → entry self.new k l ≡ entry self.old k l }
+        ensures others { (k l : ℕ) → k < self.old.width → l < self.old.width → (k ≢ i) ⊎ (l ≢ j)
+            → entry self.new k l ≡ entry self.old k l }
     {
         let place = (i * self.width + j) as usize;
         self.numbers[place] = v;

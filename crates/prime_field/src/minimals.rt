@@ -27,7 +27,9 @@ fn power_number(q: u32, a: &[u32], w: usize, power: &[u32], n: usize) -> u32
     requires power_square { length power.now ≡ w * w }
     requires power_below { AreBelow q power.now }
     requires n_below { n < w * w }
-    ensures number { (listed : is_modulus q ≡ true) → result ≡ (dot (field q listed) w (matrix_of q listed w a.now (n % w)) (matrix_of q listed w power.now (n / w))).value }
+    ensures number { (listed : is_modulus q ≡ true) → result
+        ≡ (dot (field q listed) w (matrix_of q listed w a.now (n % w)) (matrix_of q listed w
+        power.now (n / w))).value }
     ensures below { result < q }
 {
     let row = n % w * w;
@@ -42,7 +44,9 @@ fn next_power(alloc: Global, q: u32, a: &[u32], w: usize, power: &[u32]) -> Resu
     requires a_below { AreBelow q a.now }
     requires power_square { length power.now ≡ w * w }
     requires power_below { AreBelow q power.now }
-    ensures numbers { (listed : is_modulus q ≡ true) → IfOk result (λ next. IsTabulated (w * w) (λ n. (dot (field q listed) w (matrix_of q listed w a.now (n % w)) (matrix_of q listed w power.now (n / w))).value) next.items) }
+    ensures numbers { (listed : is_modulus q ≡ true) → IfOk result (λ next.
+        IsTabulated (w * w) (λ n. (dot (field q listed) w (matrix_of q listed w a.now (n % w))
+        (matrix_of q listed w power.now (n / w))).value) next.items) }
 {
     tabulate(alloc, w * w, |n| power_number(q, a, w, power, n))
 }
@@ -63,7 +67,10 @@ fn power_after(
     requires a_below { AreBelow q a.now }
     requires whole { length powers.now ≡ (k + 1) * (w * w) }
     requires powers_below { AreBelow q powers.now }
-    ensures numbers { (listed : is_modulus q ≡ true) → IfOk result (λ next. IsTabulated (w * w) (λ m. (dot (field q listed) w (matrix_of q listed w a.now (m % w)) (matrix_of q listed w (slice_range powers.now (k * (w * w)) (k * (w * w) + w * w)) (m / w))).value) next.items) }
+    ensures numbers { (listed : is_modulus q ≡ true) → IfOk result (λ next.
+        IsTabulated (w * w) (λ m. (dot (field q listed) w (matrix_of q listed w a.now (m % w))
+        (matrix_of q listed w (slice_range powers.now (k * (w * w)) (k * (w * w) + w * w)) (m /
+        w))).value) next.items) }
 {
     let size = w * w;
     let start = k * size;
@@ -78,7 +85,8 @@ fn powers_of(alloc: Global, q: u32, a: &[u32], w: usize) -> Result<Vec<u32>, Mem
     requires few { w ≤ 60 }
     requires square { length a.now ≡ w * w }
     requires a_below { AreBelow q a.now }
-    ensures powers { (listed : is_modulus q ≡ true) → IfOk result (λ powers. ListsPowers q listed w a.now (w + 1) powers.items) }
+    ensures powers { (listed : is_modulus q ≡ true) → IfOk result (λ powers.
+        ListsPowers q listed w a.now (w + 1) powers.items) }
 {
     let mut powers = identity(alloc, w)?;
     for k in 0..w {
@@ -106,7 +114,8 @@ fn equations_of(alloc: Global, powers: &[u32], w: usize) -> Result<Vec<u32>, Mem
     requires some { 0 < w }
     requires few { w ≤ 60 }
     requires whole { length powers.now ≡ (w + 1) * (w * w) }
-    ensures equations { IfOk result (λ equations. IsTabulated (w * w * (w + 1)) (λ m. slice_index powers.now ((w - m % (w + 1)) * (w * w) + m / (w + 1))) equations.items) }
+    ensures equations { IfOk result (λ equations. IsTabulated (w * w * (w + 1)) (λ m.
+        slice_index powers.now ((w - m % (w + 1)) * (w * w) + m / (w + 1))) equations.items) }
 {
     tabulate(alloc, w * w * (w + 1), |m| equation_number(powers, w, m))
 }
@@ -125,7 +134,8 @@ fn own_number(rows: &[u32], v: usize, f: usize) -> u32
 fn diagonal(alloc: Global, rows: &[u32], v: usize) -> Result<Vec<u32>, Memory>
     requires few { v ≤ 61 }
     requires square { length rows.now ≡ v * v }
-    ensures numbers { IfOk result (λ numbers. IsTabulated v (λ f. slice_index rows.now (f * v + f)) numbers.items) }
+    ensures numbers { IfOk result (λ numbers. IsTabulated v (λ f.
+        slice_index rows.now (f * v + f)) numbers.items) }
 {
     tabulate(alloc, v, |f| own_number(rows, v, f))
 }
@@ -135,7 +145,8 @@ fn reversed(rows: &[u32], v: usize, f: usize) -> Poly
     requires few { v ≤ 61 }
     requires square { length rows.now ≡ v * v }
     requires f_below { f < v }
-    ensures coefficients { IsTabulated (v - f) (λ k. slice_index rows.now (f * v + (v - 1 - k))) result }
+    ensures coefficients { IsTabulated (v - f) (λ k. slice_index rows.now (f * v + (v - 1 - k)))
+        result }
 {
     let mut coefficients = ArrayVec::new();
     for k in 0..v - f {
@@ -149,7 +160,9 @@ fn last_row(alloc: Global, rows: &[u32], v: usize) -> Result<Poly, Memory>
     requires some { 0 < v }
     requires few { v ≤ 61 }
     requires square { length rows.now ≡ v * v }
-    ensures row { IfOk result (λ poly. (f : ℕ) × IsLastNonzero v (λ g. slice_index rows.now (g * v + g)) f × IsTabulated (v - f) (λ k. slice_index rows.now (f * v + (v - 1 - k))) poly) }
+    ensures row { IfOk result (λ poly. (f : ℕ) × IsLastNonzero v (λ g.
+        slice_index rows.now (g * v + g)) f
+        × IsTabulated (v - f) (λ k. slice_index rows.now (f * v + (v - 1 - k))) poly) }
 {
     let own = diagonal(alloc, rows, v)?;
     match last_nonzero(own.as_slice()) {
@@ -173,7 +186,10 @@ fn annihilators(
     requires below { AreBelow ring.now.q numbers.now }
     ensures square { IfOk result (λ rows. length rows.items ≡ (w + 1) * (w + 1)) }
     ensures below { IfOk result (λ rows. AreBelow ring.now.q rows.items) }
-    ensures solved { (listed : is_modulus ring.now.q ≡ true) → IfOk result (λ rows. IsSolved (field ring.now.q listed) (w * w) (w + 1) (power_equations (field ring.now.q listed) w (matrix_of ring.now.q listed w numbers.now)) (matrix_of ring.now.q listed (w + 1) rows.items)) }
+    ensures solved { (listed : is_modulus ring.now.q ≡ true)
+        → IfOk result (λ rows. IsSolved (field ring.now.q listed) (w * w) (w + 1) (power_equations
+        (field ring.now.q listed) w (matrix_of ring.now.q listed w numbers.now)) (matrix_of
+        ring.now.q listed (w + 1) rows.items)) }
 {
     let powers = powers_of(alloc, ring.q, numbers, w)?;
     let equations = equations_of(alloc, powers.as_slice(), w)?;
@@ -189,7 +205,9 @@ fn minimal_of(alloc: Global, ring: &ModRing, w: usize, numbers: &[u32]) -> Resul
     requires square { length numbers.now ≡ w * w }
     requires below { AreBelow ring.now.q numbers.now }
     ensures below { IfOk result (λ f. AreBelow ring.now.q f) }
-    ensures minimal { (listed : is_modulus ring.now.q ≡ true) → IfOk result (λ f. IsMinimal (field ring.now.q listed) w (matrix_of ring.now.q listed w numbers.now) (length f) (column_of ring.now.q listed f)) }
+    ensures minimal { (listed : is_modulus ring.now.q ≡ true)
+        → IfOk result (λ f. IsMinimal (field ring.now.q listed) w (matrix_of ring.now.q listed w
+        numbers.now) (length f) (column_of ring.now.q listed f)) }
 {
     let rows = annihilators(alloc, ring, w, numbers)?;
     let f = last_row(alloc, rows.as_slice(), w + 1)?;
@@ -200,7 +218,9 @@ fn minimal_of(alloc: Global, ring: &ModRing, w: usize, numbers: &[u32]) -> Resul
 pub fn minimal(alloc: Global, ring: &ModRing, a: &Matrix) -> Result<Poly, Memory>
     requires entries_below { HasEntriesBelow ring.now.q a.now }
     ensures below { IfOk result (λ f. AreBelow ring.now.q f) }
-    ensures minimal { (listed : is_modulus ring.now.q ≡ true) → IfOk result (λ f. IsMinimal (field ring.now.q listed) a.now.width (matrix_of ring.now.q listed a.now.width a.now.numbers) (length f) (column_of ring.now.q listed f)) }
+    ensures minimal { (listed : is_modulus ring.now.q ≡ true)
+        → IfOk result (λ f. IsMinimal (field ring.now.q listed) a.now.width (matrix_of ring.now.q
+        listed a.now.width a.now.numbers) (length f) (column_of ring.now.q listed f)) }
 {
     let numbers = a.as_slice();
     let width = a.width();

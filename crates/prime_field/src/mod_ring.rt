@@ -105,7 +105,9 @@ impl ModRing {
 
     // The power of the root with this exponent, modulo q.
     pub(crate) fn root_power(&self, exponent: u32) -> u32
-        ensures power { field_residue self.now.q self.now.listed result ≡ power (field self.now.q self.now.listed) (field_residue self.now.q self.now.listed self.now.root) exponent }
+        ensures power { field_residue self.now.q self.now.listed result
+            ≡ power (field self.now.q self.now.listed) (field_residue self.now.q self.now.listed
+            self.now.root) exponent }
         ensures below { result < self.now.q }
     {
         let mut power = 1;

@@ -15,7 +15,8 @@ pub(crate) fn tabulate<F: Fn(usize) -> u32>(
 where
     F: Drop,
     requires callable { (i : ℕ) → i < n → F.pre at i }
-    ensures values { (value : ℕ → ℕ) → ((i r : ℕ) → i < n → F.post at i r → r ≡ value i) → IfOk result (λ numbers. IsTabulated n value numbers.items) }
+    ensures values { (value : ℕ → ℕ) → ((i r : ℕ) → i < n → F.post at i r → r ≡ value i)
+        → IfOk result (λ numbers. IsTabulated n value numbers.items) }
 {
     let mut numbers = Vec::new(alloc);
     for i in 0..n {
