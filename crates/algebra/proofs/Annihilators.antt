@@ -1,11 +1,6 @@
 -- A linear map of a module over a field that n elements span is a root of a monic polynomial of degree n.
-use Rattle.std.proofs.Common.{◌≡◌, ◌≢◌, ◌⊎◌, inl, inr, ℕ, zero, suc, ◌+◌, List, [], ◌∷◌, ◌++◌, length, length-append, refl, sym, ◌∙◌, ap, subst, arith}
-use Rattle.std.specs.Prelude.{map}
-use Rattle.std.proofs.lemmas.List.{length-map}
-use Rattle.algebra.specs.Structures.{CommRing}
-use Rattle.algebra.specs.Fields.{Field}
-use Rattle.algebra.specs.Modules.{LinearMap, horner, act, act_monic, IsStable, Reaches}
-use Rattle.algebra.proofs.RingLaws.{neg_mul, ring_rules}
+use Rattle.algebra.proofs.Names.{◌≡◌, ◌≢◌, ◌⊎◌, inl, inr, ℕ, zero, suc, ◌+◌, List, [], ◌∷◌, ◌++◌, length, length-append, refl, sym, ◌∙◌, ap, subst, arith, map, length-map, CommRing, Field, LinearMap, horner, act, act_monic, IsStable, Reaches}
+use Rattle.algebra.proofs.RingLaws.{neg_mul}
 use Rattle.algebra.proofs.FieldLaws.{decide}
 use Rattle.algebra.proofs.LinearMaps.{plus_rules, back, horner_nil, horner_cons, horner_plus, horner_scale, horner_move, act_none, monic_act, iterate, horner_split, horner_one, act_push, plus_front, length_plus_front, horner_plus_front, act_scaled, monic_times, length_monic_times, act_monic_times}
 
@@ -39,11 +34,13 @@ pub record IsKilled {A V : Type 0} {R : CommRing A} (T : LinearMap R V) (W : V �
   pub kills : (v : V) → W (act_monic T lower v)
 
 module _ {A V : Type 0} {R : CommRing A} (T : LinearMap R V) where
-  pub reach_plus : (U : V → Type 0) → IsSubspace T U → (es : List V) (u v : V) → Reaches T U es u → Reaches T U es v → Reaches T U es (T.plus u v)
+  pub reach_plus : (U : V → Type 0) → IsSubspace T U → (es : List V) (u v : V) → Reaches T U es u → Reaches T U es v
+      → Reaches T U es (T.plus u v)
   unfolding Reaches
   reach_plus U s [] u v h k = s.plus u v h k
   reach_plus U s (e ∷ es) u v (c, h) (d, k) =
-      let sum : T.plus (T.plus u (T.scale c e)) (T.plus v (T.scale d e)) ≡ T.plus (T.plus u v) (T.scale (R.add c d) e) = simp (T.add_scale, plus_rules, T) in
+      let sum : T.plus (T.plus u (T.scale c e)) (T.plus v (T.scale d e)) ≡ T.plus (T.plus u v) (T.scale (R.add c d) e) =
+      simp (T.add_scale, plus_rules, T) in
       (R.add c d, subst (Reaches T U es) sum (reach_plus U s es (T.plus u (T.scale c e)) (T.plus v (T.scale d e)) h k))
 
   pub reach_scale : (U : V → Type 0) → IsSubspace T U → (es : List V) (a : A) (v : V) → Reaches T U es v → Reaches T U es (T.scale a v)
@@ -58,7 +55,8 @@ module _ {A V : Type 0} {R : CommRing A} (T : LinearMap R V) where
   reach_weaker U W h [] v k = h v k
   reach_weaker U W h (e ∷ es) v (c, k) = (c, reach_weaker U W h es (T.plus v (T.scale c e)) k)
 
-  reach_widened : (U : V → Type 0) (x : V) (es : List V) (c : A) (v : V) → Reaches T U es (T.plus v (T.scale c x)) → Reaches T (Widened T U x) es v
+  reach_widened : (U : V → Type 0) (x : V) (es : List V) (c : A) (v : V) → Reaches T U es (T.plus v (T.scale c x))
+      → Reaches T (Widened T U x) es v
   unfolding Reaches
   reach_widened U x [] c v h = (c, h)
   reach_widened U x (e ∷ es) c v (d, h) =
@@ -72,7 +70,8 @@ module _ {A V : Type 0} {R : CommRing A} (F : Field R) (T : LinearMap R V) where
   without c d v x e h =
       let t = R.neg (R.mul d (F.inverse c)) in
       let whole : R.mul t c ≡ R.neg d =
-      neg_mul R (R.mul d (F.inverse c)) c ∙ ap R.neg (R.mul_assoc d (F.inverse c) c ∙ ap (R.mul d) (R.mul_comm (F.inverse c) c ∙ F.mul_inverse c h) ∙ R.mul_one d) in
+      neg_mul R (R.mul d (F.inverse c)) c
+      ∙ ap R.neg (R.mul_assoc d (F.inverse c) c ∙ ap (R.mul d) (R.mul_comm (F.inverse c) c ∙ F.mul_inverse c h) ∙ R.mul_one d) in
       let opened : T.plus (T.plus v (T.scale d e)) (T.scale t (T.plus x (T.scale c e))) ≡ T.plus (T.plus (T.plus v (T.scale t x)) (T.scale d e)) (T.scale (R.neg d) e) =
       simp (T.scale_plus, ← T.mul_scale, whole, plus_rules, T) in
       opened ∙ back T d (T.plus v (T.scale t x)) e
@@ -122,7 +121,8 @@ module _ {A V : Type 0} {R : CommRing A} (T : LinearMap R V) (W : V → Type 0) 
       let inner : W (act T f (act_monic T q v)) = horner_within f (act_monic T q v) T.none own stable.none in
       let whole : W (act_monic T q (T.plus u (act T f v))) = horner_within q (T.plus u (act T f v)) (T.plus u (act T f v)) h h in
       let other : V = act T f (act_monic T q v) in
-      let split : act_monic T q (T.plus u (act T f v)) ≡ T.plus (act_monic T q u) (T.scale R.one other) = simp (horner_plus, monic_act, T.one_scale) in
+      let split : act_monic T q (T.plus u (act T f v)) ≡ T.plus (act_monic T q u) (T.scale R.one other) =
+      simp (horner_plus, monic_act, T.one_scale) in
       subst W (ap (λ z. T.plus z (T.scale (R.neg R.one) other)) split ∙ back T R.one (act_monic T q u) other)
       (stable.plus (act_monic T q (T.plus u (act T f v))) (T.scale (R.neg R.one) other) whole (stable.scale (R.neg R.one) other inner))
 
@@ -133,13 +133,15 @@ module _ {A V : Type 0} {R : CommRing A} (T : LinearMap R V) (W : V → Type 0) 
         simp (horner_plus_front T f g v T.none (omega arith), plus_rules, T) in
         (plus_front T f g, length_plus_front T f g ∙ size', subst W sum (stable.plus (T.plus x (act T f v)) (T.plus y (act T g v)) h l));
     scale = λ c x (f, size, h).
-        let product : T.scale c (T.plus x (act T f v)) ≡ T.plus (T.scale c x) (act T (map (R.mul c) f) v) = simp (T.scale_plus, act_scaled) in
+        let product : T.scale c (T.plus x (act T f v)) ≡ T.plus (T.scale c x) (act T (map (R.mul c) f) v) =
+        simp (T.scale_plus, act_scaled) in
         (map (R.mul c) f, length-map f (R.mul c) ∙ size, subst W product (stable.scale c (T.plus x (act T f v)) h));
   }
 
   krylov_next : (v : V) (k : ℕ) (u : V) → Widened T (Krylov T W v k) (iterate T k v) u → Krylov T W v (suc k) u
   krylov_next v k u (c, (f, size, h)) =
-      let longer : T.plus (T.plus u (T.scale c (iterate T k v))) (act T f v) ≡ T.plus u (act T (f ++ c ∷ []) v) = simp (act_push, size, T.plus_assoc) in
+      let longer : T.plus (T.plus u (T.scale c (iterate T k v))) (act T f v) ≡ T.plus u (act T (f ++ c ∷ []) v) =
+      simp (act_push, size, T.plus_assoc) in
       (f ++ c ∷ [], omega (arith, length-append f (c ∷ [])), subst W longer h)
 
   widened_krylov : (e u : V) → Widened T W e u → Krylov T W e 1 u
@@ -149,7 +151,8 @@ module _ {A V : Type 0} {R : CommRing A} (T : LinearMap R V) (W : V → Type 0) 
   own_power q v k size h = subst W (ap (λ i. T.plus (iterate T i v) (act T q v)) (sym size) ∙ sym (horner_split T q v v)) h
 
 module _ {A V : Type 0} {R : CommRing A} (F : Field R) (T : LinearMap R V) where
-  killed_from : (n : ℕ) (W : V → Type 0) → IsStable T W → (v : V) (k : ℕ) (es : List V) → length es ≡ n → ((u : V) → Reaches T (Krylov T W v k) es u) → IsKilled T W (k + n)
+  killed_from : (n : ℕ) (W : V → Type 0) → IsStable T W → (v : V) (k : ℕ) (es : List V) → length es ≡ n
+      → ((u : V) → Reaches T (Krylov T W v k) es u) → IsKilled T W (k + n)
   unfolding Reaches
   killed_from zero W stable v k (e ∷ es) size all = absurd (omega arith)
   killed_from zero W stable v k [] size all =
@@ -167,12 +170,14 @@ module _ {A V : Type 0} {R : CommRing A} (F : Field R) (T : LinearMap R V) where
             let kills : W (act_monic T own.0 v) = own_power T W stable own.0 v k own.1 own.2 in
             let later : IsKilled T (Kills T W own.0) (1 + n) =
             killed_from n (Kills T W own.0) (kills_stable T W stable own.0) e 1 es (omega arith) (λ u.
-            let reached : Reaches T (Kills T W own.0) (e ∷ es) u = reach_weaker T (Krylov T W v k) (Kills T W own.0) (krylov_kills T W stable own.0 v k kills) (e ∷ es) u (all u) in
+            let reached : Reaches T (Kills T W own.0) (e ∷ es) u =
+            reach_weaker T (Krylov T W v k) (Kills T W own.0) (krylov_kills T W stable own.0 v k kills) (e ∷ es) u (all u) in
             reach_weaker T (Widened T (Kills T W own.0) e) (Krylov T (Kills T W own.0) e 1) (widened_krylov T (Kills T W own.0) (kills_stable T W stable own.0) e) es u
             (reach_widened T (Kills T W own.0) e es reached.0 u reached.1)) in
             record {
               lower = monic_times T own.0 later.lower;
-              degree = (let a : length own.0 ≡ k = own.1 in let b : length later.lower ≡ 1 + n = later.degree in omega (arith, length_monic_times T own.0 later.lower));
+              degree =
+                  (let a : length own.0 ≡ k = own.1 in let b : length later.lower ≡ 1 + n = later.degree in omega (arith, length_monic_times T own.0 later.lower));
               kills = λ u. subst W (sym (act_monic_times T own.0 later.lower u)) (later.kills u);
             }
         | inr other ↦
@@ -184,6 +189,8 @@ module _ {A V : Type 0} {R : CommRing A} (F : Field R) (T : LinearMap R V) where
   -- where n elements reach everything from a stable part, a monic polynomial of degree n takes everything into it
   pub killed : (W : V → Type 0) → IsStable T W → (es : List V) → ((u : V) → Reaches T W es u) → IsKilled T W (length es)
   killed W stable es all =
-      let start : (u : V) → W u → Krylov T W T.none 0 u = λ u h. ([], refl, subst W (sym (ap (T.plus u) (horner_nil T T.none T.none) ∙ T.plus_none u)) h) in
-      let result : IsKilled T W (0 + length es) = killed_from (length es) W stable T.none 0 es refl (λ u. reach_weaker T W (Krylov T W T.none 0) start es u (all u)) in
+      let start : (u : V) → W u → Krylov T W T.none 0 u =
+      λ u h. ([], refl, subst W (sym (ap (T.plus u) (horner_nil T T.none T.none) ∙ T.plus_none u)) h) in
+      let result : IsKilled T W (0 + length es) =
+      killed_from (length es) W stable T.none 0 es refl (λ u. reach_weaker T W (Krylov T W T.none 0) start es u (all u)) in
       record { lower = result.lower; degree = (let b : length result.lower ≡ 0 + length es = result.degree in omega arith); kills = result.kills }

@@ -1,11 +1,5 @@
 -- The numbers below n as a finite type and, under the laws of a group, as a group.
-use Rattle.std.proofs.Common.{◌≡◌, ℕ, ◌%◌, ◌<◌, ap}
-use Rattle.std.proofs.Math.Nat.{mod-lt, mod-eq_of_lt}
-use Rattle.algebra.specs.Structures.{CommRing}
-use Rattle.algebra.specs.Sums.{sum_below}
-use Rattle.algebra.specs.Totals.{Finite, total}
-use Rattle.algebra.specs.Groups.{Group}
-use Rattle.algebra.specs.Below.{Below, IsGroupBelow, below_equal}
+use Rattle.algebra.proofs.Names.{◌≡◌, ℕ, ◌%◌, ◌<◌, ap, mod-lt, mod-eq_of_lt, CommRing, sum_below, Finite, total, Group, Below, IsGroupBelow, below_equal}
 use Rattle.algebra.proofs.SumLaws.{sum_ext}
 
 -- the numbers below n are numbered by themselves

@@ -1,12 +1,5 @@
 -- Columns over a commutative ring, as a module with the linear map "times a".
-use Rattle.std.proofs.Common.{◌≡◌, inl, inr, ℕ, zero, suc, ◌<◌, ◌≤◌, List, [], ◌∷◌, length, refl, sym, ◌∙◌, ap, arith}
-use Rattle.std.specs.Prelude.{nat_eq}
-use Rattle.std.proofs.lemmas.Bool.{cases_eq, eq-eqb, ne_eqb}
-use mathlib.Core.Path.{ap₂, fun_ext}
-use Rattle.algebra.specs.Structures.{CommRing}
-use Rattle.algebra.specs.Sums.{sum_below, pick}
-use Rattle.algebra.specs.Matrices.{dot}
-use Rattle.algebra.specs.Modules.{LinearMap, IsStable, Reaches}
+use Rattle.algebra.proofs.Names.{◌≡◌, inl, inr, ℕ, zero, suc, ◌<◌, ◌≤◌, List, [], ◌∷◌, length, refl, sym, ◌∙◌, ap, arith, nat_eq, cases_eq, eq-eqb, ne_eqb, ap₂, fun_ext, CommRing, sum_below, pick, dot, LinearMap, IsStable, Reaches}
 use Rattle.algebra.proofs.RingLaws.{mul_nought, nought_mul, one_mul, add_mul, mul_left_comm}
 use Rattle.algebra.proofs.SumLaws.{sum_ext, sum_nought, sum_add, mul_sum, pick_of, pick_off}
 
@@ -20,7 +13,8 @@ module _ {A : Type 0} (R : CommRing A) where
 
   pub dot_scale : (w : ℕ) (x : ℕ → A) (c : A) (v : ℕ → A) → dot R w x (λ i. R.mul c (v i)) ≡ R.mul c (dot R w x v)
   dot_scale w x c v =
-      dot_is w x (λ i. R.mul c (v i)) ∙ sum_ext R w (λ j. R.mul (x j) (R.mul c (v j))) (λ j. R.mul c (R.mul (x j) (v j))) (λ j h. mul_left_comm R (x j) c (v j))
+      dot_is w x (λ i. R.mul c (v i))
+      ∙ sum_ext R w (λ j. R.mul (x j) (R.mul c (v j))) (λ j. R.mul c (R.mul (x j) (v j))) (λ j h. mul_left_comm R (x j) c (v j))
       ∙ sym (mul_sum R w c (λ j. R.mul (x j) (v j))) ∙ ap (R.mul c) (sym (dot_is w x v))
 
   -- columns, with "times a"
@@ -52,7 +46,8 @@ module _ {A : Type 0} (R : CommRing A) where
     plus = λ u v h k i l. ap₂ R.add (h i l) (k i l) ∙ R.add_nought R.nought;
     scale = λ c v h i l. ap (R.mul c) (h i l) ∙ mul_nought R c;
     move = λ v h i l.
-        dot_is w (a i) v ∙ sum_ext R w (λ j. R.mul (a i j) (v j)) (λ j. R.nought) (λ j k. ap (R.mul (a i j)) (h j k) ∙ mul_nought R (a i j)) ∙ sum_nought R w;
+        dot_is w (a i) v ∙ sum_ext R w (λ j. R.mul (a i j) (v j)) (λ j. R.nought) (λ j k. ap (R.mul (a i j)) (h j k) ∙ mul_nought R (a i j))
+        ∙ sum_nought R w;
   }
 
   abbrev unit : ℕ → ℕ → A

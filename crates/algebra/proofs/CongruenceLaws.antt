@@ -1,8 +1,5 @@
 -- Congruences are added, turned round and cancelled.
-use Rattle.std.proofs.Common.{◌≡◌, ℕ, zero, suc, ◌+◌, ◌*◌, ◌%◌, ◌<◌, refl, sym, ◌∙◌, ap, arith}
-use Rattle.std.proofs.Math.Nat.{mod-add-mod, add-mod-mod, add-mul-mod_self_right, mod-eq_of_lt, mod-mod}
-use Rattle.std.proofs.lemmas.Nat.{mul-mod_second, mul-mod_first}
-use Rattle.algebra.specs.Congruences.{Same}
+use Rattle.algebra.proofs.Names.{◌≡◌, ℕ, zero, suc, ◌+◌, ◌*◌, ◌%◌, ◌<◌, refl, sym, ◌∙◌, ap, arith, mod-add-mod, add-mod-mod, add-mul-mod_self_right, mod-eq_of_lt, mod-mod, mul-mod_second, mul-mod_first, Same}
 
 pub same_refl : (n a : ℕ) → Same n a a
 same_refl n a = record { same = refl }
@@ -39,9 +36,6 @@ same_mul_left {n} {a} {b} c h = record { same = sym (mul-mod_second c a n) ∙ a
 
 pub same_mul_right : {n a b : ℕ} (c : ℕ) → Same n a b → Same n (a * c) (b * c)
 same_mul_right {n} {a} {b} c h = record { same = sym (mul-mod_first a c n) ∙ ap (λ x. (x * c) % n) h.same ∙ mul-mod_first b c n }
-
-pub same_mul : {n a b c d : ℕ} → Same n a b → Same n c d → Same n (a * c) (b * d)
-same_mul {n} {a} {b} {c} {d} h k = same_trans (same_mul_right c h) (same_mul_left b k)
 
 -- multiples of n may be left out
 pub same_add_multiple : (n a k : ℕ) → Same n (a + k * n) a

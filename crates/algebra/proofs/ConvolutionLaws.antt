@@ -1,10 +1,5 @@
 -- The twisted convolution is associative, by the 2-cocycle law.
-use Rattle.std.proofs.Common.{◌≡◌, ℕ, ◌+◌, refl, sym, ◌∙◌, ap}
-use Rattle.algebra.specs.Structures.{CommRing}
-use Rattle.algebra.specs.Totals.{Finite, total}
-use Rattle.algebra.specs.Groups.{Group}
-use Rattle.algebra.specs.Roots.{Roots}
-use Rattle.algebra.specs.Convolution.{IsTwoCocycle, twisted_convolution}
+use Rattle.algebra.proofs.Names.{◌≡◌, ℕ, ◌+◌, refl, sym, ◌∙◌, ap, CommRing, Finite, total, Group, Roots, IsTwoCocycle, twisted_convolution}
 use Rattle.algebra.proofs.RingLaws.{product_rules}
 use Rattle.algebra.proofs.TotalLaws.{total_ext, mul_total, total_mul, total_exchange, total_reindex}
 use Rattle.algebra.proofs.GroupLaws.{inv_op_op, op_inv_op, group_rules}

@@ -1,11 +1,5 @@
 -- In a module over a field that n elements span, n + 1 elements are dependent (Steinitz 1913).
-use Rattle.std.proofs.Common.{◌≡◌, ◌≢◌, inl, inr, ℕ, zero, suc, ◌<◌, Bool, true, false, cond, List, [], ◌∷◌, length, refl, sym, ◌∙◌, ap, subst, arith}
-use Rattle.std.specs.Prelude.{nat_eq}
-use Rattle.std.proofs.lemmas.Bool.{eq-eqb, ne_eqb}
-use mathlib.Core.Path.{ap₂}
-use Rattle.algebra.specs.Structures.{CommRing}
-use Rattle.algebra.specs.Fields.{Field}
-use Rattle.algebra.specs.Modules.{LinearMap, Reaches}
+use Rattle.algebra.proofs.Names.{◌≡◌, ◌≢◌, inl, inr, ℕ, zero, suc, ◌<◌, cond, List, [], ◌∷◌, length, refl, sym, ◌∙◌, ap, subst, arith, nat_eq, eq-eqb, ne_eqb, ap₂, CommRing, Field, LinearMap, Reaches}
 use Rattle.algebra.proofs.LinearMaps.{none_plus}
 use Rattle.algebra.proofs.Annihilators.{IsSubspace, Widened, reach_plus, reach_scale, exchange}
 
@@ -31,14 +25,16 @@ module _ {A V : Type 0} {R : CommRing A} (T : LinearMap R V) where
   combination_ext : (n : ℕ) (c d : ℕ → A) (x : ℕ → V) → ((i : ℕ) → i < n → c i ≡ d i) → combination n c x ≡ combination n d x
   unfolding combination
   combination_ext zero c d x h = refl
-  combination_ext (suc n) c d x h = ap₂ T.plus (combination_ext n c d x (λ i k. h i (omega arith))) (ap (λ z. T.scale z (x n)) (h n (omega arith)))
+  combination_ext (suc n) c d x h =
+      ap₂ T.plus (combination_ext n c d x (λ i k. h i (omega arith))) (ap (λ z. T.scale z (x n)) (h n (omega arith)))
 
   combination_none : (n : ℕ) (x : ℕ → V) → combination n (λ i. R.nought) x ≡ T.none
   unfolding combination
   combination_none zero x = refl
   combination_none (suc n) x = ap₂ T.plus (combination_none n x) (T.nought_scale (x n)) ∙ T.plus_none T.none
 
-  combination_put : (n : ℕ) (c : ℕ → A) (d : A) (x : ℕ → V) → combination (suc n) (put n c d) x ≡ T.plus (combination n c x) (T.scale d (x n))
+  combination_put : (n : ℕ) (c : ℕ → A) (d : A) (x : ℕ → V)
+      → combination (suc n) (put n c d) x ≡ T.plus (combination n c x) (T.scale d (x n))
   unfolding combination
   combination_put n c d x = ap₂ T.plus (combination_ext n (put n c d) c x (put_below n c d)) (ap (λ z. T.scale z (x n)) (put_here n c d))
 
@@ -66,7 +62,8 @@ module _ {A V : Type 0} {R : CommRing A} (F : Field R) (T : LinearMap R V) where
   }
 
   -- where n elements reach everything from the part, some combination of n + 1 elements lies in it
-  pub relation : (n : ℕ) (U : V → Type 0) → IsSubspace T U → (es : List V) → length es ≡ n → ((v : V) → Reaches T U es v) → (x : ℕ → V) → HasRelation T U n x
+  pub relation : (n : ℕ) (U : V → Type 0) → IsSubspace T U → (es : List V) → length es ≡ n → ((v : V) → Reaches T U es v) → (x : ℕ → V)
+      → HasRelation T U n x
   unfolding Reaches
   relation zero U s (e ∷ es) size all x = absurd (omega arith)
   relation zero U s [] size all x = own_relation zero U x (all (x zero))

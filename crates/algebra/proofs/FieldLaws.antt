@@ -1,8 +1,6 @@
 -- Laws that follow from those of a field.
-use Rattle.std.proofs.Common.{◌≡◌, ◌≢◌, ◌⊎◌, inl, inr, Bool, true, false, refl, sym, ◌∙◌, ap}
-use Rattle.algebra.specs.Structures.{CommRing}
+use Rattle.algebra.proofs.Names.{◌≡◌, ◌≢◌, ◌⊎◌, inl, inr, Bool, true, false, refl, sym, ◌∙◌, ap, CommRing, Field}
 use Rattle.algebra.proofs.RingLaws.{mul_nought, one_mul}
-use Rattle.algebra.specs.Fields.{Field}
 
 module _ {A : Type 0} (R : CommRing A) where
   -- x - y is nought only for equal x and y

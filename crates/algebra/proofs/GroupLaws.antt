@@ -1,6 +1,5 @@
 -- Laws that follow from those of a group, and of x^-1 g x.
-use Rattle.std.proofs.Common.{◌≡◌, refl, sym, ◌∙◌, ap}
-use Rattle.algebra.specs.Groups.{Group, conj}
+use Rattle.algebra.proofs.Names.{◌≡◌, refl, sym, ◌∙◌, ap, Group, conj}
 
 module _ {G : Type 0} (P : Group G) where
   pub op_assoc : (x y z : G) → P.op (P.op x y) z ≡ P.op x (P.op y z)

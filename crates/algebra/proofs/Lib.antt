@@ -1,3 +1,4 @@
+pub mod Names
 pub mod RingLaws
 pub mod SumLaws
 pub mod TotalLaws
@@ -13,3 +14,4 @@ pub mod LinearMaps
 pub mod Annihilators
 pub mod Columns
 pub mod Dependence
+pub mod Eigenvectors

@@ -1,9 +1,5 @@
 -- Laws of linear maps of a module, and of the polynomials that act on it.
-use Rattle.std.proofs.Common.{◌≡◌, ℕ, zero, suc, ◌+◌, ◌≤◌, List, [], ◌∷◌, ◌++◌, length, length-append, refl, sym, ◌∙◌, ap, arith}
-use Rattle.std.specs.Prelude.{map}
-use Rattle.std.proofs.lemmas.List.{length-map}
-use Rattle.algebra.specs.Structures.{CommRing}
-use Rattle.algebra.specs.Modules.{LinearMap, horner, act, act_monic}
+use Rattle.algebra.proofs.Names.{◌≡◌, ℕ, zero, suc, ◌+◌, ◌≤◌, List, [], ◌∷◌, ◌++◌, length, length-append, refl, sym, ◌∙◌, ap, arith, map, length-map, CommRing, LinearMap, horner, act, act_monic}
 use Rattle.algebra.proofs.RingLaws.{mul_nought}
 
 module _ {A V : Type 0} {R : CommRing A} (T : LinearMap R V) where

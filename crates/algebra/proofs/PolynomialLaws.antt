@@ -1,7 +1,5 @@
 -- Values of polynomials, and roots split off.
-use Rattle.std.proofs.Common.{◌≡◌, suc, List, [], ◌∷◌, length, refl, sym, ◌∙◌, ap}
-use Rattle.algebra.specs.Structures.{CommRing}
-use Rattle.algebra.specs.Polynomials.{value, AllNought, quotient}
+use Rattle.algebra.proofs.Names.{◌≡◌, suc, List, [], ◌∷◌, length, refl, sym, ◌∙◌, ap, CommRing, value, AllNought, quotient}
 use Rattle.algebra.proofs.RingLaws.{ring_rules, mul_nought}
 
 module _ {A : Type 0} (R : CommRing A) where
@@ -23,7 +21,8 @@ module _ {A : Type 0} (R : CommRing A) where
   division_step x a c u v b h = ap (λ z. R.mul x (R.add c z)) h ∙ simp (ring_rules, R)
 
   -- x f(x) = (x - a) q(x) + a f(a)
-  pub division : (f : List A) (a x : A) → R.mul x (value R f x) ≡ R.add (R.mul (R.add x (R.neg a)) (value R (quotient R f a) x)) (R.mul a (value R f a))
+  pub division : (f : List A) (a x : A)
+      → R.mul x (value R f x) ≡ R.add (R.mul (R.add x (R.neg a)) (value R (quotient R f a) x)) (R.mul a (value R f a))
   unfolding quotient
   division [] a x = simp (value_nil, ring_rules, R)
   division (c ∷ f) a x =

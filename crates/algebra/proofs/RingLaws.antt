@@ -1,7 +1,5 @@
 -- Laws that follow from those of a commutative ring, and sets of them for `simp`.
-use Rattle.std.proofs.Common.{◌≡◌, sym, ◌∙◌, ap}
-use mathlib.Core.Path.{ap₂}
-use Rattle.algebra.specs.Structures.{CommRing}
+use Rattle.algebra.proofs.Names.{◌≡◌, sym, ◌∙◌, ap, ap₂, CommRing}
 
 module _ {A : Type 0} (R : CommRing A) where
   pub add_assoc : (x y z : A) → R.add (R.add x y) z ≡ R.add x (R.add y z)

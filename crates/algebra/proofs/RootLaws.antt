@@ -1,10 +1,5 @@
 -- An element whose n-th power is one gives roots with exponents modulo n.
-use Rattle.std.proofs.Common.{◌≡◌, ◌≢◌, ℕ, zero, suc, ◌*◌, ◌/◌, ◌%◌, sym, ◌∙◌, ap}
-use Rattle.std.proofs.Math.Nat.{zero-mul, suc-mul, div-add-mod}
-use Rattle.algebra.specs.Structures.{CommRing}
-use Rattle.algebra.specs.Sums.{power}
-use Rattle.algebra.specs.Congruences.{Same}
-use Rattle.algebra.specs.Roots.{Roots, RootOfUnity}
+use Rattle.algebra.proofs.Names.{◌≡◌, ◌≢◌, ℕ, zero, suc, ◌*◌, ◌/◌, ◌%◌, sym, ◌∙◌, ap, zero-mul, suc-mul, div-add-mod, CommRing, power, Same, Roots, RootOfUnity}
 use Rattle.algebra.proofs.RingLaws.{one_mul, nought_mul}
 use Rattle.algebra.proofs.SumLaws.{sum_constant, sum_ext, sum_mul, power_zero, power_add, power_mul, one_power}
 
@@ -30,10 +25,6 @@ module _ {A : Type 0} (R : CommRing A) (m k : ℕ) {n : ℕ} (u : RootOfUnity R 
 
   abbrev pub roots_of_unit : Roots R m
   roots_of_unit = roots_of_power R (power R u.root k) m divided_cycle
-
-  -- the root with exponent v modulo m is the power k v of z
-  pub root_exponent : (v : ℕ) → roots_of_unit.root v ≡ power R u.root (k * v)
-  root_exponent v = sym (power_mul R u.root k v)
 
 -- what a power of z other than 1 leaves as it is, is nought
 module _ {A : Type 0} (R : CommRing A) {n : ℕ} (u : RootOfUnity R n) (e : ℕ) (apart : e % n ≢ 0) (x : A) (fixed : R.mul (power R u.root e) x ≡ x) where

@@ -1,15 +1,5 @@
 -- Laws of finite sums, picks, multiples and powers in a commutative ring.
-use Rattle.std.proofs.Common.{◌≡◌, ℕ, zero, suc, ◌<◌, ◌≤◌, inl, inr, Bool, true, false, refl, sym, ◌∙◌, ap, arith}
-use Rattle.std.proofs.Common.{◌+◌, ◌*◌, eqb-true, List, [], ◌∷◌, ◌++◌}
-use Rattle.std.specs.Prelude.{map}
-use Rattle.std.specs.List.{range_with_len}
-use Rattle.std.proofs.Math.Numerals.{add-one}
-use Rattle.std.proofs.Math.Nat.{add-zero, add-suc, suc-add, zero-mul, suc-mul, mul-zero, mul-suc}
-use Rattle.std.proofs.Math.Dec.{eqb}
-use Rattle.std.proofs.lemmas.Bool.{eq-eqb, ne_eqb, cases_eq}
-use Rattle.std.specs.Prelude.{◌&&◌, not}
-use Rattle.algebra.specs.Structures.{CommRing}
-use Rattle.algebra.specs.Sums.{sum_below, pick, multiple, power, sum_list}
+use Rattle.algebra.proofs.Names.{◌≡◌, ℕ, zero, suc, ◌<◌, ◌≤◌, inl, inr, Bool, true, false, refl, sym, ◌∙◌, ap, arith, ◌+◌, ◌*◌, eqb-true, List, [], ◌∷◌, ◌++◌, map, range_with_len, add-one, add-zero, add-suc, suc-add, zero-mul, suc-mul, mul-zero, mul-suc, eqb, eq-eqb, ne_eqb, cases_eq, ◌&&◌, CommRing, sum_below, pick, multiple, power, sum_list}
 use Rattle.algebra.proofs.RingLaws.{nought_add, mul_add, add_mul, mul_nought, nought_mul, one_mul, neg_add, neg_nought, sum_rules, product_rules, add_fixed}
 
 -- the recursions of the definitions
@@ -63,14 +53,6 @@ module _ {A : Type 0} (R : CommRing A) where
   pick_nought true = pick_true R R.nought
   pick_nought false = pick_false R R.nought
 
-  pub pick_add : (b : Bool) (x y : A) → pick R b (R.add x y) ≡ R.add (pick R b x) (pick R b y)
-  pick_add true x y = simp pick_true
-  pick_add false x y = simp (pick_false, R.add_nought)
-
-  pub pick_neg : (b : Bool) (x : A) → pick R b (R.neg x) ≡ R.neg (pick R b x)
-  pick_neg true x = simp pick_true
-  pick_neg false x = simp (pick_false, neg_nought)
-
   pub mul_pick : (b : Bool) (c x : A) → R.mul c (pick R b x) ≡ pick R b (R.mul c x)
   mul_pick true c x = simp pick_true
   mul_pick false c x = simp (pick_false, mul_nought)
@@ -93,10 +75,6 @@ module _ {A : Type 0} (R : CommRing A) where
   pick_same false false x p q = refl
   pick_same true false x p q = ap (λ b. pick R b x) (sym (p refl))
   pick_same false true x p q = ap (λ b. pick R b x) (q refl)
-
-  -- pick by a test is the product with the picked one
-  pub pick_is_mul : (b : Bool) (x : A) → pick R b x ≡ R.mul (pick R b R.one) x
-  pick_is_mul b x = simp (pick_mul, one_mul)
 
 -- sums over the numbers below n
 module _ {A : Type 0} (R : CommRing A) where
@@ -264,12 +242,6 @@ module _ {A : Type 0} (R : CommRing A) where
   sum_list_range a (suc n) f =
       sum_list_cons R (f a) (map f (range_with_len (a + 1) n)) ∙ ap (λ s. R.add (f a) s) (sum_list_range (a + 1) n f)
       ∙ sym (sum_first n (λ i. f (a + i)) ∙ simp (add-zero, add-suc, add-one, suc-add))
-
--- a value in two parts, by a test
-module _ {A : Type 0} (R : CommRing A) where
-  pub pick_not : (b : Bool) (x : A) → R.add (pick R b x) (pick R (not b) x) ≡ x
-  pick_not true x = simp (pick_true, pick_false, R.add_nought)
-  pick_not false x = simp (pick_true, pick_false, nought_add)
 
 -- a map that respects sums goes through sums and picks
 module _ {A B : Type 0} (R : CommRing A) (S : CommRing B) (h : A → B) (respects : (x y : A) → h (R.add x y) ≡ S.add (h x) (h y)) where

@@ -1,12 +1,6 @@
 -- Laws of sums over a finite type.
-use Rattle.std.proofs.Common.{◌≡◌, Bool, true, false, refl, sym, ◌∙◌, ap}
-use Rattle.std.proofs.Math.Dec.{eqb}
-use Rattle.std.proofs.lemmas.Bool.{eq-eqb, eqb-true}
-use mathlib.Core.Path.{fun_ext}
-use Rattle.algebra.specs.Structures.{CommRing}
-use Rattle.algebra.specs.Sums.{sum_below, pick, multiple}
-use Rattle.algebra.specs.Totals.{Finite, equals, total}
-use Rattle.algebra.proofs.SumLaws.{sum_map, sum_ext, sum_nought, sum_add, sum_neg, mul_sum, sum_mul, pick_sum, sum_exchange, sum_constant, sum_pick}
+use Rattle.algebra.proofs.Names.{◌≡◌, Bool, true, false, refl, sym, ◌∙◌, ap, eqb, eq-eqb, eqb-true, fun_ext, CommRing, sum_below, pick, multiple, Finite, equals, total}
+use Rattle.algebra.proofs.SumLaws.{sum_map, sum_ext, sum_nought, sum_add, mul_sum, sum_mul, pick_sum, sum_exchange, sum_constant, sum_pick}
 
 -- equality of elements as a test
 module _ {G : Type 0} (F : Finite G) where
@@ -23,9 +17,6 @@ module _ {G : Type 0} (F : Finite G) where
 
   pub equals_of : (x y : G) → x ≡ y → equals F x y ≡ true
   equals_of x y h = equals_index x y ∙ eq-eqb (F.index x) (F.index y) (ap F.index h)
-
-  pub equals_self : (x : G) → equals F x x ≡ true
-  equals_self x = equals_of x x refl
 
   pub equals_false : (x y : G) → (x ≡ y → ⊥) → equals F x y ≡ false
   equals_false x y h = not_true (equals F x y) (λ e. h (equals_true x y e))
@@ -58,10 +49,6 @@ module _ {A G : Type 0} (R : CommRing A) (F : Finite G) where
   pub total_add : (f g : G → A) → total R F (λ x. R.add (f x) (g x)) ≡ R.add (total R F f) (total R F g)
   unfolding total
   total_add f g = sum_add R F.size (λ i. f (F.at i)) (λ i. g (F.at i))
-
-  pub total_neg : (f : G → A) → total R F (λ x. R.neg (f x)) ≡ R.neg (total R F f)
-  unfolding total
-  total_neg f = sum_neg R F.size (λ i. f (F.at i))
 
   pub mul_total : (c : A) (f : G → A) → R.mul c (total R F f) ≡ total R F (λ x. R.mul c (f x))
   unfolding total
@@ -101,12 +88,6 @@ module _ {A G H : Type 0} (R : CommRing A) (F : Finite G) (E : Finite H) where
       ∙ total_ext R E (λ y. total R F (λ x. pick R (equals E y (p x)) (f y))) f
       (λ y. total_ext R F (λ x. pick R (equals E y (p x)) (f y)) (λ x. pick R (equals F x (q y)) (f y)) (λ x. ap (λ b. pick R b (f y)) (equals_along F E p q qp pq x y))
       ∙ total_pick R F (q y) (λ x. f y))
-
-  -- a total grouped by the values of a map
-  pub total_fibres : (p : G → H) (f : G → A) → total R F f ≡ total R E (λ y. total R F (λ x. pick R (equals E y (p x)) (f x)))
-  total_fibres p f =
-      total_ext R F f (λ x. total R E (λ y. pick R (equals E y (p x)) (f x))) (λ x. sym (total_pick R E (p x) (λ y. f x)))
-      ∙ total_exchange (λ x y. pick R (equals E y (p x)) (f x))
 
 -- a map that respects sums goes through totals
 module _ {A B G : Type 0} (R : CommRing A) (S : CommRing B) (F : Finite G) (h : A → B) (respects : (x y : A) → h (R.add x y) ≡ S.add (h x) (h y)) where

@@ -11,5 +11,6 @@ pub mod Theorems
 pub mod Involutions
 pub mod Fields
 pub mod Modules
+pub mod MinimalPolynomials
 pub mod Polynomials
 pub mod Matrices

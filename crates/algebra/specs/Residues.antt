@@ -62,11 +62,3 @@ residue_group n positive = record {
   op_unit = λ x. below_equal _ _ (residue_add_nought n x.value x.below);
   op_inv = λ x. below_equal _ _ (residue_add_neg n x.value x.below);
 }
-
--- congruent numbers have one residue
-pub residue_equal : (n : ℕ) (positive : 0 < n) (a b : ℕ) → a % n ≡ b % n → residue n positive a ≡ residue n positive b
-residue_equal n positive a b h = below_equal _ _ h
-
--- a residue is that of its number
-pub residue_value : (n : ℕ) (positive : 0 < n) (x : Below n) → residue n positive x.value ≡ x
-residue_value n positive x = below_equal _ _ (mod-eq_of_lt x.below)
