@@ -1,5 +1,5 @@
-"""The independent program as a function. It keeps what it found of a document, as it was read, and of a table of rows, since most documents
-of `tests/storm` differ from others in comments and blanks, or in the rows of one class alone."""
+"""The independent program as a function. It keeps what it found of words without a document, of a document, as it was read, and of a table
+of rows, since many documents of `tests/storm` differ from others in comments and blanks, or in the rows of one class alone."""
 
 from __future__ import annotations
 
@@ -10,7 +10,7 @@ from pathlib import Path
 from program import TOP, module_at
 
 FOLDER = TOP.parent / "shared/oracle"
-MOST_KEPT = 20_000
+MOST_KEPT = 50_000
 
 
 class Known(Exception):
@@ -42,7 +42,10 @@ class Reference:
         self.words = self.key = None
 
     def __call__(self, words: list, text: bytes) -> tuple:
-        self.words, self.key = tuple(words), None
+        self.words = tuple(words)
+        self.key = None if text else (self.words, b"")
+        if self.key in self.answers:
+            return self.answers[self.key]
         try:
             answer = self.module.run(words, lambda: text)
         except Known:
