@@ -48,6 +48,14 @@ const TWISTED: &str =
 
 const TRIVIAL: &str = "qdouble 1\norder 2\ntable\n0 1\n1 0\nroots 1\nomega trivial\n";
 
+const CYCLIC: &str = "qdouble 1\norder 2\ntable\n0 1\n1 0\nroots 1\nomega trivial\nend\n";
+
+const CYCLIC_REPORT: &str = "group order 2 identity 0 exponent 2\ncocycle roots 1\nend\n";
+
+/// The document of the twisted group of order two with its characters.
+const CERT: &str = "qdouble 1\norder 2\ntable\n0 1\n1 0\nroots 2\nomega dense\n0 0\n0 0\n0 0\n0 1\n\
+    characters 4\nclass 0\nrow 1 1\nrow 1 -1\nclass 1\nrow 1 -1z1\nrow 1 1z1\nend\n";
+
 fn words(alloc: Global, list: &[&str]) -> Result<Vec<String>, AllocError> {
     let mut words = Vec::new(alloc);
     for word in list {
@@ -124,6 +132,112 @@ fn tells_of_streams_that_fail(rt: HostRuntime) -> Result<(), Fail> {
         let answer = run(alloc, &words, &mut source, &mut sink);
         assert_eq!(rt; answer, Answer { status, why });
         assert_eq!(rt; sink.written().as_slice(), written.as_bytes());
+    }
+    Ok(())
+}
+
+/// A run of which one read and one write fail, each by its number from 1, and 0 for none: the answer, and what is written.
+fn run_failing(
+    alloc: Global,
+    list: &[&str],
+    document: &str,
+    read: u32,
+    write: u32,
+) -> Result<(Answer, Vec<u8>), AllocError> {
+    let bytes = Vec::from_slice(alloc, document.as_bytes())?;
+    let mut source = MemSource::new(bytes, 7, Vec::from_slice(alloc, &[read])?);
+    let mut sink = MemSink::new(alloc, 4096, 9, Vec::from_slice(alloc, &[write])?)?;
+    let answer = run(alloc, &words(alloc, list)?, &mut source, &mut sink);
+    Ok((answer, Vec::from_slice(alloc, sink.written().as_slice())?))
+}
+
+/// How many reads a run has, each of which fails in turn and is then refused.
+fn reads_that_fail(
+    rt: &impl Abort,
+    alloc: Global,
+    list: &[&str],
+    document: &str,
+) -> Result<u32, Fail> {
+    for before in 0..100u32 {
+        let (answer, written) = run_failing(alloc, list, document, before + 1, 0)?;
+        if answer.why == Why::Done {
+            return Ok(before);
+        }
+        assert_eq!(rt;
+            answer,
+            Answer {
+                status: 12,
+                why: Why::Read
+            },
+            "after {before} reads"
+        );
+        assert_eq!(rt;
+            written.as_slice(),
+            b"refused 12 read\n".as_slice(),
+            "after {before} reads"
+        );
+    }
+    Ok(100)
+}
+
+/// How many writes a run has, each of which fails in turn after a proper front of the report is written.
+fn writes_that_fail(
+    rt: &impl Abort,
+    alloc: Global,
+    list: &[&str],
+    document: &str,
+    report: &str,
+) -> Result<u32, Fail> {
+    for before in 0..100u32 {
+        let (answer, written) = run_failing(alloc, list, document, 0, before + 1)?;
+        if answer.why == Why::Done {
+            assert_eq!(rt; written.as_slice(), report.as_bytes());
+            return Ok(before);
+        }
+        assert_eq!(rt;
+            answer,
+            Answer {
+                status: 13,
+                why: Why::Write { planned: 0 }
+            },
+            "after {before} writes"
+        );
+        assert_eq!(rt; written.len(), 9 * before as usize, "after {before} writes");
+        assert!(rt;
+            report.as_bytes().starts_with(written.as_slice()),
+            "after {before} writes"
+        );
+    }
+    Ok(100)
+}
+
+#[test]
+fn tells_of_each_call_that_fails(rt: HostRuntime) -> Result<(), Fail> {
+    let alloc = rt.alloc();
+
+    // The words, the document and its report; how many reads of 7 bytes and writes of 9 a run has, the read of the end among them.
+    let rows = [
+        (["check"].as_slice(), SEMION, REPORT, 12, 7),
+        (["check"].as_slice(), CYCLIC, CYCLIC_REPORT, 10, 7),
+        (["verify"].as_slice(), CERT, VERIFIED, 21, 51),
+    ];
+    for (list, document, report, reads, writes) in rows {
+        assert_eq!(rt; reads_that_fail(&rt, alloc, list, document)?, reads);
+        assert_eq!(rt;
+            writes_that_fail(&rt, alloc, list, document, report)?,
+            writes
+        );
+
+        // Where both fail, what is refused is the read, and nothing of it is written.
+        let (answer, written) = run_failing(alloc, list, document, 1, 1)?;
+        assert_eq!(rt;
+            answer,
+            Answer {
+                status: 13,
+                why: Why::Write { planned: 12 }
+            }
+        );
+        assert!(rt; written.is_empty());
     }
     Ok(())
 }
