@@ -4,8 +4,8 @@ use Rattle.algebra.specs.Structures.{CommRing}
 use Rattle.algebra.specs.Sums.{sum_below}
 use Rattle.algebra.specs.Roots.{RootOfUnity}
 use Rattle.prime_field.specs.declared.mod_ring.ModRing.{ModRing}
-use Rattle.prime_field.specs.Field.{field, field_residue}
-use Rattle.prime_field.specs.Laws.Field.{field_unit}
+use Rattle.prime_field.specs.Field.{field_residue}
+use Rattle.prime_field.specs.RingObject.{residue_field, residue_root}
 use Rattle.prime_field.specs.ResidueLists.{AreBelow}
 use Rattle.twisted.specs.Twist.{TwistedSubgroup}
 use Rattle.twisted.specs.Regular.{regular_representatives, rank}
@@ -30,9 +30,7 @@ module _ {A : Type 0} (R : CommRing A) {m : ℕ} (U : RootOfUnity R m) (s : Twis
 pub record IsCharacterList (ring : ModRing) (s : TwistedSubgroup) (values : List ℕ) : Type 0 where
   pub count : length values ≡ rank s
   pub below : AreBelow ring.q values
-  pub character :
-      IsCentralCharacter (field ring.q ring.listed) (field_unit ring.q ring.listed ring.conductor ring.root ring.least ring.entry ring.apart) s
-      (λ i. field_residue ring.q ring.listed (slice_index values i))
+  pub character : IsCentralCharacter (residue_field ring) (residue_root ring) s (λ i. field_residue ring.q ring.listed (slice_index values i))
 
 -- the first list comes before the second by the first number at which they differ
 abbrev pub IsBefore : List ℕ → List ℕ → Type 0

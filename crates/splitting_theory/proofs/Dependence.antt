@@ -2,7 +2,7 @@
 use Rattle.algebra.specs.Fields.{Field}
 use Rattle.algebra.proofs.Columns.{columns, IsNoughtBelow, nought_stable, units, length_units, units_reach}
 use Rattle.algebra.proofs.Dependence.{combination, relation}
-use Rattle.splitting_theory.proofs.Names.{◌≡◌, ℕ, zero, suc, ◌<◌, refl, sym, ◌∙◌, ap, arith, CommRing, sum_below, sum_zero, sum_suc, IsField, AreDependent}
+use Rattle.splitting_theory.proofs.Names.{◌≡◌, ℕ, zero, suc, sym, ◌∙◌, ap, arith, CommRing, sum_below, sum_zero, sum_suc, IsField, AreDependent}
 
 module _ {A : Type 0} (F : CommRing A) (L : IsField F) where
   abbrev pub field : Field F
