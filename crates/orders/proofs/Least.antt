@@ -1,5 +1,7 @@
 -- The least number from 1 on that passes a test, and the scans that find it.
-use Rattle.std.proofs.Common.{◌≡◌, ℕ, zero, suc, ◌+◌, ◌<◌, ◌≤◌, Bool, true, false, ◌⊎◌, Some, None, if◌then◌else◌, refl, ap, ◌∙◌, inl, inr, arith, add-one, eq-or-lt_of_le}
+use Prim.Native.Nat.{◌∣◌}
+use Rattle.std.proofs.Common.{◌≡◌, ℕ, zero, suc, ◌+◌, ◌%◌, ◌<◌, ◌≤◌, Bool, true, false, ◌⊎◌, ◌↔◌, Some, None, if◌then◌else◌, unwrap_or, refl, ap, ◌∙◌, inl, inr, arith, add-one, mod-lt, eq-or-lt_of_le, eq-zero-or-pos}
+use Rattle.std.proofs.lemmas.Nat.Gcd.{dvd_of_mod-eq-zero, mod-eq-zero_of_dvd}
 use Rattle.std.proofs.lemmas.Bool.{cases_lt}
 use Rattle.scan.proofs.Places.{first_found, first_none}
 use Rattle.orders.specs.Order.{least_from_one}
@@ -46,3 +48,35 @@ least_found n passes (suc i) least most =
     (first_none i (λ j. if passes (j + 1) then Some (j + 1) else None)
     (λ j p. let fails : passes (suc j) ≡ false = least.before (suc j) (omega arith) (omega arith) in rw (add-one, fails)))
     (rw (add-one, least.here))
+
+-- k is what the scan finds: it is at most n, and the least that passes
+pub record IsScanned (n : ℕ) (passes : ℕ → Bool) (k : ℕ) : Type 0 where
+  pub found : least_from_one n passes ≡ Some k
+  pub at_most : k ≤ n
+  pub least : IsLeast passes k
+
+-- where a number from 1 to n passes, the scan finds the least
+pub scanned : (n j : ℕ) (passes : ℕ → Bool) → 1 ≤ j → j ≤ n → passes j ≡ true → IsScanned n passes (unwrap_or (least_from_one n passes) 0)
+scanned n j passes positive below here =
+    elim (least_or_none n passes) [
+      | inl fail ↦ absurd (let wrong = fail j positive below in cc)
+      | inr (k, most, least) ↦
+          let e = least_found n passes k least most in
+          rw e (record { found = e; at_most = most; least = least })
+    ]
+
+-- the multiples of k: a fact that holds at 0, and at a number exactly where it holds at its remainder modulo k, and at no number from 1
+-- on before k
+module _ (Holds : ℕ → Type 0) (k : ℕ) (positive : 1 ≤ k) (least : (j : ℕ) → 1 ≤ j → Holds j → k ≤ j) (nought : Holds 0)
+    (to : (j : ℕ) → Holds (j % k) → Holds j) (from : (j : ℕ) → Holds j → Holds (j % k)) where
+  pub divides_exactly : (j : ℕ) → (k ∣ j) ↔ Holds j
+  divides_exactly j = (
+    λ divides. to j (rw (mod-eq-zero_of_dvd k divides) nought),
+    λ holds. elim (eq-zero-or-pos (j % k)) [
+      | inl none ↦ dvd_of_mod-eq-zero k none
+      | inr some ↦
+          let most : k ≤ j % k = least (j % k) some (from j holds) in
+          let less : j % k < k = mod-lt j positive in
+          absurd (omega arith)
+    ],
+  )
