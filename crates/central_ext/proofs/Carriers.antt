@@ -4,7 +4,7 @@ use Rattle.std.proofs.lemmas.Bool.{cases_order}
 use borrow.Author.Count.{below_more}
 use Rattle.std.specs.Prelude.{is_some}
 use Rattle.scan.specs.First.{first}
-use Rattle.classes.proofs.Searches.{is_some_of, some_of, first_finds, least_passing, same_test}
+use Rattle.scan.proofs.Searches.{is_some_of, some_of, first_finds, least_passing, same_test}
 use Rattle.twisted.specs.Twist.{TwistedSubgroup, size, IsTwist}
 use Rattle.twisted.proofs.Translation.{some_root}
 use Rattle.central_ext.specs.declared.pair.Pair.{Pair}

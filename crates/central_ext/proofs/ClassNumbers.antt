@@ -7,7 +7,7 @@ use borrow.Author.Count.{below_more}
 use Rattle.scan.proofs.Places.{first-ext}
 use Rattle.group_table.specs.Numbers.{passing_below}
 use Rattle.group_table.proofs.Numbers.{passing_below-passes, passing_below-fails, passing_below-zero}
-use Rattle.classes.proofs.Searches.{IsLeastPassing, least_passing, least_passing_found, same_test}
+use Rattle.scan.proofs.Searches.{IsLeastPassing, least_passing, least_passing_found, same_test}
 use Rattle.twisted.specs.Twist.{TwistedSubgroup, IsTwist}
 use Rattle.central_ext.specs.ExtensionClasses.{pair_count, pair_at, are_conjugate, first_of_class, is_first_of_class, class_number}
 use Rattle.central_ext.proofs.PairLaws.{pair_below, conjugate_itself, conjugate_back, conjugate_on}

@@ -6,7 +6,7 @@ use Rattle.scan.proofs.Places.{and_true}
 use Rattle.algebra.specs.Groups.{Group}
 use Rattle.algebra.specs.Below.{Below}
 use Rattle.classes.specs.Conjugacy.{conjugate}
-use Rattle.classes.proofs.Searches.{is_some_of, some_of, first_finds, least_passing}
+use Rattle.scan.proofs.Searches.{is_some_of, some_of, first_finds, least_passing}
 use Rattle.twisted.specs.Twist.{TwistedSubgroup, size, IsTwist}
 use Rattle.twisted.specs.Regular.{kappa}
 use Rattle.twisted.proofs.Carrying.{carry, carry_is, carry_one, carry_op, carry_back}

@@ -12,7 +12,7 @@ use Rattle.group_table.specs.Numbers.{passing_below}
 use Rattle.group_table.proofs.Sentences.{IsTwoSidedInverse, two_sided, inverse_found, group_below, closed, identity_below}
 use Rattle.group_table.proofs.Numbers.{IsPassing, passing_below-all, passing_below-contains, passing_below-ascending, passing_below-exactly, length-passing_below}
 use Rattle.classes.specs.Conjugacy.{conjugate, least_transporter, is_conjugate, representative_of, transporter_of, representatives, other_representatives, class_of, members_of, centraliser_of, representative_at}
-use Rattle.classes.proofs.Searches.{same_test, is_some_of, some_of, IsLeastPassing, least_passing, least_passing_found}
+use Rattle.scan.proofs.Searches.{same_test, is_some_of, some_of, IsLeastPassing, least_passing, least_passing_found}
 use Rattle.classes.proofs.Action.{inverse_of_product, conjugate_in_steps, conjugate_of_product_steps}
 
 -- a is least in its class

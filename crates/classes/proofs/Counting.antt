@@ -8,7 +8,7 @@ use Rattle.group_table.specs.Numbers.{passing_below}
 use Rattle.group_table.proofs.Sentences.{group_below, closed}
 use Rattle.group_table.proofs.Numbers.{passing_below-zero, passing_below-suc}
 use Rattle.classes.specs.Conjugacy.{conjugate, is_conjugate, representatives, representative_at, members_of, centraliser_of}
-use Rattle.classes.proofs.Searches.{same_test}
+use Rattle.scan.proofs.Searches.{same_test}
 use Rattle.classes.proofs.Conjugacy.{inverse_at, conjugate_below, conjugate_by_product, conjugate_back, conjugate_by, carrier, representative_at_is, different_at}
 
 -- a list of passing numbers is as long as there are numbers that pass

@@ -1,4 +1,3 @@
-pub mod Searches
 pub mod Action
 pub mod Conjugacy
 pub mod Lookups

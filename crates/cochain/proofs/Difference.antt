@@ -2,6 +2,7 @@
 use Rattle.std.proofs.Common.{◌≡◌, ℕ, ◌+◌, ◌-◌, ◌*◌, ◌/◌, ◌%◌, ◌<◌, ◌≤◌, ◌↔◌, Bool, true, false, nat_eq, refl, sym, ap, ◌∙◌, arith}
 use Rattle.std.proofs.Math.Nat.{add-mul-mod_self_left, mul-mod_right, div-lt_iff_lt-mul}
 use Rattle.std.proofs.lemmas.Bool.{eqb-true, eq-eqb}
+use Rattle.scan.proofs.Searches.{same_test}
 
 quotient_small : (n b : ℕ) → 0 < n → b ≤ 2 * n → b / n < 3
 quotient_small n b positive small =
@@ -24,13 +25,6 @@ is_same n a b positive small multiple =
     let sides : a + n * 2 ≡ b + n * q = omega arith in
     sym (add-mul-mod_self_left a n 2) ∙ ap (λ (z : ℕ). z % n) sides ∙ add-mul-mod_self_left b n q
 
-tests_agree : (p q : Bool) → (p ≡ true → q ≡ true) → (q ≡ true → p ≡ true) → p ≡ q
-tests_agree true q to from = sym (to refl)
-tests_agree false true to from = from refl
-tests_agree false false to from = refl
-
-same_test : (x y u v : ℕ) → (x ≡ y → u ≡ v) → (u ≡ v → x ≡ y) → nat_eq x y ≡ nat_eq u v
-same_test x y u v to from = tests_agree _ _ (λ t. eq-eqb u v (to (eqb-true x y t))) (λ t. eq-eqb x y (from (eqb-true u v t)))
-
 pub same_by_difference : (n a b : ℕ) → 0 < n → b ≤ 2 * n → nat_eq ((a + 2 * n - b) % n) 0 ≡ nat_eq (a % n) (b % n)
-same_by_difference n a b positive small = same_test _ _ _ _ (is_same n a b positive small) (is_multiple n a b positive small)
+same_by_difference n a b positive small =
+    same_test _ _ (λ t. eq-eqb _ _ (is_same n a b positive small (eqb-true _ _ t))) (λ t. eq-eqb _ _ (is_multiple n a b positive small (eqb-true _ _ t)))

@@ -34,7 +34,5 @@ exponent_at n g h k at p q r =
 pub length-exponents_by : (n : ℕ) (at : ℕ → ℕ → ℕ → ℕ) → length (exponents_by n at) ≡ n * n * n
 length-exponents_by n at = length-map-range_with_len (λ i. at (i / n / n) (i / n % n) (i % n)) 0 (n * n * n)
 
--- the exponents before the place i, and the one there
-pub exponents_more : (n i v : ℕ) (at : ℕ → ℕ → ℕ → ℕ) (front all : List ℕ) → all ≡ front ++ v ∷ [] → front ≡ map (λ i. at (i / n / n) (i / n % n) (i % n)) (range_with_len 0 i)
-    → v ≡ at (i / n / n) (i / n % n) (i % n) → all ≡ map (λ i. at (i / n / n) (i / n % n) (i % n)) (range_with_len 0 (i + 1))
-exponents_more n i v at front all pushed before here = rw (pushed, before, here) (sym (map-range_with_len_more (λ i. at (i / n / n) (i / n % n) (i % n)) 0 i i (omega arith)))
+-- what holds of the coordinates of a place, and of the list
+pub ruleset cube_places = (edge_below, row_below, column_below)

@@ -1,7 +1,9 @@
 -- The gauged exponents are a normalised 3-cocycle.
 use Rattle.std.proofs.Common.{◌≡◌, ℕ, ◌+◌, ◌-◌, ◌*◌, ◌%◌, ◌<◌, Bool, true, false, ◌||◌, nat_eq, cond, List, Some, None, refl, sym, ap, ◌∙◌, arith}
 use Rattle.std.proofs.Math.Nat.{mod-lt, mul-mod_right}
+use Rattle.std.proofs.Math.Bool.{or-true}
 use Rattle.std.proofs.lemmas.Bool.{eq-eqb, eqb-true}
+use Rattle.scan.proofs.Searches.{passes, asked}
 use Rattle.scan.proofs.Places.{first_none-at}
 use Rattle.algebra.specs.Congruences.{Same}
 use Rattle.algebra.proofs.CongruenceLaws.{same_sym, same_trans, same_add, same_lin, same_multiple}
@@ -11,24 +13,8 @@ use Rattle.cochain.specs.Cochain.{Cochain, IsCocycle}
 use Rattle.cochain.specs.Gauge.{pair_value, is_normal_pair, gauge_fault, gauged_value, gauged}
 use Rattle.cochain.specs.declared.fault.GaugeRefusal.TheVariants.{NotNormal}
 use Rattle.cochain.proofs.Sentences.{first_one, second_one, third_one, closed_at}
-use Rattle.cochain.proofs.Lawful.{IsLawful, is_cocycle}
-
-passes : {A : Type 0} (b : Bool) (x : A) → cond b None (Some x) ≡ None → b ≡ true
-passes true x e = refl
-passes false x e = absurd cc
-
-tested : (a b c : Bool) → cond (a || b) c true ≡ true → (a || b) ≡ true → c ≡ true
-tested true b c e h = e
-tested false true c e h = e
-tested false false c e h = absurd cc
-
-either_first : (a b : Bool) → a ≡ true → (a || b) ≡ true
-either_first true b e = refl
-either_first false b e = absurd cc
-
-either_last : (a b : Bool) → b ≡ true → (a || b) ≡ true
-either_last true b e = refl
-either_last false b e = e
+use Rattle.cochain.specs.Laws.{IsLawful}
+use Rattle.cochain.proofs.Lawful.{lawful, is_cocycle}
 
 -- the law of the gauged exponents from that of the exponents: the numbers of b cancel
 gauge_step : (N v1 v2 v3 v4 v5 h_k g_hk gh_k g_h hk_l g_hkl ghk_l k_l h_kl gh_kl g_hkl' ghk_l' : ℕ)
@@ -61,19 +47,19 @@ module _ (w : Cochain) (b : List ℕ) (W : IsCocycle w) (normal : gauge_fault w 
   pair_normal : (g h : ℕ) → g < w.group.order → h < w.group.order → (nat_eq g e || nat_eq h e) ≡ true → pair_value w b g h ≡ 0
   pair_normal g h p q one =
       let here : is_normal_pair w b g h ≡ true = passes (is_normal_pair w b g h) (NotNormal g h) (first_none-at w.group.order h _ (first_none-at w.group.order g _ normal p) q) in
-      eqb-true _ _ (tested (nat_eq g e) (nat_eq h e) (nat_eq (pair_value w b g h) 0) here one)
+      eqb-true _ _ (asked (nat_eq g e || nat_eq h e) (nat_eq (pair_value w b g h) 0) here one)
 
   one_left : (h : ℕ) → h < w.group.order → pair_value w b e h ≡ 0
-  one_left h q = pair_normal e h e_below q (either_first (nat_eq e e) (nat_eq h e) (eq-eqb e e refl))
+  one_left h q = pair_normal e h e_below q (rw (eq-eqb e e refl))
 
   one_right : (g : ℕ) → g < w.group.order → pair_value w b g e ≡ 0
-  one_right g p = pair_normal g e p e_below (either_last (nat_eq g e) (nat_eq e e) (eq-eqb e e refl))
+  one_right g p = pair_normal g e p e_below (rw (eq-eqb e e refl, or-true (nat_eq g e)))
 
   unit_left : (g : ℕ) → g < w.group.order → product w.group e g ≡ g
-  unit_left g p = (group_below w.group T).unit_left g p
+  unit_left = (group_below w.group T).unit_left
 
   unit_right : (g : ℕ) → g < w.group.order → product w.group g e ≡ g
-  unit_right g p = (group_below w.group T).unit_right g p
+  unit_right = (group_below w.group T).unit_right
 
   laws : IsLawful w.group.order (product w.group) e w.roots (gauged_value w b)
   laws = record {
@@ -96,4 +82,4 @@ module _ (w : Cochain) (b : List ℕ) (W : IsCocycle w) (normal : gauge_fault w 
   }
 
   pub gauged_is_cocycle : IsCocycle (gauged w b)
-  gauged_is_cocycle = is_cocycle w.group T w.roots (gauged_value w b) laws W.cochain.small W.cochain.number
+  gauged_is_cocycle = is_cocycle w.group T w.roots (gauged_value w b) W.cochain.small W.cochain.number (lawful w.group T w.roots (gauged_value w b) laws)

@@ -2,7 +2,8 @@
 -- rows, place after place.
 use Rattle.std.proofs.Common.{◌≡◌, ℕ, zero, suc, ◌+◌, ◌*◌, ◌/◌, ◌%◌, ◌<◌, List, [], ◌∷◌, ◌++◌, Bool, true, false, ◌&&◌, nat_eq, cond, length, get_or, Some, None, refl, sym, ap, ◌∙◌, ◌⊎◌, inl, inr, arith}
 use Rattle.std.proofs.lemmas.Bool.{eqb-true, eq-eqb}
-use Rattle.scan.proofs.Places.{first_none, all_below-at}
+use Rattle.scan.proofs.Places.{first_none, all_below-at, and_true}
+use Rattle.scan.proofs.Searches.{no_fault}
 use Rattle.group_table.specs.Group.{product}
 use Rattle.std.proofs.lemmas.Nat.{div-mul-add, mod-mul-add, div_below}
 use Rattle.std.proofs.Math.Nat.{mod-lt}
@@ -13,14 +14,6 @@ use Rattle.cochain.specs.Cochain.{Cochain, value, left_side, right_side, is_clos
 use Rattle.cochain.specs.ZeroRows.{is_zero_row, has_zero_rows, MarksZeroRows}
 use Rattle.cochain.specs.declared.fault.CocycleFault.TheVariants.{NotCocycle}
 
-no_fault : {A : Type 0} (b : Bool) (x : A) → b ≡ true → cond b None (Some x) ≡ None
-no_fault true x e = refl
-no_fault false x e = absurd cc
-
-both : (a b : Bool) → a && b ≡ true → (a ≡ true) × (b ≡ true)
-both true b e = (refl, e)
-both false b e = absurd cc
-
 zero_in : (w : Cochain) (g h k : ℕ) → is_zero_row w g h ≡ true → k < w.group.order → value w g h k ≡ 0
 zero_in w g h k row below = eqb-true (value w g h k) 0 (all_below-at w.group.order k (λ k. nat_eq (value w g h k) 0) row below)
 
@@ -29,9 +22,9 @@ closed_in_zero_rows w W g h k p q r rows =
     let n = w.group.order in
     let hk = product w.group h k in
     let gh = product w.group g h in
-    let three = both _ (is_zero_row w gh k) rows in
-    let two = both _ (is_zero_row w g hk) three.0 in
-    let one = both (is_zero_row w g h) (is_zero_row w h k) two.0 in
+    let three = and_true _ (is_zero_row w gh k) rows in
+    let two = and_true _ (is_zero_row w g hk) three.0 in
+    let one = and_true (is_zero_row w g h) (is_zero_row w h k) two.0 in
     first_none n _
     (λ l s.
     let kl : product w.group k l < n = closed w.group k l W.group r s in
@@ -67,12 +60,3 @@ marks_of w marks long each = record {
       let n = w.group.order in
       each (g * n + h) (place_below n g h p q) ∙ rw (div-mul-add g n h q, mod-mul-add g n h q) refl;
 }
-
--- the row at a place of a square
-pub row_below : (n i : ℕ) → i < n * n → i / n < n
-row_below zero i below = absurd (omega arith)
-row_below (suc n) i below = div_below i (suc n) (suc n) (omega arith) below
-
-pub column_below : (n i : ℕ) → i < n * n → i % n < n
-column_below zero i below = absurd (omega arith)
-column_below (suc n) i below = mod-lt i (omega arith)

@@ -11,6 +11,7 @@ use scan::first_below;
 use std::alloc::Global;
 
 /// The exponents that `exponent` gives for each triple of numbers below `n`, in the order of their places.
+#[tactic(auto, using(crate::proofs::Formula::cube_places))]
 pub fn exponents_by<F: Fn(u32, u32, u32) -> u32>(
     alloc: Global,
     n: u32,
@@ -25,11 +26,7 @@ where
         ((g h k v : ℕ) → g < n → h < n → k < n → F.post exponent g h k v → v ≡ at g h k) →
         IfOk result (λ exponents. exponents ≡ exponents_by n at) }
 {
-    let mut exponents = Nats::empty(alloc);
-    for i in 0..n * n * n {
-        exponents.push(exponent(i / n / n, i / n % n, i % n))?;
-    }
-    Ok(exponents)
+    Nats::tabulate(alloc, n * n * n, |i| exponent(i / n / n, i / n % n, i % n))
 }
 
 /// The number of the pair `g`, `h`, modulo the number of roots.

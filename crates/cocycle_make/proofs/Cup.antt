@@ -9,7 +9,8 @@ use Rattle.group_table.specs.Group.{product, identity_of}
 use Rattle.group_make.specs.Formulas.{table_by}
 use Rattle.group_make.proofs.Tables.{product_by, table_group, table_identity}
 use Rattle.cochain.specs.Cochain.{exponents_by, cochain_of, cocycle_fault}
-use Rattle.cochain.proofs.Lawful.{IsLawful, lawful}
+use Rattle.cochain.specs.Laws.{IsLawful}
+use Rattle.cochain.proofs.Lawful.{lawful}
 
 -- laws for a formula of products are laws for its table
 pub lawful_by : (n e : ℕ) (op : ℕ → ℕ → ℕ) → IsGroupBelow n op e → (roots : ℕ) (at : ℕ → ℕ → ℕ → ℕ) → IsLawful n op e roots at

@@ -9,14 +9,12 @@ use Rattle.group_table.specs.Group.{Table, product, identity_of, IsGroup}
 use Rattle.group_table.proofs.Sentences.{group_below, identity_below}
 use Rattle.cochain.specs.Cochain.{Cochain, value, cocycle_fault, IsCocycle}
 use Rattle.cochain.proofs.Sentences.{first_one, second_one, third_one, closed_at}
-use Rattle.cochain.proofs.Lawful.{IsLawful, lawful}
+use Rattle.cochain.specs.Laws.{IsLawful}
+use Rattle.cochain.proofs.Lawful.{lawful}
+use Rattle.scan.proofs.Searches.{passes}
 use Rattle.cocycle_make.specs.Cocycles.{inflated}
 use Rattle.cocycle_make.specs.Refusal.{is_multiplicative, map_fault}
 use Rattle.cocycle_make.specs.declared.refusal.InflateRefusal.TheVariants.{BadMap}
-
-passes : {A : Type 0} (b : Bool) (x : A) → cond b None (Some x) ≡ None → b ≡ true
-passes true x e = refl
-passes false x e = absurd cc
 
 -- an element that is its own square is the identity
 own_square : (n : ℕ) (op : ℕ → ℕ → ℕ) (e x : ℕ) → IsGroupBelow n op e → x < n → op x x ≡ x → x ≡ e

@@ -2,21 +2,14 @@
 use Rattle.std.specs.Prelude.{◌≡◌, ℕ, ◌+◌, ◌%◌, ◌<◌, None, List, slice_index}
 use Rattle.group_table.specs.Group.{Table, product, identity_of, IsGroup}
 use Rattle.cochain.specs.Cochain.{Cochain, cochain_of, exponents_by, cocycle_fault, IsCocycle}
+use Rattle.cochain.specs.Laws.{IsLawful}
 use Rattle.cocycle_make.specs.Cocycles.{trivial_cocycle, type_one_cocycle, type_two_cocycle, type_three_cocycle, inflated}
 use Rattle.cocycle_make.specs.Refusal.{map_fault}
-
--- the plain laws of a normalised 3-cocycle, of exponents modulo the number of roots
-pub record MeetsLaws (t : Table) (roots : ℕ) (at : ℕ → ℕ → ℕ → ℕ) : Type 0 where
-  pub first : (h k : ℕ) → h < t.order → k < t.order → at (identity_of t) h k % roots ≡ 0
-  pub second : (g k : ℕ) → g < t.order → k < t.order → at g (identity_of t) k % roots ≡ 0
-  pub third : (g h : ℕ) → g < t.order → h < t.order → at g h (identity_of t) % roots ≡ 0
-  pub closed : (g h k l : ℕ) → g < t.order → h < t.order → k < t.order → l < t.order →
-      (at g h k + at g (product t h k) l + at h k l) % roots ≡ (at (product t g h) k l + at g h (product t k l)) % roots
 
 -- the check of exponents is no stricter: those that meet the plain laws break none
 abbrev pub LawfulExponents : Type 0
 LawfulExponents =
-    (t : Table) (roots : ℕ) (at : ℕ → ℕ → ℕ → ℕ) → IsGroup t → MeetsLaws t roots at →
+    (t : Table) (roots : ℕ) (at : ℕ → ℕ → ℕ → ℕ) → IsGroup t → IsLawful t.order (product t) (identity_of t) roots at →
     cocycle_fault (cochain_of t roots (exponents_by t.order at)) ≡ None
 
 abbrev pub TrivialIsLawful : Type 0

@@ -1,14 +1,11 @@
 -- Groups by formulas on the coordinates of their elements (textbook). The elements are the numbers below the order.
-use Rattle.std.specs.Prelude.{ℕ, ◌+◌, ◌-◌, ◌*◌, ◌/◌, ◌%◌, ◌^◌, ◌==◌, map, if◌then◌else◌}
-use Rattle.std.specs.List.{range_with_len}
+use Rattle.std.specs.Prelude.{ℕ, ◌+◌, ◌-◌, ◌*◌, ◌/◌, ◌%◌, ◌^◌, ◌==◌, if◌then◌else◌}
 use Rattle.group_table.specs.Group.{Table}
+use Rattle.group_table.specs.Numbers.{by_pairs}
 
 -- the table of the products that a formula gives, row after row
 abbrev pub table_by : ℕ → (ℕ → ℕ → ℕ) → Table
-table_by order op = record {
-  order = order;
-  entries = map (λ i. op (i / order) (i % order)) (range_with_len 0 (order * order));
-}
+table_by order op = record { order = order; entries = by_pairs order op }
 
 -- the number of the pair (x, i), where x is below n; g is the pair (g % n, g / n)
 abbrev pub pair : ℕ → ℕ → ℕ → ℕ

@@ -7,7 +7,6 @@ ghost use Rattle.group_make.specs.Laws.{LawfulTables, ProductsByFormula, CyclicI
 mod formulas;
 mod makers;
 mod refusal;
-mod table;
 
 pub use group_table::Memory;
 pub use makers::{cyclic, dicyclic, dihedral, product, semidirect};

@@ -10,8 +10,7 @@ use crate::formulas::{
     triple_product,
 };
 use crate::refusal::MakeRefusal;
-use crate::table::{group_of, products};
-use group_table::Group;
+use group_table::{Group, Nats};
 use std::alloc::Global;
 
 /// This order as that of a group, which is from 1 to 60.
@@ -32,8 +31,8 @@ pub fn cyclic(alloc: Global, n: u32) -> Result<Group, MakeRefusal>
     ensures refused { IfErr result (λ refusal. Refuses refusal (size_fault n)) }
 {
     let order = small_order(n as u128)?;
-    let table = products(alloc, order, |g, h| cyclic_product(n, g, h))?;
-    Ok(group_of(alloc, order, &table)?)
+    let table = Nats::by_pairs(alloc, order, |g, h| cyclic_product(n, g, h))?;
+    Ok(Group::from_lawful(alloc, order, table)?)
 }
 
 /// The dihedral group of order `2 n`: the pairs `(i, j)`, `i` modulo `n` and `j` modulo 2, with the numbers
@@ -44,8 +43,8 @@ pub fn dihedral(alloc: Global, n: u32) -> Result<Group, MakeRefusal>
     ensures refused { IfErr result (λ refusal. Refuses refusal (size_fault (2 * n))) }
 {
     let order = small_order(2 * n as u128)?;
-    let table = products(alloc, order, |g, h| dihedral_product(n, g, h))?;
-    Ok(group_of(alloc, order, &table)?)
+    let table = Nats::by_pairs(alloc, order, |g, h| dihedral_product(n, g, h))?;
+    Ok(Group::from_lawful(alloc, order, table)?)
 }
 
 /// The dicyclic group of order `4 n`: the pairs `(i, j)`, `i` modulo `2 n` and `j` modulo 2, with the numbers
@@ -56,8 +55,8 @@ pub fn dicyclic(alloc: Global, n: u32) -> Result<Group, MakeRefusal>
     ensures refused { IfErr result (λ refusal. Refuses refusal (size_fault (4 * n))) }
 {
     let order = small_order(4 * n as u128)?;
-    let table = products(alloc, order, |g, h| dicyclic_product(n, g, h))?;
-    Ok(group_of(alloc, order, &table)?)
+    let table = Nats::by_pairs(alloc, order, |g, h| dicyclic_product(n, g, h))?;
+    Ok(Group::from_lawful(alloc, order, table)?)
 }
 
 /// The product of the cyclic groups of orders `a`, `b` and `c`: the triples `(x, y, z)` with the numbers
@@ -67,8 +66,8 @@ pub fn product(alloc: Global, a: u32, b: u32, c: u32) -> Result<Group, MakeRefus
     ensures refused { IfErr result (λ refusal. Refuses refusal (size_fault (a * b * c))) }
 {
     let order = small_order(a as u128 * b as u128 * c as u128)?;
-    let table = products(alloc, order, |g, h| triple_product(a, b, c, g, h))?;
-    Ok(group_of(alloc, order, &table)?)
+    let table = Nats::by_pairs(alloc, order, |g, h| triple_product(a, b, c, g, h))?;
+    Ok(Group::from_lawful(alloc, order, table)?)
 }
 
 /// The semidirect product of the cyclic groups of orders `n` and `m`: the pairs `(x, i)` with the numbers
@@ -80,8 +79,8 @@ pub fn semidirect(alloc: Global, n: u32, m: u32, r: u32) -> Result<Group, MakeRe
 {
     let order = small_order(n as u128 * m as u128)?;
     check_action(n, m, r)?;
-    let table = products(alloc, order, |g, h| semidirect_product(n, m, r, g, h))?;
-    Ok(group_of(alloc, order, &table)?)
+    let table = Nats::by_pairs(alloc, order, |g, h| semidirect_product(n, m, r, g, h))?;
+    Ok(Group::from_lawful(alloc, order, table)?)
 }
 
 /// Whether `r^m` is 1 modulo `n`, or else what it is.

@@ -1,3 +1,4 @@
+pub mod Lawful
 pub mod Square
 pub mod Numbers
 pub mod Sentences

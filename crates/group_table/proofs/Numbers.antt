@@ -1,9 +1,10 @@
--- The numbers below a bound that pass a test.
+-- The numbers below a bound that pass a test, and the values of a function there.
 use Rattle.std.proofs.Common.{◌≡◌, ℕ, zero, suc, ◌+◌, ◌<◌, ◌≤◌, ◌⊎◌, Bool, true, false, ◌↔◌, cond, List, [], get_or, ◌∷◌, ◌++◌, length, refl, sym, ap, ◌∙◌, arith, inl, inr, add-one, eq-or-lt_of_le, length-append}
 use Rattle.std.specs.List.{All, Contains}
 use Rattle.std.proofs.lemmas.List.Elements.{All-nil, All-push, All-weaker, All-get_or, All-contains, Contains-push, Contains-append_left}
 use Rattle.std.proofs.lemmas.List.{get_or_push, get_or_append_left}
-use Rattle.group_table.specs.Numbers.{passing_below}
+use Rattle.std.proofs.lemmas.List.FromFn.{map-range_with_len_more}
+use Rattle.group_table.specs.Numbers.{passing_below, tabulated}
 
 pub passing_below-zero : (test : ℕ → Bool) → passing_below 0 test ≡ []
 unfolding passing_below
@@ -105,3 +106,8 @@ passing_below-exactly n i test = (
   λ listed. let here = All-contains (IsPassing n test) (passing_below n test) i (passing_below-all n test) listed in (here.below, here.passes),
   λ passes. passing_below-contains n i test passes.0 passes.1,
 )
+
+-- one more value
+pub tabulated-more : (i : ℕ) (at : ℕ → ℕ) {v : ℕ} {front all : List ℕ} → front ≡ tabulated i at → all ≡ front ++ v ∷ [] → v ≡ at i
+    → all ≡ tabulated (i + 1) at
+tabulated-more i at before pushed here = rw (pushed, before, here) (sym (map-range_with_len_more at 0 i i (omega arith)))

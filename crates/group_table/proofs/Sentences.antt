@@ -3,21 +3,12 @@ use Rattle.std.proofs.Common.{◌≡◌, ℕ, ◌<◌, Bool, true, false, nat_eq
 use Rattle.std.specs.Prelude.{List, slice_index, is_some, unwrap_or}
 use Rattle.std.proofs.lemmas.Bool.{ltb-true, eqb-true}
 use Rattle.scan.proofs.Places.{or_none, and_true, first_none-at, first_some, all_below-at}
+use Rattle.scan.proofs.Searches.{passes, let_through, some_of}
 use Rattle.orders.specs.Group.{IsGroupBelow, power}
 use Rattle.orders.proofs.Powers.{power_modulo, right_inverse_left}
 use Rattle.orders.proofs.Exponents.{power_of_size}
 use Rattle.group_table.specs.Group.{Table, product, entry_fault, is_identity, two_sided_identity, identity_of, identity_fault, inverse_of, inverse, inverse_fault, associates, associativity_fault, group_fault, IsGroup, ListsInverses}
 use Rattle.group_table.specs.declared.fault.GroupFault.TheVariants.{Entry, NoIdentity, NoInverse, NotAssociative}
-
--- a test that finds nothing wrong
-passes : {A : Type 0} (b : Bool) (x : A) → cond b None (Some x) ≡ None → b ≡ true
-passes true x e = refl
-passes false x e = absurd cc
-
--- a value that a test let through
-let_through : {A : Type 0} (b : Bool) (x y : A) → cond b (Some x) None ≡ Some y → (b ≡ true) × (x ≡ y)
-let_through true x y e = (refl, cc)
-let_through false x y e = absurd cc
 
 pub product_below : (t : Table) (g h : ℕ) → entry_fault t ≡ None → g < t.order → h < t.order → product t g h < t.order
 product_below t g h lawful g_below h_below =
@@ -37,10 +28,6 @@ laws_of t lawful =
     let b = or_none (identity_fault t) _ a.1 in
     let c = or_none (inverse_fault t) _ b.1 in
     record { entries = a.0; has_identity = b.0; inverses = c.0; associativity = c.1 }
-
-some_of : {A : Type 0} (o : Option A) → is_some o ≡ true → (x : A) × (o ≡ Some x)
-some_of (Some x) e = (x, refl)
-some_of None e = absurd cc
 
 pub record IsIdentity (t : Table) (e : ℕ) : Type 0 where
   pub below : e < t.order

@@ -8,7 +8,7 @@ ghost use Rattle.group_table.specs.Refusal.{Refuses};
 
 use crate::Memory;
 use crate::fault::GroupRefusal;
-use crate::laws::{checked_identity, inverses};
+use crate::laws::{checked_identity, inverses, two_sided_identity};
 use crate::nats::Nats;
 use crate::powers::{element_order, exponent, power};
 use std::alloc::Global;
@@ -44,6 +44,22 @@ impl Group {
     {
         let identity = checked_identity(order, table.as_slice()).map_err(GroupRefusal::Fault)?;
         let table = table.copy(alloc)?;
+        let inverses = inverses(alloc, order, table.as_slice(), identity)?;
+        Ok(Group {
+            order,
+            identity,
+            table,
+            inverses,
+        })
+    }
+
+    /// The group of a table that is known to break no law: nothing is tested again.
+    pub fn from_lawful(alloc: Global, order: u32, table: Nats) -> Result<Group, Memory>
+        requires small { IsSmall order }
+        requires group { IsGroup (record { order = order; entries = table }) }
+        ensures made { IfOk result (λ group. group ≡ record { order = order; entries = table }) }
+    {
+        let identity = two_sided_identity(order, table.as_slice()).unwrap_or(0);
         let inverses = inverses(alloc, order, table.as_slice(), identity)?;
         Ok(Group {
             order,

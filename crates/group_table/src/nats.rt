@@ -1,7 +1,7 @@
 //! Lists of natural numbers of 32 bits.
 
-ghost use Rattle.std.specs.Prelude.{◌≡◌, ℕ, ◌+◌, ◌^◌, ◌<◌, Bool, List, [], ◌∷◌, ◌++◌, ◌↔◌, IsTrue, length, slice_index, vec_len, IfOk, OnOk, OnErr};
-ghost use Rattle.group_table.specs.Numbers.{passing_below};
+ghost use Rattle.std.specs.Prelude.{◌≡◌, ℕ, ◌+◌, ◌^◌, ◌<◌, ◌≤◌, Bool, List, [], ◌∷◌, ◌++◌, ◌↔◌, IsTrue, length, slice_index, vec_len, IfOk, OnOk, OnErr};
+ghost use Rattle.group_table.specs.Numbers.{passing_below, tabulated, by_pairs};
 
 use crate::Memory;
 use std::alloc::Global;
@@ -45,6 +45,35 @@ impl Nats {
             }
         }
         Ok(numbers)
+    }
+
+    /// The numbers that `number` gives at 0, 1, .., `n - 1`, in order.
+    pub fn tabulate<F: Fn(u32) -> u32>(alloc: Global, n: u32, number: F) -> Result<Nats, Memory>
+    where
+        F: Drop,
+        requires callable { (i : ℕ) → i < n → F.pre number i }
+        ensures count { IfOk result (λ numbers. length numbers ≡ n) }
+        ensures tabulated { (at : ℕ → ℕ) → ((i v : ℕ) → i < n → F.post number i v → v ≡ at i) →
+            IfOk result (λ numbers. numbers ≡ tabulated n at) }
+    {
+        let mut numbers = Nats::empty(alloc);
+        for i in 0..n {
+            numbers.push(number(i))?;
+        }
+        Ok(numbers)
+    }
+
+    /// The numbers that `number` gives for each pair of numbers below `n`, row after row.
+    #[tactic(auto, unfolding(crate::specs::Numbers::by_pairs), using(crate::proofs::Square::row_below, crate::proofs::Square::column_below))]
+    pub fn by_pairs<F: Fn(u32, u32) -> u32>(alloc: Global, n: u32, number: F) -> Result<Nats, Memory>
+    where
+        F: Drop,
+        requires few { n ≤ 60 }
+        requires callable { (g h : ℕ) → g < n → h < n → F.pre number g h }
+        ensures pairs { (at : ℕ → ℕ → ℕ) → ((g h v : ℕ) → g < n → h < n → F.post number g h v → v ≡ at g h) →
+            IfOk result (λ numbers. numbers ≡ by_pairs n at) }
+    {
+        Nats::tabulate(alloc, n * n, |i| number(i / n, i % n))
     }
 
     /// Adds a number at the end. After `Memory` the list is as before.

@@ -6,6 +6,7 @@ use Rattle.std.proofs.lemmas.Bool.{eq-eqb}
 use Rattle.std.proofs.lemmas.Nat.{div-mul-add, mod-mul-add}
 use Rattle.std.proofs.lemmas.List.FromFn.{get_or-map-range_with_len}
 use Rattle.scan.proofs.Places.{first_none}
+use Rattle.scan.proofs.Searches.{no_fault, where_asked}
 use Rattle.group_table.specs.Group.{identity_of}
 use Rattle.group_table.proofs.Square.{place_below}
 use Rattle.group_make.specs.Formulas.{dicyclic_group}
@@ -21,14 +22,6 @@ use Rattle.named_cocycles.specs.declared.maker.Maker.TheVariants.{TypeTwo, TypeT
 use Rattle.named_cocycles.specs.Makers.{reflections_cocycle}
 use Rattle.named_cocycles.specs.Samples.{sample_base, has_identity, gauge_number, gauge_numbers, sample_cocycle}
 use Rattle.named_cocycles.proofs.Named.{is_small, plain, reflections, made_is_cocycle}
-
-no_fault : {A : Type 0} (b : Bool) (x : A) → b ≡ true → cond b None (Some x) ≡ None
-no_fault true x e = refl
-no_fault false x e = absurd cc
-
-where_it_is : (b c : Bool) → (b ≡ true → c ≡ true) → cond b c true ≡ true
-where_it_is true c h = h refl
-where_it_is false c h = refl
 
 module _ (w : Cochain) (s : ℕ) where
   -- the number of a pair stands at its place
@@ -52,7 +45,7 @@ module _ (w : Cochain) (s : ℕ) where
       let e = identity_of w.group in
       first_none n _ (λ g p. first_none n _ (λ h q.
       no_fault (is_normal_pair w b g h) (NotNormal g h)
-      (where_it_is (nat_eq g e || nat_eq h e) (nat_eq (pair_value w b g h) 0) (λ one. eq-eqb _ _ (nought_at_identity g h p q one)))))
+      (where_asked (nat_eq g e || nat_eq h e) (nat_eq (pair_value w b g h) 0) (λ one. eq-eqb _ _ (nought_at_identity g h p q one)))))
 
 quaternions : IsCocycle (trivial_cocycle (dicyclic_group 2) 2)
 quaternions = plain (dicyclic_group 2) 2 (table_group _ _ _ (dicyclic_below 2 (lit< tt))) (is_small 8 refl) (record { from_one = lit≤ tt; to_most = lit≤ tt })

@@ -13,7 +13,8 @@ use Rattle.group_make.proofs.Bounds.{small_factors, acts_once}
 use Rattle.group_make.proofs.Extensions.{cyclic_below}
 use Rattle.group_make.proofs.FormulaGroups.{dihedral_below, dicyclic_below, product_below, semidirect_below}
 use Rattle.cochain.specs.Cochain.{cochain_of, exponents_by, cocycle_fault, IsRoots, IsCocycle}
-use Rattle.cochain.proofs.Formula.{length-exponents_by}
+use Rattle.scan.proofs.Searches.{passes}
+use Rattle.cochain.proofs.Lawful.{is_cocycle}
 use Rattle.cocycle_make.specs.Cocycles.{trivial_cocycle, roots_of, step_of, type_one_value, type_one_cocycle, type_two_value, type_two_cocycle, type_three_value, type_three_cocycle, divisor_of_three}
 use Rattle.cocycle_make.proofs.Divisor.{divisor, lowest_terms}
 use Rattle.cocycle_make.proofs.Lawful.{trivial_lawful, type_one_lawful, type_two_lawful, type_three_lawful, three_positive}
@@ -23,34 +24,14 @@ use Rattle.named_cocycles.specs.declared.maker.Maker.TheVariants.{Cyclic, Produc
 use Rattle.named_cocycles.specs.Makers.{reflections_value, reflections_cocycle, dihedral_cocycle, made_cocycle, maker_fault}
 use Rattle.named_cocycles.proofs.Signs.{reflections_lawful}
 
-passes : {A : Type 0} (b : Bool) (x : A) → cond b None (Some x) ≡ None → b ≡ true
-passes true x e = refl
-passes false x e = absurd cc
-
 -- an order that is not refused
 pub is_small : (order : ℕ) → size_fault order ≡ None → IsSmall order
 is_small order accepted =
     let both = and_true _ _ (passes (nat_le 1 order && nat_le order 60) (Size order) accepted) in
     record { from_one = leb-true 1 order both.0; to_sixty = leb-true order 60 both.1 }
 
--- exponents by a formula that break no law
-is_cocycle : (t : Table) (roots : ℕ) (at : ℕ → ℕ → ℕ → ℕ) → IsGroup t → IsSmall t.order → IsRoots roots
-    → cocycle_fault (cochain_of t roots (exponents_by t.order at)) ≡ None → IsCocycle (cochain_of t roots (exponents_by t.order at))
-is_cocycle t roots at T small few lawful = record {
-  cochain = record {
-    group = T;
-    small = small;
-    number = few;
-    cube = length-map (exponents_by t.order at) (λ (v : ℕ). v % roots) ∙ length-exponents_by t.order at;
-    below = λ i p.
-        let inside : i < length (exponents_by t.order at) = rw (← length-map (exponents_by t.order at) (λ (v : ℕ). v % roots)) p in
-        rw (get_or-map (λ v. v % roots) (exponents_by t.order at) i 0 0 inside) (mod-lt _ few.from_one);
-  };
-  lawful = lawful;
-}
-
 pub plain : (t : Table) (roots : ℕ) → IsGroup t → IsSmall t.order → IsRoots roots → IsCocycle (trivial_cocycle t roots)
-plain t roots T small few = is_cocycle t roots (λ x y z. 0) T small few (trivial_lawful t roots T few.from_one)
+plain t roots T small few = is_cocycle t T roots (λ x y z. 0) small few (trivial_lawful t roots T few.from_one)
 
 one_root : IsRoots 1
 one_root = record { from_one = lit≤ tt; to_most = lit≤ tt }
@@ -77,7 +58,7 @@ factors a b c small =
 cyclic : (n p : ℕ) → IsSmall n → IsCocycle (type_one_cocycle n p)
 cyclic n p small =
     let positive : 0 < n = omega (arith, small.from_one) in
-    is_cocycle (cyclic_group n) (roots_of n p) (type_one_value n (step_of n p)) (table_group n 0 _ (cyclic_below n positive)) small
+    is_cocycle (cyclic_group n) (table_group n 0 _ (cyclic_below n positive)) (roots_of n p) (type_one_value n (step_of n p)) small
     (few_roots n p positive small.to_sixty) (type_one_lawful n p positive)
 
 product_is_group : (a b c : ℕ) → Factors a b c → IsGroup (product_group a b c)
@@ -86,7 +67,7 @@ product_is_group a b c F = table_group _ _ _ (product_below a b c F.a_positive F
 type_two : (a b p : ℕ) → IsSmall (1 * a * b) → IsCocycle (type_two_cocycle a b p)
 type_two a b p small =
     let F = factors 1 a b small in
-    is_cocycle (product_group 1 a b) (roots_of a p) (type_two_value b (step_of a p)) (product_is_group 1 a b F) small
+    is_cocycle (product_group 1 a b) (product_is_group 1 a b F) (roots_of a p) (type_two_value b (step_of a p)) small
     (few_roots a p F.b_positive F.b_few) (type_two_lawful a b p F.b_positive F.c_positive)
 
 type_three : (a b c p : ℕ) → IsSmall (a * b * c) → IsCocycle (type_three_cocycle a b c p)
@@ -95,7 +76,7 @@ type_three a b c p small =
     let t = divisor_of_three a b c in
     let two = divisor a b F.a_positive in
     let three = divisor _ c two.positive in
-    is_cocycle (product_group a b c) (roots_of t p) (type_three_value b c (step_of t p)) (product_is_group a b c F) small
+    is_cocycle (product_group a b c) (product_is_group a b c F) (roots_of t p) (type_three_value b c (step_of t p)) small
     (few_roots t p (three_positive a b c F.a_positive) (omega (arith, F.a_few, two.most, three.most)))
     (type_three_lawful a b c p F.a_positive F.b_positive F.c_positive)
 
@@ -105,7 +86,7 @@ dihedral_is_group n positive = table_group _ _ _ (dihedral_below n positive)
 pub reflections : (n : ℕ) → IsSmall (2 * n) → IsCocycle (reflections_cocycle n)
 reflections n small =
     let positive : 0 < n = omega (arith, small.from_one) in
-    is_cocycle (dihedral_group n) 2 (reflections_value n) (dihedral_is_group n positive) small (record { from_one = lit≤ tt; to_most = lit≤ tt }) (reflections_lawful n positive)
+    is_cocycle (dihedral_group n) (dihedral_is_group n positive) 2 (reflections_value n) small (record { from_one = lit≤ tt; to_most = lit≤ tt }) (reflections_lawful n positive)
 
 dihedral : (n : ℕ) (twisted : Bool) → IsSmall (2 * n) → IsCocycle (dihedral_cocycle n twisted)
 dihedral n false small = plain (dihedral_group n) 1 (dihedral_is_group n (omega (arith, small.from_one))) small one_root

@@ -8,7 +8,7 @@ use Rattle.group_make.specs.Formulas.{pair, dihedral_product}
 use Rattle.group_make.proofs.Extensions.{second_of}
 use Rattle.group_make.proofs.FormulaGroups.{dihedral_below}
 use Rattle.cochain.specs.Cochain.{cocycle_fault}
-use Rattle.cochain.proofs.Lawful.{IsLawful}
+use Rattle.cochain.specs.Laws.{IsLawful}
 use Rattle.cocycle_make.proofs.Cup.{lawful_by, IsCup, cup}
 use Rattle.named_cocycles.specs.Makers.{reflections_value, reflections_cocycle}
 

@@ -5,7 +5,7 @@ use Rattle.std.proofs.lemmas.Nat.{div-mul-add, mod-mul-add, row_fits}
 use Rattle.group_table.specs.Group.{Table, product, identity_of, inverse, IsGroup}
 use Rattle.group_table.proofs.Sentences.{IsTwoSidedInverse, identity_below, closed}
 use Rattle.classes.specs.Conjugacy.{conjugate}
-use Rattle.classes.proofs.Searches.{is_some_of, some_of, least_passing, least_passing_found}
+use Rattle.scan.proofs.Searches.{is_some_of, some_of, least_passing, least_passing_found}
 use Rattle.classes.proofs.Conjugacy.{inverse_at, conjugate_below, conjugate_by_product, conjugate_of_product, conjugate_by_identity}
 use Rattle.pair_orbits.specs.PairOrbits.{pair_number, first_of, second_of, is_commuting, conjugate_pair, are_conjugate}
 

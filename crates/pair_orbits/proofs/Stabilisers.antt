@@ -5,7 +5,7 @@ use Rattle.std.proofs.lemmas.Bool.{cases_lt}
 use Rattle.orders.proofs.Sums.{total, pick, total_same, total_nought, total_constant, total_exchange, total_pick, total_permuted}
 use Rattle.group_table.specs.Group.{Table, product, inverse, IsGroup}
 use Rattle.group_table.proofs.Sentences.{group_below, closed}
-use Rattle.classes.proofs.Searches.{same_test}
+use Rattle.scan.proofs.Searches.{same_test}
 use Rattle.classes.proofs.Conjugacy.{inverse_at}
 use Rattle.pair_orbits.specs.PairOrbits.{conjugate_pair, are_conjugate, conjugates_of, fixing}
 use Rattle.pair_orbits.proofs.Actions.{order_positive, carried_below, carried_by_product, carried_back, pair_carrier, pair_conjugate_by}

@@ -7,7 +7,7 @@ use Rattle.algebra.specs.Structures.{CommRing}
 use Rattle.algebra.specs.Sums.{sum_below, pick, multiple, sum_list}
 use Rattle.algebra.proofs.SumLaws.{sum_ext, sum_exchange, sum_pick, pick_cong, pick_pick, pick_sum}
 use Rattle.group_table.specs.Group.{Table, IsGroup}
-use Rattle.classes.proofs.Searches.{same_test}
+use Rattle.scan.proofs.Searches.{same_test}
 use Rattle.pair_orbits.specs.PairOrbits.{first_of, second_of, is_commuting, are_conjugate, is_least, conjugates_of, least_pairs, weighted_pair, listed_pairs, commuting_pairs_of}
 use Rattle.pair_orbits.specs.Laws.{IsInvariant, sum_over_pairs, sum_over_orbits, SumsOverOrbits, SizesOverOrbits}
 use Rattle.pair_orbits.proofs.Actions.{first_below, second_below, first_carried, second_carried, pair_carrier, pair_sym, commuting_conjugate}

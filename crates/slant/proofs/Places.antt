@@ -11,10 +11,10 @@ use Rattle.group_table.proofs.Numbers.{passing_below-ascending}
 use Rattle.orders.proofs.Powers.{inverse_unique}
 use Rattle.classes.specs.Conjugacy.{conjugate, centraliser_of}
 use Rattle.classes.proofs.Conjugacy.{centraliser_exactly}
-use Rattle.classes.proofs.Searches.{IsLeastPassing, least_passing, least_passing_found}
+use Rattle.scan.proofs.Searches.{IsLeastPassing, least_passing, least_passing_found}
 use Rattle.slant.specs.Twists.{place_in, product_place, table_of}
-use Rattle.slant.proofs.Lawful.{identity_is_unit, is_group}
-use Rattle.slant.proofs.Pairs.{length-by_pairs, pair_at}
+use Rattle.group_table.proofs.Lawful.{identity_is_unit, is_group}
+use Rattle.group_table.proofs.Square.{length-by_pairs, pair_at}
 
 -- x is an element that commutes with a
 pub record Centralises (t : Table) (a x : ℕ) : Type 0 where

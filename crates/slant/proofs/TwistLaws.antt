@@ -15,10 +15,11 @@ use Rattle.twisted.specs.Twist.{TwistedSubgroup, phase, size, HasCocycle, IsTwis
 use Rattle.twisted.specs.Regular.{kappa as kappa_at_places}
 use Rattle.slant.specs.Phases.{carried, theta, kappa}
 use Rattle.slant.specs.TwistLaws.{CentraliserIsTwist, ElementsCommute, ProductsAgree, IdentitiesAgree, InversesAgree, PhasesAgree, KappasAgree}
-use Rattle.slant.specs.Twists.{by_pairs, table_of, phase_at, twist_over, twist_of}
+use Rattle.group_table.specs.Numbers.{by_pairs}
+use Rattle.slant.specs.Twists.{table_of, phase_at, twist_over, twist_of}
 use Rattle.slant.proofs.Identities.{phases_below, theta_normalised, theta_associative}
-use Rattle.slant.proofs.Lawful.{identity_is_unit}
-use Rattle.slant.proofs.Pairs.{length-by_pairs, row_below, column_below, listed_at, pair_at}
+use Rattle.group_table.proofs.Lawful.{identity_is_unit}
+use Rattle.group_table.proofs.Square.{length-by_pairs, row_below, column_below, listed_at, pair_at}
 use Rattle.slant.proofs.Places.{Centralises, elements, element, table, place, ascending, element_centralises, own, identity_centralises, place_below, element_at_place, element_of_product, product_below, places_group, places_lawful, element_of_identity, element_of_inverse, conjugate_below, element_of_conjugate}
 
 -- what commutes with a carries it to itself

@@ -1,17 +1,13 @@
 -- The centraliser of an element a with the slant product at a (Dijkgraaf, Pasquier, Roche 1990). An element is a number of the whole
 -- group; a place is the number of an element in the ascending list of the centraliser.
-use Rattle.std.specs.Prelude.{ℕ, ◌*◌, ◌/◌, ◌%◌, ◌==◌, List, length, map, slice_index, Option, Some, None, unwrap_or, if◌then◌else◌}
-use Rattle.std.specs.List.{range_with_len}
+use Rattle.std.specs.Prelude.{ℕ, ◌==◌, List, length, slice_index, Option, Some, None, unwrap_or, if◌then◌else◌}
 use Rattle.scan.specs.First.{first}
 use Rattle.group_table.specs.Group.{Table, product}
+use Rattle.group_table.specs.Numbers.{by_pairs}
 use Rattle.cochain.specs.Cochain.{Cochain}
 use Rattle.classes.specs.Conjugacy.{centraliser_of}
 use Rattle.twisted.specs.Twist.{TwistedSubgroup}
 use Rattle.slant.specs.Phases.{theta}
-
--- a number for each pair of places below m, row after row
-unfoldable pub by_pairs : ℕ → (ℕ → ℕ → ℕ) → List ℕ
-by_pairs m number = map (λ i. number (i / m) (i % m)) (range_with_len 0 (m * m))
 
 -- the place of the element x among these, if it is one
 abbrev pub place_in : List ℕ → ℕ → Option ℕ

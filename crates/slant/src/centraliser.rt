@@ -1,32 +1,18 @@
 //! The centraliser of an element with the slant product at it.
 
 ghost use Rattle.std.specs.Prelude.{◌≡◌, ℕ, ◌*◌, ◌<◌, ◌≤◌, ◌==◌, length, slice_index, IfOk};
-ghost use Rattle.group_table.specs.Group.{Table, product, group_fault, IsGroup, IsSmall};
+ghost use Rattle.group_table.specs.Group.{Table, product, IsGroup, IsSmall};
 ghost use Rattle.classes.specs.Conjugacy.{centraliser_of};
 ghost use Rattle.cochain.specs.Cochain.{IsCocycle};
-ghost use Rattle.slant.specs.Twists.{by_pairs, place_in, product_place, table_of, phase_at, twist_of};
+ghost use Rattle.group_table.specs.Numbers.{by_pairs};
+ghost use Rattle.slant.specs.Twists.{place_in, product_place, table_of, phase_at, twist_of};
 
 use crate::slant_product::theta;
 use cochain::Cocycle;
-use group_table::{Group, GroupRefusal, Memory, Nats};
+use group_table::{Group, Memory, Nats};
 use scan::first_below;
 use std::alloc::Global;
 use twisted::Twist;
-
-/// A number for each pair of places below `m`, row after row.
-fn by_pairs<F: Fn(u32, u32) -> u32>(alloc: Global, m: u32, number: F) -> Result<Nats, Memory>
-where
-    F: Drop,
-    requires small { m ≤ 60 }
-    requires callable { (p r : ℕ) → p < m → r < m → F.pre number p r }
-    ensures pairs { (at : ℕ → ℕ → ℕ) → ((p r v : ℕ) → p < m → r < m → F.post number p r v → v ≡ at p r) → IfOk result (λ numbers. numbers ≡ by_pairs m at) }
-{
-    let mut numbers = Nats::empty(alloc);
-    for i in 0..m * m {
-        numbers.push(number(i / m, i % m))?;
-    }
-    Ok(numbers)
-}
 
 /// The elements that commute with `a`, ascending.
 #[tactic(auto, unfolding(classes::specs::Conjugacy::centraliser_of))]
@@ -70,12 +56,8 @@ fn places_group(alloc: Global, group: &Group, elements: &Nats) -> Result<Group, 
     ensures group { IfOk result (λ places. places ≡ table_of group.now elements.now) }
 {
     let size = elements.len();
-    let table = by_pairs(alloc, size, |p, r| product_place(group, elements, p, r))?;
-    match Group::from_table(alloc, size, &table) {
-        Ok(places) => Ok(places),
-        Err(GroupRefusal::Memory) => Err(Memory),
-        Err(GroupRefusal::Fault(_)) => unreachable!(),
-    }
+    let table = Nats::by_pairs(alloc, size, |p, r| product_place(group, elements, p, r))?;
+    Group::from_lawful(alloc, size, table)
 }
 
 /// The slant product at `a` of these elements, for each pair of their places.
@@ -85,7 +67,7 @@ fn phases(alloc: Global, w: &Cocycle, a: u32, elements: &Nats) -> Result<Nats, M
     requires small { IsSmall (length elements.now) }
     ensures phases { IfOk result (λ phases. phases ≡ by_pairs (length elements.now) (phase_at w.now a elements.now)) }
 {
-    by_pairs(
+    Nats::by_pairs(
         alloc,
         elements.len(),
         |p, r| theta(w, a, elements.at(p), elements.at(r)),

@@ -12,7 +12,7 @@ use Rattle.cyclotomic.specs.Laws.Values.{value_of-scaled, multiple_zero as scale
 use Rattle.classes.proofs.Conjugacy.{IsRepresentative}
 use Rattle.table_check.specs.Sides.{with_phase, conjugate_value as conjugate_value_at, central_left, central_right}
 use Rattle.scan.proofs.Places.{and_true, first_some}
-use Rattle.classes.proofs.Searches.{first_finds}
+use Rattle.scan.proofs.Searches.{first_finds}
 use Rattle.algebra.specs.Sums.{multiple}
 use Rattle.algebra.specs.Groups.{Group}
 use Rattle.algebra.specs.Below.{Below, below_equal}

@@ -6,7 +6,7 @@ use Rattle.algebra.specs.Sums.{sum_below}
 use Rattle.algebra.specs.Groups.{conj}
 use Rattle.algebra.specs.Below.{Below, below_equal}
 use Rattle.algebra.proofs.SumLaws.{mul_pick, sum_pick, sum_ext, sum_exchange, sum_mul, mul_sum}
-use Rattle.classes.proofs.Searches.{first_finds}
+use Rattle.scan.proofs.Searches.{first_finds}
 use Rattle.cochain.specs.Cochain.{Cochain}
 use Rattle.group_table.specs.Group.{identity_of}
 use Rattle.cyclotomic.specs.Cyclotomic.{cyclotomic}

@@ -8,7 +8,7 @@ use Rattle.scan.proofs.Places.{first-suc, first-zero}
 use Rattle.algebra.specs.Structures.{CommRing}
 use Rattle.algebra.specs.Roots.{RootOfUnity}
 use Rattle.classes.specs.Conjugacy.{conjugate}
-use Rattle.classes.proofs.Searches.{least_passing}
+use Rattle.scan.proofs.Searches.{least_passing}
 use Rattle.classes.proofs.Conjugacy.{conjugate_below}
 use Rattle.twisted.specs.Twist.{TwistedSubgroup, size, IsTwist}
 use Rattle.twisted.specs.Regular.{kappa, is_regular}

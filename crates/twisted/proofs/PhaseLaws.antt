@@ -5,7 +5,7 @@ use Rattle.algebra.specs.Below.{Below, below_equal}
 use Rattle.algebra.proofs.CongruenceLaws.{same_equal}
 use Rattle.group_table.specs.Group.{product}
 use Rattle.classes.specs.Conjugacy.{conjugate}
-use Rattle.classes.proofs.Searches.{same_test}
+use Rattle.scan.proofs.Searches.{same_test}
 use Rattle.twisted.specs.Twist.{TwistedSubgroup, size, IsTwist}
 use Rattle.twisted.specs.Regular.{kappa, is_regular}
 use Rattle.twisted.proofs.Carrying.{carry, carry_back}

@@ -13,7 +13,7 @@ use Rattle.scan.specs.First.{all_below}
 use Rattle.scan.proofs.Places.{all_below-all, all_below-at, and_true}
 use Rattle.group_table.specs.Group.{Table, product, identity_of, IsGroup}
 use Rattle.classes.specs.Conjugacy.{conjugate, representative_of, representatives, other_representatives}
-use Rattle.classes.proofs.Searches.{same_test}
+use Rattle.scan.proofs.Searches.{same_test}
 use Rattle.classes.proofs.Conjugacy.{carrier, conjugate_by, conjugate_refl, conjugate_sym, conjugate_below, representative_least}
 
 -- p is least in its class exactly where no conjugate is lower

@@ -2,20 +2,12 @@ use Rattle.classes.proofs.Conjugacy.{conjugate_by_identity, conjugate_by_product
 use Rattle.classes.proofs.Counting.{class_equation}
 use Rattle.classes.proofs.conjugation_laws.Goals as goal
 
-pub returns-clause-by_identity : goal.returns-clause-by_identity
-returns-clause-by_identity c = conjugate_by_identity
-
-pub returns-clause-by_product : goal.returns-clause-by_product
-returns-clause-by_product c = conjugate_by_product
-
-pub returns-clause-of_product : goal.returns-clause-of_product
-returns-clause-of_product c = conjugate_of_product
-
-pub returns-clause-members : goal.returns-clause-members
-returns-clause-members c = members_exactly
-
-pub returns-clause-centraliser : goal.returns-clause-centraliser
-returns-clause-centraliser c = centraliser_exactly
-
-pub returns-clause-equation : goal.returns-clause-equation
-returns-clause-equation c = class_equation
+pub returns : goal.returns
+returns c = record {
+  by_identity = conjugate_by_identity;
+  by_product = conjugate_by_product;
+  of_product = conjugate_of_product;
+  members = members_exactly;
+  centraliser = centraliser_exactly;
+  equation = class_equation;
+}

@@ -1,26 +1,14 @@
 -- A table whose products are a group on the numbers below its order breaks no law.
-use Rattle.std.proofs.Common.{◌≡◌, ℕ, ◌*◌, Bool, true, false, ◌&&◌, nat_eq, nat_lt, cond, Some, None, length, refl, sym, ◌∙◌}
+use Rattle.std.proofs.Common.{◌≡◌, ℕ, ◌*◌, Bool, true, false, ◌&&◌, nat_eq, nat_lt, cond, Some, None, ◌↔◌, length, refl, sym, ◌∙◌}
 use Rattle.std.specs.Prelude.{is_some}
 use Rattle.std.proofs.lemmas.Bool.{eq-eqb, lt-ltb}
 use Rattle.scan.proofs.Places.{first_none, all_below-all}
 use Rattle.orders.specs.Group.{IsGroupBelow}
 use Rattle.group_table.specs.Group.{Table, product, entry_fault, is_identity, two_sided_identity, identity_of, identity_fault, inverse_of, inverse_fault, associates, associativity_fault, group_fault, IsGroup}
 use Rattle.group_table.specs.declared.fault.GroupFault.TheVariants.{Entry, NoIdentity, NoInverse, NotAssociative}
-use Rattle.group_table.proofs.Sentences.{identity_is}
-use Rattle.classes.proofs.Searches.{first_finds, is_some_of}
-
--- a test that passes finds nothing wrong
-no_fault : {A : Type 0} (b : Bool) (x : A) → b ≡ true → cond b None (Some x) ≡ None
-no_fault true x e = refl
-no_fault false x e = absurd cc
-
-found : {A : Type 0} (b : Bool) (x : A) → b ≡ true → cond b (Some x) None ≡ Some x
-found true x e = refl
-found false x e = absurd cc
-
-both : (a b : Bool) → a ≡ true → b ≡ true → (a && b) ≡ true
-both true b e h = h
-both false b e h = absurd cc
+use Rattle.group_table.specs.Laws.{GroupExactly}
+use Rattle.group_table.proofs.Sentences.{identity_is, group_below}
+use Rattle.scan.proofs.Searches.{both, no_fault, let_in, first_finds, is_some_of}
 
 module _ (t : Table) (u : ℕ) (B : IsGroupBelow t.order (product t) u) where
   entries : entry_fault t ≡ None
@@ -31,7 +19,7 @@ module _ (t : Table) (u : ℕ) (B : IsGroupBelow t.order (product t) u) where
 
   has_identity : identity_fault t ≡ None
   has_identity =
-      let (e, here) = first_finds t.order u (λ e. cond (is_identity t e) (Some e) None) u B.unit_below (found (is_identity t u) u unit_found) in
+      let (e, here) = first_finds t.order u (λ e. cond (is_identity t e) (Some e) None) u B.unit_below (let_in (is_identity t u) u unit_found) in
       no_fault (is_some (two_sided_identity t)) NoIdentity (is_some_of (two_sided_identity t) e here)
 
   -- the identity that is found is the unit
@@ -45,7 +33,7 @@ module _ (t : Table) (u : ℕ) (B : IsGroupBelow t.order (product t) u) where
       first_none t.order _
       (λ g p.
       let (h, below, right) = B.right_inverse g p in
-      let (k, here) = first_finds t.order h (λ h. cond (nat_eq (product t g h) (identity_of t)) (Some h) None) h below (found (nat_eq (product t g h) (identity_of t)) h (eq-eqb _ _ (right ∙ sym identity_is_unit))) in
+      let (k, here) = first_finds t.order h (λ h. cond (nat_eq (product t g h) (identity_of t)) (Some h) None) h below (let_in (nat_eq (product t g h) (identity_of t)) h (eq-eqb _ _ (right ∙ sym identity_is_unit))) in
       no_fault (is_some (inverse_of t g)) (NoInverse g) (is_some_of (inverse_of t g) k here))
 
   associativity : associativity_fault t ≡ None
@@ -58,3 +46,9 @@ module _ (t : Table) (u : ℕ) (B : IsGroupBelow t.order (product t) u) where
 
   pub is_group : length t.entries ≡ t.order * t.order → IsGroup t
   is_group square = record { square = square; lawful = lawful }
+
+pub group_exactly : GroupExactly
+group_exactly t = (
+  λ group. (group.square, (identity_of t, group_below t group)),
+  λ sentences. is_group t sentences.1.0 sentences.1.1 sentences.0,
+)
