@@ -3,8 +3,8 @@ use Rattle.std.specs.Prelude.{ℕ, zero, suc, ◌==◌, ◌&&◌, Bool, List, []
 use Rattle.scan.specs.First.{all_below}
 use Rattle.algebra.specs.Below.{Below}
 use Rattle.prime_field.specs.declared.mod_ring.ModRing.{ModRing}
-use Rattle.prime_field.specs.Field.{field, field_residue}
-use Rattle.prime_field.specs.Laws.Field.{field_unit}
+use Rattle.prime_field.specs.Field.{field_residue}
+use Rattle.prime_field.specs.RingObject.{residue_field, residue_root}
 use Rattle.twisted.specs.Twist.{TwistedSubgroup}
 use Rattle.twisted.specs.Regular.{rank}
 use Rattle.twisted.specs.Algebra.{twisted_product}
@@ -28,15 +28,15 @@ module _ (ring : ModRing) (s : TwistedSubgroup) where
   -- the values respect the product of the class sums of the i-th and the j-th regular class
   abbrev pub respects : List ℕ → ℕ → ℕ → Bool
   respects values i j =
-      let F = field ring.q ring.listed in
-      let U = field_unit ring.q ring.listed ring.conductor ring.root ring.least ring.entry ring.apart in
+      let F = residue_field ring in
+      let U = residue_root ring in
       (linear_value F U s (residue_at values) (twisted_product F U s (regular_sum F U s i) (regular_sum F U s j))).value
       == (F.mul (residue_at values i) (residue_at values j)).value
 
   -- they are the values of a central character: 1 at the class sum of the identity, and every product of two class sums is respected
   unfoldable pub is_character : List ℕ → Bool
   is_character values =
-      ((residue_at values 0).value == (field ring.q ring.listed).one.value) && all_below (rank s) (λ i. all_below (rank s) (respects values i))
+      ((residue_at values 0).value == (residue_field ring).one.value) && all_below (rank s) (λ i. all_below (rank s) (respects values i))
 
   -- all central characters
   unfoldable pub central_characters : List (List ℕ)

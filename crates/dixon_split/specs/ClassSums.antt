@@ -1,23 +1,13 @@
 -- Class sums of a twist over the residues modulo a prime, and their products, as numbers below the prime.
 use Rattle.std.specs.Prelude.{ℕ, ◌/◌, ◌%◌, List, slice_index}
-use Rattle.algebra.specs.Structures.{CommRing}
 use Rattle.algebra.specs.Below.{Below}
-use Rattle.algebra.specs.Roots.{RootOfUnity}
 use Rattle.prime_field.specs.declared.mod_ring.ModRing.{ModRing}
-use Rattle.prime_field.specs.Field.{field, field_residue}
-use Rattle.prime_field.specs.Laws.Field.{field_unit}
+use Rattle.prime_field.specs.Field.{field_residue}
+pub use Rattle.prime_field.specs.RingObject.{residue_field, residue_root}
 use Rattle.twisted.specs.Twist.{TwistedSubgroup, size}
 use Rattle.twisted.specs.Regular.{regular_representatives, rank}
 use Rattle.twisted.specs.Algebra.{product_term, twisted_product, class_sum}
 use Rattle.centre_algebra.specs.CentralCharacters.{regular_sum}
-
--- the field of the residues
-abbrev pub residue_field : (ring : ModRing) → CommRing (Below ring.q)
-residue_field ring = field ring.q ring.listed
-
--- its root of unity, whose order is the conductor
-abbrev pub residue_root : (ring : ModRing) → RootOfUnity (residue_field ring) ring.conductor
-residue_root ring = field_unit ring.q ring.listed ring.conductor ring.root ring.least ring.entry ring.apart
 
 -- the residues of numbers, by place
 abbrev pub residues_at : (ring : ModRing) → List ℕ → ℕ → Below ring.q
