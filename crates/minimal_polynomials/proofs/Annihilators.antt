@@ -1,21 +1,6 @@
 -- Polynomials that are nought at an element of an algebra in which each element is its own q-th power: they are those with a root at
 -- each number whose part of one isn't nought.
-use Rattle.std.proofs.Common.{◌≡◌, ◌≢◌, ℕ, zero, suc, ◌+◌, ◌<◌, ◌≤◌, ◌⊎◌, inl, inr, Bool, true, false, cond, List, [], ◌∷◌, map, length, length-append, add-one, refl, sym, ◌∙◌, ap, arith}
-use Rattle.std.proofs.lemmas.Bool.{cases_lt}
-use Rattle.algebra.specs.Structures.{CommRing}
-use Rattle.algebra.proofs.RingLaws.{ring_rules, one_mul, add_mul, mul_left_comm, mul_nought, nought_mul, nought_add}
-use Rattle.algebra.proofs.SumLaws.{mul_sum, sum_ext, sum_nought}
-use Rattle.group_table.specs.Numbers.{passing_below}
-use Rattle.group_table.proofs.Numbers.{passing_below-passes, passing_below-fails}
-use Rattle.algebra.specs.Fields.{Field}
-use Rattle.algebra.proofs.FieldLaws.{decide, test_passes}
-use Rattle.algebra.specs.Polynomials.{value, AllNought}
-use Rattle.algebra.proofs.PolynomialLaws.{value_nil, value_cons}
-use Rattle.prime_field.proofs.PolynomialRoots.{fewer_roots}
-use Rattle.splitting_theory.specs.Splitting.{IsFixed, ZeroTest, number, part}
-use Rattle.splitting_theory.specs.Algebras.{HasBasis}
-use Rattle.splitting_theory.proofs.Coordinates.{of_nought}
-use Rattle.splitting_theory.proofs.Parts.{part_acts, parts_total}
+use Rattle.minimal_polynomials.proofs.Names.{◌≡◌, ◌≢◌, ℕ, zero, suc, ◌+◌, ◌<◌, ◌≤◌, ◌⊎◌, inl, inr, Bool, true, false, cond, List, [], ◌∷◌, map, length, length-append, add-one, refl, sym, ◌∙◌, ap, arith, cases_lt, CommRing, ring_rules, one_mul, add_mul, mul_left_comm, mul_nought, nought_mul, nought_add, mul_sum, sum_ext, sum_nought, passing_below, passing_below-passes, passing_below-fails, Field, decide, test_passes, value, AllNought, value_nil, value_cons, fewer_roots, IsFixed, ZeroTest, number, part, HasBasis, of_nought, part_acts, parts_total}
 
 -- the last element of a list, or c where it is empty
 unfoldable pub last_or : {A : Type 0} → A → List A → A

@@ -1,23 +1,5 @@
 -- Powers of the elements of the centre, and their combinations, as elements of the twisted group algebra.
-use Rattle.std.proofs.Common.{◌≡◌, ℕ, zero, suc, ◌<◌, ◌%◌, refl, sym, ◌∙◌, ap, subst}
-use Rattle.std.proofs.Math.Dec.{eqb}
-use mathlib.Core.Path.{fun_ext, ap₂}
-use Rattle.algebra.specs.Structures.{CommRing}
-use Rattle.algebra.specs.Sums.{sum_below, pick, power}
-use Rattle.algebra.specs.Below.{Below}
-use Rattle.algebra.specs.Roots.{RootOfUnity}
-use Rattle.algebra.specs.Totals.{equals}
-use Rattle.algebra.proofs.RingLaws.{ring_rules, one_mul, nought_mul}
-use Rattle.algebra.proofs.SumLaws.{sum_ext, sum_mul, mul_sum, sum_exchange, sum_pick, sum_nought, pick_mul, power_zero, power_suc}
-use Rattle.group_table.specs.Group.{identity_of}
-use Rattle.twisted.specs.Twist.{TwistedSubgroup, size, phase, IsTwist}
-use Rattle.twisted.specs.Regular.{rank}
-use Rattle.twisted.specs.Algebra.{left_quotient, root, product_term, unit_vector, twisted_product, IsCentral, class_sum}
-use Rattle.twisted.proofs.AlgebraLaws.{product_on_places, product_associates, combination_central}
-use Rattle.central_ext.specs.PowersOfUnits.{algebra_power}
-use Rattle.power_theory.specs.Rings.{Ring}
-use Rattle.centre_powers.proofs.FixedPowers.{twist_ring, restricted}
-use Rattle.centre_algebra.proofs.CentreRing.{spread, spread_below, Centre, centre_ring, rep, rep_below, lift, lift_at, lift_read, sum_at, basis_at, number_of, scales, basis_product, product_at, unit_at_place, rank_positive}
+use Rattle.minimal_polynomials.proofs.Names.{◌≡◌, ℕ, zero, suc, ◌<◌, ◌%◌, refl, sym, ◌∙◌, ap, subst, eqb, fun_ext, ap₂, CommRing, sum_below, pick, power, Below, RootOfUnity, equals, ring_rules, one_mul, nought_mul, sum_ext, sum_mul, mul_sum, sum_exchange, sum_pick, sum_nought, pick_mul, power_zero, power_suc, identity_of, TwistedSubgroup, size, phase, IsTwist, rank, left_quotient, root, product_term, unit_vector, twisted_product, IsCentral, class_sum, product_on_places, product_associates, combination_central, algebra_power, Ring, twist_ring, restricted, spread, spread_below, Centre, centre_ring, rep, rep_below, lift, lift_at, lift_read, sum_at, basis_at, number_of, scales, basis_product, product_at, unit_at_place, rank_positive}
 
 module _ {A : Type 0} (R : CommRing A) {m : ℕ} (U : RootOfUnity R m) (s : TwistedSubgroup) (twist : IsTwist s) (divides : m % s.modulus ≡ 0) where
   abbrev C : CommRing (Centre R U s twist divides)

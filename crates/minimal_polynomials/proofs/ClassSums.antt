@@ -1,39 +1,6 @@
 -- The minimal polynomial of a class sum, and its roots.
-use Rattle.std.proofs.Common.{◌≡◌, ◌≢◌, ℕ, zero, suc, ◌+◌, ◌*◌, ◌-◌, ◌%◌, ◌<◌, true, List, [], ◌∷◌, map, length, get_or, refl, sym, ◌∙◌, ap, arith}
-use Rattle.std.proofs.Math.Nat.{mod-add-mod, mod-eq_of_lt, zero-mod, add-mod-mod}
-use Rattle.std.proofs.lemmas.Nat.{mul-mod_first}
-use Rattle.std.proofs.lemmas.List.{length-map}
-use Rattle.std.specs.Prelude.{◌==◌}
-use mathlib.Core.Path.{fun_ext, ap₂}
-use Rattle.algebra.specs.Structures.{CommRing}
-use Rattle.algebra.specs.Sums.{sum_below, power}
-use Rattle.algebra.specs.Below.{Below, below_equal}
-use Rattle.algebra.specs.Roots.{RootOfUnity}
-use Rattle.algebra.proofs.RingLaws.{mul_left_comm}
-use Rattle.algebra.proofs.SumLaws.{sum_zero, sum_ext, sum_first, mul_sum, power_zero, power_suc}
-use Rattle.group_table.specs.Numbers.{passing_below}
-use Rattle.group_table.proofs.Numbers.{passing_below-ext}
-use Rattle.prime_field.specs.declared.mod_ring.ModRing.{ModRing}
-use Rattle.prime_field.specs.Moduli.{is_modulus}
-use Rattle.prime_field.specs.Field.{field, field_residue}
-use Rattle.prime_field.specs.Evaluation.{value_at, is_root}
-use Rattle.prime_field.specs.Laws.Moduli.{modulus_over_one}
-use Rattle.prime_field.specs.ResidueLists.{AreBelow}
-use Rattle.algebra.specs.Polynomials.{value, AllNought}
-use Rattle.algebra.proofs.PolynomialLaws.{value_nil, value_cons}
-use Rattle.prime_field.proofs.PolynomialValues.{residue_field, residues_apart, coefficient_nought, roots_are}
-use Rattle.prime_field.specs.Laws.Field.{value_nought}
-use Rattle.splitting_theory.specs.Splitting.{IsFixed, ZeroTest, number}
-use Rattle.splitting_theory.specs.Algebras.{HasBasis}
-use Rattle.splitting_theory.proofs.Coordinates.{of_number}
-use Rattle.twisted.specs.Twist.{TwistedSubgroup, size}
-use Rattle.twisted.specs.Regular.{rank}
-use Rattle.centre_algebra.specs.CentralCharacters.{regular_sum}
-use Rattle.centre_algebra.proofs.CentreRing.{Centre, rep, rep_below, lift, lift_at}
+use Rattle.minimal_polynomials.proofs.Names.{◌≡◌, ℕ, zero, suc, ◌-◌, ◌%◌, ◌<◌, true, List, [], ◌∷◌, map, length, get_or, refl, sym, ◌∙◌, ap, arith, mod-eq_of_lt, length-map, fun_ext, ap₂, CommRing, sum_below, power, Below, below_equal, RootOfUnity, mul_left_comm, sum_zero, sum_ext, sum_first, mul_sum, power_zero, power_suc, passing_below, ModRing, is_modulus, field, field_residue, is_root, modulus_over_one, AreBelow, value, AllNought, value_nil, value_cons, residue_field, residues_apart, coefficient_nought, roots_are, value_nought, IsFixed, ZeroTest, number, HasBasis, of_number, TwistedSubgroup, size, rank, regular_sum, Centre, rep, rep_below, lift, lift_at, algebra_power, polynomial_at, IsNoughtAt, Serves, IsMinimalOfClass}
 use Rattle.centre_algebra.proofs.CharacterLists as lists
-use Rattle.central_ext.specs.PowersOfUnits.{algebra_power}
-use Rattle.minimal_polynomials.specs.MinimalPolynomials.{polynomial_at, IsNoughtAt}
-use Rattle.minimal_polynomials.specs.Laws.{Serves, IsMinimalOfClass}
 use Rattle.minimal_polynomials.proofs.Annihilators.{last_or, annihilator, annihilates, annihilator_monic, annihilator_least, roots_of_least}
 use Rattle.minimal_polynomials.proofs.CentralPolynomials.{lift_power, lift_combined, lift_nought}
 

@@ -1,3 +1,4 @@
+pub mod Names
 pub mod Annihilators
 pub mod CentralPolynomials
 pub mod ClassSums
