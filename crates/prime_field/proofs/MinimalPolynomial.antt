@@ -1,5 +1,5 @@
 -- The last of the kept rows for the equations of a matrix's powers is the matrix's minimal polynomial.
-use Rattle.prime_field.proofs.Names.{◌≡◌, inl, inr, ℕ, zero, suc, ◌+◌, ◌-◌, ◌*◌, ◌/◌, ◌%◌, ◌<◌, ◌≤◌, List, [], ◌∷◌, ◌++◌, length, get_or, length-append, refl, sym, ◌∙◌, ap, add-zero, arith, mod-lt, zero-mul, div-lt_iff_lt-mul, div-add-mod', place_below, get_or_push, nat_eq, nat_lt, cases_lt, cases_eq, eq-eqb, ne_eqb, lt-ltb, le-ltb, ap₂, fun_ext, CommRing, sum_below, pick, mul_nought, nought_mul, one_mul, ring_rules, add_mul, sum_zero, sum_ext, sum_nought, sum_add, mul_sum, sum_first, sum_split, sum_reindex, pick_of, pick_off, Field, dot, Solves, matrix_power, matrix_polynomial, IsAnnihilator, IsMinimal, horner, act, IsFree, IsGone, IsSolved, move_none, horner_nil, horner_cons, horner_move, monic_is, dot_is, columns, IsNoughtBelow, nought_stable, units, length_units, units_reach, killed}
+use Rattle.prime_field.proofs.Names.{◌≡◌, inl, inr, ℕ, zero, suc, ◌+◌, ◌-◌, ◌*◌, ◌/◌, ◌%◌, ◌<◌, ◌≤◌, List, [], ◌∷◌, ◌++◌, length, get_or, length-append, refl, sym, ◌∙◌, ap, add-zero, arith, mod-lt, zero-mul, div-lt_iff_lt-mul, div-add-mod', place_below, get_or_push, nat_eq, nat_lt, cases_lt, lt-ltb, le-ltb, ap₂, fun_ext, CommRing, sum_below, pick, mul_nought, nought_mul, sum_zero, sum_ext, sum_nought, sum_first, sum_split, sum_reindex, pick_of, pick_off, Field, dot, Solves, matrix_power, matrix_polynomial, IsAnnihilator, IsMinimal, horner, act, IsFree, IsGone, IsSolved, move_none, horner_nil, horner_cons, horner_move, monic_is, dot_is, columns, IsNoughtBelow, nought_stable, units, length_units, units_reach, killed}
 
 module _ {A : Type 0} (R : CommRing A) where
   pub power_at_zero : (w : ℕ) (a : ℕ → ℕ → A) (i j : ℕ) → matrix_power R w a zero i j ≡ pick R (nat_eq i j) R.one

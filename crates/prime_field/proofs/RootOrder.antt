@@ -1,5 +1,5 @@
 -- The order of the least root modulo q of the cyclotomic polynomial of K is K, which divides q - 1.
-use Rattle.prime_field.proofs.Names.{◌≡◌, ℕ, suc, ◌-◌, ◌%◌, ◌<◌, true, sym, ap, ◌∙◌, arith, inl, inr, cases_eq, mod-eq_of_lt, CommRing, power, RootOfUnity, mul_left_comm, power_suc, fixed_is_nought, is_modulus, field, modulus_positive, residue_power}
+use Rattle.prime_field.proofs.Names.{◌≡◌, ℕ, suc, ◌-◌, ◌%◌, ◌<◌, true, sym, ap, ◌∙◌, arith, inl, inr, cases_eq, CommRing, power, RootOfUnity, mul_left_comm, power_suc, fixed_is_nought, is_modulus, field, modulus_positive, residue_power}
 use Rattle.prime_field.proofs.PolynomialValues.{one_apart}
 
 -- what a root of unity doesn't change from one power to the next is 1
