@@ -1,7 +1,6 @@
 -- Conjugation in a group whose elements are the numbers below its size.
-use Rattle.std.proofs.Common.{◌≡◌, ℕ, ◌<◌, sym, ap, ◌∙◌}
+use Rattle.classes.proofs.Names.{◌≡◌, ℕ, ◌<◌, sym, ap, ◌∙◌, right_inverse_left, inverse_unique}
 use Rattle.orders.specs.Group.{IsGroupBelow}
-use Rattle.orders.proofs.Powers.{right_inverse_left, inverse_unique}
 
 module _ (n : ℕ) (op : ℕ → ℕ → ℕ) (unit : ℕ) (G : IsGroupBelow n op unit) where
   -- (k h)^-1 = h^-1 k^-1

@@ -1,18 +1,9 @@
 -- Conjugation is an action, conjugacy an equivalence, and each element has a representative, a transporter and a class.
-use Rattle.std.proofs.Common.{◌≡◌, ◌≢◌, ℕ, zero, suc, eq-or-lt_of_le, ◌<◌, ◌≤◌, Bool, true, false, ◌↔◌, cond, ◌&&◌, not, [], ◌∷◌, length, get_or, nat_eq, Some, None, refl, sym, ap, ◌∙◌, arith, inl, inr, eq-eqb, eqb-true}
-use Rattle.std.specs.Prelude.{unwrap_or}
+use Rattle.classes.proofs.Names.{◌≡◌, ◌≢◌, ℕ, eq-or-lt_of_le, ◌<◌, ◌≤◌, true, ◌↔◌, cond, ◌&&◌, not, length, get_or, nat_eq, Some, None, refl, sym, ap, ◌∙◌, inl, inr, eq-eqb, eqb-true, unwrap_or, All-get_or, All-cons, All-weaker, get_or_default, first-ext, and_true, inverse_unique, Table, product, identity_of, inverse, IsGroup, passing_below, two_sided_inverse, group_below, closed, identity_below, IsPassing, passing_below-all, passing_below-exactly, begun_differ, begun_contains, length-passing_below, same_test, IsLeastPassing, least_passing, least_passing_found}
 use Rattle.std.specs.List.{All, Contains}
-use Rattle.std.proofs.lemmas.List.Elements.{All-get_or, All-cons, All-weaker, Contains-append_right}
-use Rattle.std.proofs.lemmas.List.{get_or_default}
-use Rattle.scan.specs.First.{first}
-use Rattle.scan.proofs.Places.{first-ext, and_true}
-use Rattle.orders.proofs.Powers.{inverse_unique}
-use Rattle.group_table.specs.Group.{Table, product, identity_of, inverse, IsGroup}
-use Rattle.group_table.specs.Numbers.{passing_below}
-use Rattle.group_table.proofs.Sentences.{IsTwoSidedInverse, two_sided, inverse_found, group_below, closed, identity_below}
-use Rattle.group_table.proofs.Numbers.{IsPassing, passing_below-all, passing_below-contains, passing_below-ascending, passing_below-exactly, length-passing_below}
 use Rattle.classes.specs.Conjugacy.{conjugate, least_transporter, is_conjugate, representative_of, transporter_of, representatives, other_representatives, class_of, members_of, centraliser_of, representative_at}
-use Rattle.scan.proofs.Searches.{same_test, is_some_of, some_of, IsLeastPassing, least_passing, least_passing_found}
+use Rattle.classes.proofs.Orbits as orbits
+use Rattle.classes.proofs.Orbits.{IsAction, back, met_by, met_refl, met_sym, met_trans}
 use Rattle.classes.proofs.Action.{inverse_of_product, conjugate_in_steps, conjugate_of_product_steps}
 
 -- a is least in its class
@@ -31,30 +22,22 @@ pub record IsLeastTransporter (t : Table) (g k : ℕ) : Type 0 where
   pub carries : conjugate t k (representative_of t g) ≡ g
   pub least : (j : ℕ) → j < t.order → conjugate t j (representative_of t g) ≡ g → k ≤ j
 
-fails_and_passes : (b : Bool) → not b ≡ true → b ≡ true → ⊥
-fails_and_passes true fails passes = absurd cc
-fails_and_passes false fails passes = absurd cc
-
-different_numbers : (a e : ℕ) → not (nat_eq a e) ≡ true → a ≡ e → ⊥
-different_numbers a e fails same = fails_and_passes (nat_eq a e) fails (eq-eqb a e same)
+pub different_numbers : (a e : ℕ) → not (nat_eq a e) ≡ true → a ≢ e
+different_numbers a e fails same = let equal : nat_eq a e ≡ true = eq-eqb a e same in let wrong = rw equal at fails in absurd cc
 
 module _ (t : Table) (G : IsGroup t) where
-  -- the inverse of k
-  pub inverse_at : (k : ℕ) → k < t.order → IsTwoSidedInverse t k (inverse t k)
-  inverse_at k below = two_sided t k (inverse t k) G below (inverse_found t k G below)
-
   pub conjugate_below : (k a : ℕ) → k < t.order → a < t.order → conjugate t k a < t.order
   unfolding conjugate
-  conjugate_below k a p q = closed t (product t k a) (inverse t k) G (closed t k a G p q) (inverse_at k p).below
+  conjugate_below k a p q = closed t (product t k a) (inverse t k) G (closed t k a G p q) (two_sided_inverse t G k p).below
 
   -- (k h) a (k h)^-1 = k (h a h^-1) k^-1
   pub conjugate_by_product : (k h a : ℕ) → k < t.order → h < t.order → a < t.order
       → conjugate t (product t k h) a ≡ conjugate t k (conjugate t h a)
   unfolding conjugate
   conjugate_by_product k h a p q r =
-      let ki = inverse_at k p in
-      let hi = inverse_at h q in
-      let khi = inverse_at (product t k h) (closed t k h G p q) in
+      let ki = two_sided_inverse t G k p in
+      let hi = two_sided_inverse t G h q in
+      let khi = two_sided_inverse t G (product t k h) (closed t k h G p q) in
       ap (product t (product t (product t k h) a))
       (inverse_of_product _ _ _ (group_below t G) k h (inverse t k) (inverse t h) (inverse t (product t k h)) p q ki.below hi.below khi.below ki.right hi.right khi.right)
       ∙ conjugate_in_steps _ _ _ (group_below t G) k h a (inverse t h) (inverse t k) p q r hi.below ki.below
@@ -64,7 +47,7 @@ module _ (t : Table) (G : IsGroup t) where
       → conjugate t k (product t a b) ≡ product t (conjugate t k a) (conjugate t k b)
   unfolding conjugate
   conjugate_of_product k a b p q r =
-      conjugate_of_product_steps _ _ _ (group_below t G) k a b (inverse t k) p q r (inverse_at k p).below (inverse_at k p).right
+      conjugate_of_product_steps _ _ _ (group_below t G) k a b (inverse t k) p q r (two_sided_inverse t G k p).below (two_sided_inverse t G k p).right
 
   unit_below : identity_of t < t.order
   unit_below = identity_below t G
@@ -74,7 +57,7 @@ module _ (t : Table) (G : IsGroup t) where
   unfolding conjugate
   conjugate_by_identity a p =
       let B = group_below t G in
-      let i = inverse_at (identity_of t) unit_below in
+      let i = two_sided_inverse t G (identity_of t) unit_below in
       let own : inverse t (identity_of t) ≡ identity_of t =
       inverse_unique _ _ _ B (identity_of t) (inverse t (identity_of t)) (identity_of t) unit_below i.below unit_below i.right (B.unit_right (identity_of t) unit_below) in
       ap (product t (product t (identity_of t) a)) own
@@ -86,13 +69,15 @@ module _ (t : Table) (G : IsGroup t) where
   unfolding conjugate
   conjugate_of_identity k p =
       let B = group_below t G in
-      ap (λ x. product t x (inverse t k)) (B.unit_right k p) ∙ (inverse_at k p).right
+      ap (λ x. product t x (inverse t k)) (B.unit_right k p) ∙ (two_sided_inverse t G k p).right
+
+  -- the group acts on itself by conjugation
+  pub conjugation : IsAction t t.order (conjugate t)
+  conjugation = record { below = conjugate_below; by_product = conjugate_by_product; by_identity = conjugate_by_identity }
 
   -- k^-1 carries k a k^-1 back to a
   pub conjugate_back : (k a : ℕ) → k < t.order → a < t.order → conjugate t (inverse t k) (conjugate t k a) ≡ a
-  conjugate_back k a p q =
-      let i = inverse_at k p in
-      sym (conjugate_by_product (inverse t k) k a i.below p q) ∙ ap (λ x. conjugate t x a) i.left ∙ conjugate_by_identity a q
+  conjugate_back = back t G t.order (conjugate t) conjugation
 
   -- the least transporter carries, and is least
   pub transporter_least : (a g k : ℕ) → least_transporter t a g ≡ Some k → IsLeastPassing t.order (λ k. nat_eq (conjugate t k a) g) k
@@ -100,31 +85,20 @@ module _ (t : Table) (G : IsGroup t) where
 
   -- some k carries a to g, where a and g are conjugate
   pub carrier : (a g : ℕ) → is_conjugate t a g ≡ true → (k : ℕ) × (k < t.order) × (conjugate t k a ≡ g)
-  carrier a g conjugates =
-      let (k, found) = some_of (least_transporter t a g) conjugates in
-      let least = transporter_least a g k found in
-      (k, least.below, eqb-true _ _ least.passes)
+  carrier = orbits.carrier t G t.order (conjugate t) conjugation
 
   -- where some k carries a to g, they are conjugate
   pub conjugate_by : (a g k : ℕ) → k < t.order → conjugate t k a ≡ g → is_conjugate t a g ≡ true
-  conjugate_by a g k below carries =
-      let passes : nat_eq (conjugate t k a) g ≡ true = eq-eqb _ _ carries in
-      is_some_of (least_transporter t a g) _ (least_passing_found t.order (λ k. nat_eq (conjugate t k a) g) k below passes)
+  conjugate_by = met_by t G t.order (conjugate t) conjugation
 
   pub conjugate_refl : (a : ℕ) → a < t.order → is_conjugate t a a ≡ true
-  conjugate_refl a p = conjugate_by a a (identity_of t) unit_below (conjugate_by_identity a p)
+  conjugate_refl = met_refl t G t.order (conjugate t) conjugation
 
   pub conjugate_sym : (a g : ℕ) → a < t.order → is_conjugate t a g ≡ true → is_conjugate t g a ≡ true
-  conjugate_sym a g p conjugates =
-      let (k, below, carries) = carrier a g conjugates in
-      conjugate_by g a (inverse t k) (inverse_at k below).below (ap (conjugate t (inverse t k)) (sym carries) ∙ conjugate_back k a below p)
+  conjugate_sym = met_sym t G t.order (conjugate t) conjugation
 
   pub conjugate_trans : (a g h : ℕ) → a < t.order → is_conjugate t a g ≡ true → is_conjugate t g h ≡ true → is_conjugate t a h ≡ true
-  conjugate_trans a g h p first second =
-      let (k, k_below, k_carries) = carrier a g first in
-      let (l, l_below, l_carries) = carrier g h second in
-      conjugate_by a h (product t l k) (closed t l k G l_below k_below)
-      (conjugate_by_product l k a l_below k_below p ∙ ap (conjugate t l) k_carries ∙ l_carries)
+  conjugate_trans = met_trans t G t.order (conjugate t) conjugation
 
   -- conjugate elements are conjugate to the same elements
   conjugate_same : (a g h : ℕ) → a < t.order → g < t.order → h < t.order → is_conjugate t a g ≡ true → is_conjugate t h a ≡ is_conjugate t h g
@@ -166,7 +140,7 @@ module _ (t : Table) (G : IsGroup t) where
       let (k, below, carries) = carrier (representative_of t (identity_of t)) (identity_of t) least.passes in
       sym (conjugate_back k (representative_of t (identity_of t)) below least.below)
       ∙ ap (conjugate t (inverse t k)) carries
-      ∙ conjugate_of_identity (inverse t k) (inverse_at k below).below
+      ∙ conjugate_of_identity (inverse t k) (two_sided_inverse t G k below).below
 
   -- g is a member of the class of a representative a exactly where a represents g
   pub member_test : (a g : ℕ) → a < t.order → g < t.order → representative_of t a ≡ a → nat_eq (representative_of t g) a ≡ is_conjugate t a g
@@ -212,17 +186,11 @@ module _ (t : Table) (G : IsGroup t) where
   representative_at_is c p = All-get_or (IsRepresentative t) (representatives t) c 0 p all_represent
 
   -- a representative is in the list
-  listed : (a : ℕ) → IsRepresentative t a → (b : Bool) → nat_eq a (identity_of t) ≡ b → Contains (representatives t) a
-  unfolding other_representatives
-  listed a represents true e = rw (eqb-true _ _ e) (0, omega arith, refl)
-  listed a represents false e =
-      let passes : (nat_eq (representative_of t a) a && not (nat_eq a (identity_of t))) ≡ true =
-      rw (eq-eqb _ _ represents.represents, e) refl in
-      Contains-append_right (identity_of t ∷ []) (other_representatives t) a
-      (passing_below-contains t.order a (λ a. nat_eq (representative_of t a) a && not (nat_eq a (identity_of t))) represents.below passes)
-
   pub representative_listed : (a : ℕ) → IsRepresentative t a → Contains (representatives t) a
-  representative_listed a represents = listed a represents (nat_eq a (identity_of t)) refl
+  unfolding other_representatives
+  representative_listed a represents =
+      begun_contains t.order (identity_of t) a (λ a. nat_eq (representative_of t a) a && not (nat_eq a (identity_of t))) represents.below
+      (λ e. rw (eq-eqb _ _ represents.represents, e) refl)
 
   -- the class is the first place of the representative
   pub class_found : (g : ℕ) → g < t.order → IsLeastPassing (length (representatives t)) (λ c. nat_eq (representative_at t c) (representative_of t g)) (class_of t g)
@@ -261,17 +229,9 @@ module _ (t : Table) (G : IsGroup t) where
   -- no two classes have the same representative
   pub different_at : (c d : ℕ) → c < d → d < length (representatives t) → representative_at t c ≢ representative_at t d
   unfolding other_representatives
-  different_at zero (suc d) less last same =
-      let test : ℕ → Bool = λ a. nat_eq (representative_of t a) a && not (nat_eq a (identity_of t)) in
-      let there : IsPassing t.order test (get_or (other_representatives t) d 0) =
-      All-get_or (IsPassing t.order test) (passing_below t.order test) d 0 (omega arith) (passing_below-all t.order test) in
-      different_numbers (get_or (other_representatives t) d 0) (identity_of t) (and_true _ _ there.passes).1 (sym same)
-  different_at (suc c) (suc d) less last same =
-      let test : ℕ → Bool = λ a. nat_eq (representative_of t a) a && not (nat_eq a (identity_of t)) in
-      let ascends : get_or (other_representatives t) c 0 < get_or (other_representatives t) d 0 =
-      passing_below-ascending t.order test c d (omega arith) (omega arith) in
-      omega (arith, same)
-  different_at c zero less last same = omega arith
+  different_at =
+      begun_differ t.order (identity_of t) (λ a. nat_eq (representative_of t a) a && not (nat_eq a (identity_of t)))
+      (λ a passes. different_numbers a (identity_of t) (and_true _ _ passes).1)
 
   -- the class of the representative of a class is that class
   pub class_of_representative : (c : ℕ) → c < length (representatives t) → class_of t (representative_at t c) ≡ c
@@ -289,6 +249,10 @@ module _ (t : Table) (G : IsGroup t) where
   same_class : (g h : ℕ) → representative_of t g ≡ representative_of t h → class_of t g ≡ class_of t h
   unfolding class_of
   same_class g h same = rw same refl
+
+  -- conjugate elements are of one class
+  pub class_of_conjugate : (k g : ℕ) → k < t.order → g < t.order → class_of t (conjugate t k g) ≡ class_of t g
+  class_of_conjugate k g p q = same_class (conjugate t k g) g (representative_of_conjugate k g p q)
 
   -- so is the class of a member
   pub class_of_member : (c g : ℕ) → c < length (representatives t) → g < t.order → is_conjugate t (representative_at t c) g ≡ true → class_of t g ≡ c

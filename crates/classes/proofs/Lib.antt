@@ -1,4 +1,6 @@
+pub mod Names
 pub mod Action
+pub mod Orbits
 pub mod Conjugacy
 pub mod Lookups
 pub mod Rows

@@ -1,12 +1,5 @@
 -- What is looked up in the classes that are kept.
-use Rattle.std.proofs.Common.{◌*◌, ◌≡◌, ℕ, ◌<◌, ◌≤◌, List, length, get_or, map, ap, ◌∙◌, arith}
-use Rattle.std.proofs.lemmas.List.{get_or-map, length-map}
-use Rattle.std.proofs.lemmas.List.Elements.{All-get_or}
-use Rattle.group_table.specs.Group.{Table, IsGroup}
-use Rattle.classes.specs.Conjugacy.{representatives, other_representatives, representative_at, members_of, centraliser_of}
-use Rattle.classes.specs.Kept.{class_at, ListsReaches}
-use Rattle.classes.specs.declared.class_table.Class.{Class}
-use Rattle.classes.specs.declared.sweep.Reach.{Reach}
+use Rattle.classes.proofs.Names.{◌*◌, ◌≡◌, ℕ, ◌<◌, ◌≤◌, List, length, get_or, map, ap, ◌∙◌, arith, get_or-map, length-map, All-get_or, Table, IsGroup, representatives, other_representatives, representative_at, members_of, centraliser_of, class_at, ListsReaches, Class, Reach}
 use Rattle.classes.proofs.Counting.{classes_at_most, class_equation}
 use Rattle.classes.proofs.Conjugacy.{IsRepresentative, others_represent, representative_at_is, few_members, member_itself, IsLeastTransporter, transporter_is}
 

@@ -1,14 +1,6 @@
 -- The sweep over pairs: what has been reached before the pair (a, k).
-use Rattle.std.proofs.Common.{◌≡◌, ◌≢◌, ℕ, ◌+◌, ◌<◌, ◌≤◌, Bool, true, false, cond, List, [], ◌∷◌, ◌++◌, ◌⊎◌, inl, inr, eq-or-lt_of_le, replicate, length, get_or, set, nat_eq, Option, Some, None, refl, sym, ap, ◌∙◌, arith, add-one, eqb-true, eq-eqb, get_or-set_same, get_or-set_other}
-use Rattle.std.specs.Prelude.{is_some}
+use Rattle.classes.proofs.Names.{◌≡◌, ◌≢◌, ℕ, ◌+◌, ◌<◌, ◌≤◌, Bool, true, false, cond, List, [], ◌∷◌, ◌++◌, ◌⊎◌, inl, inr, eq-or-lt_of_le, replicate, length, get_or, set, nat_eq, Option, Some, None, refl, sym, ap, ◌∙◌, arith, add-one, eqb-true, eq-eqb, get_or-set_same, get_or-set_other, is_some, get_or-replicate, get_or_push, get_or_append_left, option_or, first, first-zero, first-suc, first_none, first_found, Table, IsGroup, conjugate, least_transporter, representative_of, reach, reach_below, reach_of, Reach}
 use Rattle.std.specs.Option.{option_map}
-use Rattle.std.proofs.lemmas.List.{get_or-replicate, get_or_push, get_or_append_left}
-use Rattle.scan.specs.First.{option_or, first}
-use Rattle.scan.proofs.Places.{first-zero, first-suc, first_none, first_found}
-use Rattle.group_table.specs.Group.{Table, IsGroup}
-use Rattle.classes.specs.Conjugacy.{conjugate, least_transporter, representative_of}
-use Rattle.classes.specs.Sweep.{reach, reach_below, reach_of}
-use Rattle.classes.specs.declared.sweep.Reach.{Reach}
 use Rattle.classes.proofs.Conjugacy.{representative_least, transporter_found}
 
 -- how g is reached before the pair (a, k)

@@ -9,6 +9,8 @@ mod parts;
 mod sweep;
 
 pub use class_table::Classes;
+pub use parts::centraliser;
+pub use sweep::conjugate;
 
 /// Conjugation acts on the group by automorphisms, classes are its orbits, centralisers the elements that commute, and the
 /// size of a class times that of a centraliser is the order of the group.

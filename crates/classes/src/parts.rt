@@ -38,7 +38,7 @@ fn members(alloc: Global, group: &Group, reaches: &[Reach], a: u32) -> Result<Na
 
 /// The centraliser of `a`.
 #[tactic(auto, unfolding(crate::specs::Conjugacy::centraliser_of))]
-fn centraliser(alloc: Global, group: &Group, a: u32) -> Result<Nats, Memory>
+pub fn centraliser(alloc: Global, group: &Group, a: u32) -> Result<Nats, Memory>
     requires a_below { a < group.now.order }
     ensures centraliser { IfOk result (λ centraliser. centraliser ≡ centraliser_of group.now a) }
 {

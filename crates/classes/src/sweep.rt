@@ -18,7 +18,7 @@ pub struct Reach {
 
 /// The conjugate `k a k^-1`.
 #[tactic(auto, unfolding(crate::specs::Conjugacy::conjugate))]
-fn conjugate(group: &Group, k: u32, a: u32) -> u32
+pub fn conjugate(group: &Group, k: u32, a: u32) -> u32
     requires k_below { k < group.now.order }
     requires a_below { a < group.now.order }
     ensures conjugate { result ≡ conjugate group.now k a }

@@ -1,7 +1,5 @@
 -- Places in a cube of numbers, and its law as a test with one reduction.
-use Rattle.std.proofs.Common.{ℕ, ◌+◌, ◌*◌, ◌<◌, ◌≤◌, arith}
-use Rattle.std.proofs.Math.Nat.{mul-le-mul_right}
-use Rattle.group_table.proofs.Square.{place_below}
+use Rattle.cochain.proofs.Names.{ℕ, ◌+◌, ◌*◌, ◌<◌, ◌≤◌, arith, mul-le-mul_right, place_below}
 
 pub cube_below : (n g h k : ℕ) → g < n → h < n → k < n → (g * n + h) * n + k < n * n * n
 cube_below n g h k g_below h_below k_below =

@@ -1,8 +1,5 @@
 -- Two numbers are the same modulo n exactly where their difference is 0 modulo n.
-use Rattle.std.proofs.Common.{◌≡◌, ℕ, ◌+◌, ◌-◌, ◌*◌, ◌/◌, ◌%◌, ◌<◌, ◌≤◌, ◌↔◌, Bool, true, false, nat_eq, refl, sym, ap, ◌∙◌, arith}
-use Rattle.std.proofs.Math.Nat.{add-mul-mod_self_left, mul-mod_right, div-lt_iff_lt-mul}
-use Rattle.std.proofs.lemmas.Bool.{eqb-true, eq-eqb}
-use Rattle.scan.proofs.Searches.{same_test}
+use Rattle.cochain.proofs.Names.{◌≡◌, ℕ, ◌+◌, ◌-◌, ◌*◌, ◌/◌, ◌%◌, ◌<◌, ◌≤◌, ◌↔◌, nat_eq, sym, ap, ◌∙◌, arith, add-mul-mod_self_left, mul-mod_right, div-lt_iff_lt-mul, eqb-true, eq-eqb, same_test}
 
 quotient_small : (n b : ℕ) → 0 < n → b ≤ 2 * n → b / n < 3
 quotient_small n b positive small =

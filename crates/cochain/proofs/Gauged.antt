@@ -1,19 +1,7 @@
 -- The gauged exponents are a normalised 3-cocycle.
-use Rattle.std.proofs.Common.{◌≡◌, ℕ, ◌+◌, ◌-◌, ◌*◌, ◌%◌, ◌<◌, Bool, true, false, ◌||◌, nat_eq, cond, List, Some, None, refl, sym, ap, ◌∙◌, arith}
-use Rattle.std.proofs.Math.Nat.{mod-lt, mul-mod_right}
-use Rattle.std.proofs.Math.Bool.{or-true}
-use Rattle.std.proofs.lemmas.Bool.{eq-eqb, eqb-true}
-use Rattle.scan.proofs.Searches.{passes, asked}
-use Rattle.scan.proofs.Places.{first_none-at}
-use Rattle.algebra.specs.Congruences.{Same}
-use Rattle.algebra.proofs.CongruenceLaws.{same_sym, same_trans, same_add, same_lin, same_multiple}
-use Rattle.group_table.specs.Group.{product, identity_of, IsGroup}
-use Rattle.group_table.proofs.Sentences.{identity_below, closed, group_below}
-use Rattle.cochain.specs.Cochain.{Cochain, IsCocycle}
-use Rattle.cochain.specs.Gauge.{pair_value, is_normal_pair, gauge_fault, gauged_value, gauged}
+use Rattle.cochain.proofs.Names.{◌≡◌, ℕ, ◌+◌, ◌-◌, ◌*◌, ◌%◌, ◌<◌, true, ◌||◌, nat_eq, List, None, refl, sym, ap, ◌∙◌, arith, mod-lt, mul-mod_right, or-true, eq-eqb, eqb-true, passes, asked, first_none-at, Same, same_sym, same_trans, same_add, same_lin, same_multiple, product, identity_of, IsGroup, identity_below, closed, group_below, Cochain, IsCocycle, pair_value, is_normal_pair, gauge_fault, gauged_value, gauged, IsLawful}
 use Rattle.cochain.specs.declared.fault.GaugeRefusal.TheVariants.{NotNormal}
 use Rattle.cochain.proofs.Sentences.{first_one, second_one, third_one, closed_at}
-use Rattle.cochain.specs.Laws.{IsLawful}
 use Rattle.cochain.proofs.Lawful.{lawful, is_cocycle}
 
 -- the law of the gauged exponents from that of the exponents: the numbers of b cancel

@@ -1,18 +1,7 @@
 -- Exponents that meet the plain laws of a normalised 3-cocycle break no law.
-use Rattle.std.proofs.Common.{◌≡◌, ℕ, ◌+◌, ◌*◌, ◌%◌, ◌<◌, ◌⊎◌, inl, inr, Bool, true, false, ◌||◌, nat_eq, cond, length, Some, None, refl, sym, ap, ◌∙◌}
-use Rattle.std.proofs.Math.Nat.{mod-lt, mod-mod, mod-eq_of_lt}
-use Rattle.std.proofs.lemmas.Bool.{eq-eqb, eqb-true}
-use Rattle.std.proofs.lemmas.List.{get_or-map, length-map}
-use Rattle.scan.proofs.Places.{first_none}
-use Rattle.algebra.specs.Congruences.{Same}
-use Rattle.algebra.proofs.CongruenceLaws.{same_sym, same_trans, same_mod, same_add}
-use Rattle.group_table.specs.Group.{Table, product, identity_of, IsGroup, IsSmall}
-use Rattle.scan.proofs.Searches.{no_fault, where_asked}
-use Rattle.group_table.proofs.Sentences.{closed, identity_below}
-use Rattle.cochain.specs.Cochain.{Cochain, exponents_by, cochain_of, value, has_identity, is_normal_at, normal_fault, left_side, right_side, is_closed_at, closure_fault, cocycle_fault, IsRoots, IsCocycle}
-use Rattle.cochain.specs.Laws.{IsLawful, CocycleExactly}
+use Rattle.cochain.proofs.Names.{◌≡◌, ℕ, ◌+◌, ◌*◌, ◌%◌, ◌<◌, ◌⊎◌, inl, inr, Bool, true, false, ◌||◌, nat_eq, length, None, refl, sym, ap, ◌∙◌, mod-lt, mod-mod, mod-eq_of_lt, eq-eqb, eqb-true, get_or-map, length-map, first_none, Same, same_sym, same_trans, same_mod, same_add, Table, product, identity_of, IsGroup, IsSmall, no_fault, where_asked, closed, identity_below, IsLawful, CocycleExactly, NotNormalised, NotCocycle}
+use Rattle.cochain.specs.Cochain.{Cochain, exponents_by, cochain_of, value, has_identity, is_normal_at, normal_fault, is_closed_at, closure_fault, cocycle_fault, IsRoots, IsCocycle}
 use Rattle.cochain.proofs.Sentences.{value_below, first_one, second_one, third_one, closed_at}
-use Rattle.cochain.specs.declared.fault.CocycleFault.TheVariants.{NotNormalised, NotCocycle}
 use Rattle.cochain.proofs.Cube.{cube_below}
 use Rattle.cochain.proofs.Formula.{exponent_at, length-exponents_by}
 

@@ -1,3 +1,4 @@
+pub mod Names
 pub mod Cube
 pub mod Difference
 pub mod Sentences

@@ -1,12 +1,6 @@
 -- The laws of a cocycle as plain sentences, from exponents that break none.
-use Rattle.std.proofs.Common.{◌≡◌, ℕ, ◌+◌, ◌*◌, ◌%◌, ◌<◌, Bool, true, false, ◌||◌, nat_eq, cond, Some, None, refl}
-use Rattle.std.proofs.lemmas.Bool.{eqb-true, eq-eqb}
-use Rattle.scan.proofs.Places.{or_none, first_none-at}
-use Rattle.std.proofs.Math.Bool.{or-true}
-use Rattle.scan.proofs.Searches.{passes, asked}
-use Rattle.group_table.specs.Group.{identity_of}
+use Rattle.cochain.proofs.Names.{◌≡◌, ℕ, ◌+◌, ◌*◌, ◌%◌, ◌<◌, true, ◌||◌, nat_eq, None, refl, eqb-true, eq-eqb, or_none, first_none-at, or-true, passes, asked, identity_of, NotNormalised, NotCocycle}
 use Rattle.cochain.specs.Cochain.{Cochain, value, has_identity, is_normal_at, normal_fault, left_side, right_side, is_closed_at, closure_fault, cocycle_fault, IsCochain, IsCocycle}
-use Rattle.cochain.specs.declared.fault.CocycleFault.TheVariants.{NotNormalised, NotCocycle}
 use Rattle.cochain.proofs.Cube.{cube_below}
 
 -- no law is broken exactly where neither is

@@ -1,18 +1,6 @@
 -- Where a cochain is 1 in each row that the cocycle law looks into, the law holds for every last argument; and marks of
 -- rows, place after place.
-use Rattle.std.proofs.Common.{◌≡◌, ℕ, zero, suc, ◌+◌, ◌*◌, ◌/◌, ◌%◌, ◌<◌, List, [], ◌∷◌, ◌++◌, Bool, true, false, ◌&&◌, nat_eq, cond, length, get_or, Some, None, refl, sym, ap, ◌∙◌, ◌⊎◌, inl, inr, arith}
-use Rattle.std.proofs.lemmas.Bool.{eqb-true, eq-eqb}
-use Rattle.scan.proofs.Places.{first_none, all_below-at, and_true}
-use Rattle.scan.proofs.Searches.{no_fault}
-use Rattle.group_table.specs.Group.{product}
-use Rattle.std.proofs.lemmas.Nat.{div-mul-add, mod-mul-add, div_below}
-use Rattle.std.proofs.Math.Nat.{mod-lt}
-use Rattle.std.proofs.lemmas.List.{get_or_append_left, get_or_push}
-use Rattle.group_table.proofs.Sentences.{closed}
-use Rattle.group_table.proofs.Square.{place_below}
-use Rattle.cochain.specs.Cochain.{Cochain, value, left_side, right_side, is_closed_at, closure_fault_in, IsCochain}
-use Rattle.cochain.specs.ZeroRows.{is_zero_row, has_zero_rows, MarksZeroRows}
-use Rattle.cochain.specs.declared.fault.CocycleFault.TheVariants.{NotCocycle}
+use Rattle.cochain.proofs.Names.{◌≡◌, ℕ, ◌+◌, ◌*◌, ◌/◌, ◌%◌, ◌<◌, List, [], ◌∷◌, ◌++◌, Bool, true, false, nat_eq, length, get_or, None, refl, sym, ap, ◌∙◌, ◌⊎◌, inl, inr, arith, eqb-true, eq-eqb, first_none, all_below-at, and_true, no_fault, product, div-mul-add, mod-mul-add, get_or_append_left, get_or_push, closed, place_below, Cochain, value, left_side, right_side, is_closed_at, closure_fault_in, IsCochain, is_zero_row, has_zero_rows, MarksZeroRows, NotCocycle}
 
 zero_in : (w : Cochain) (g h k : ℕ) → is_zero_row w g h ≡ true → k < w.group.order → value w g h k ≡ 0
 zero_in w g h k row below = eqb-true (value w g h k) 0 (all_below-at w.group.order k (λ k. nat_eq (value w g h k) 0) row below)

@@ -1,5 +1,5 @@
 -- A table whose products are a group on the numbers below its order breaks no law.
-use Rattle.std.proofs.Common.{◌≡◌, ℕ, ◌*◌, Bool, true, false, ◌&&◌, nat_eq, nat_lt, cond, Some, None, ◌↔◌, length, refl, sym, ◌∙◌}
+use Rattle.std.proofs.Common.{◌≡◌, ℕ, ◌*◌, true, nat_eq, nat_lt, cond, Some, None, length, refl, sym, ◌∙◌}
 use Rattle.std.specs.Prelude.{is_some}
 use Rattle.std.proofs.lemmas.Bool.{eq-eqb, lt-ltb}
 use Rattle.scan.proofs.Places.{first_none, all_below-all}

@@ -1,7 +1,7 @@
 -- The numbers below a bound that pass a test, and the values of a function there.
-use Rattle.std.proofs.Common.{◌≡◌, ℕ, zero, suc, ◌+◌, ◌<◌, ◌≤◌, ◌⊎◌, Bool, true, false, ◌↔◌, cond, List, [], get_or, ◌∷◌, ◌++◌, length, refl, sym, ap, ◌∙◌, arith, inl, inr, add-one, eq-or-lt_of_le, length-append}
+use Rattle.std.proofs.Common.{◌≡◌, ◌≢◌, ℕ, zero, suc, ◌+◌, ◌<◌, ◌≤◌, ◌⊎◌, Bool, true, false, ◌↔◌, cond, List, [], get_or, ◌∷◌, ◌++◌, length, nat_eq, eqb-true, refl, sym, ap, ◌∙◌, arith, inl, inr, add-one, eq-or-lt_of_le, length-append}
 use Rattle.std.specs.List.{All, Contains}
-use Rattle.std.proofs.lemmas.List.Elements.{All-nil, All-push, All-weaker, All-get_or, All-contains, Contains-push, Contains-append_left}
+use Rattle.std.proofs.lemmas.List.Elements.{All-nil, All-push, All-weaker, All-get_or, All-contains, Contains-push, Contains-append_left, Contains-append_right}
 use Rattle.std.proofs.lemmas.List.{get_or_push, get_or_append_left}
 use Rattle.std.proofs.lemmas.List.FromFn.{map-range_with_len_more}
 use Rattle.group_table.specs.Numbers.{passing_below, tabulated}
@@ -106,6 +106,24 @@ passing_below-exactly n i test = (
   λ listed. let here = All-contains (IsPassing n test) (passing_below n test) i (passing_below-all n test) listed in (here.below, here.passes),
   λ passes. passing_below-contains n i test passes.0 passes.1,
 )
+
+-- in a list that begins with e, and goes on with numbers that pass and are not e, no two are the same
+pub begun_differ : (n e : ℕ) (test : ℕ → Bool) → ((i : ℕ) → test i ≡ true → i ≢ e) → (c d : ℕ) → c < d → d < length (e ∷ passing_below n test)
+    → get_or (e ∷ passing_below n test) c 0 ≢ get_or (e ∷ passing_below n test) d 0
+begun_differ n e test other zero (suc d) less last same =
+    let there = All-get_or (IsPassing n test) (passing_below n test) d 0 (omega arith) (passing_below-all n test) in
+    other _ there.passes (sym same)
+begun_differ n e test other (suc c) (suc d) less last same =
+    omega (arith, same, passing_below-ascending n test c d (omega arith) (omega arith))
+begun_differ n e test other c zero less last same = omega arith
+
+-- it has e, and the numbers that pass
+pub begun_contains : (n e i : ℕ) (test : ℕ → Bool) → i < n → (nat_eq i e ≡ false → test i ≡ true) → Contains (e ∷ passing_below n test) i
+begun_contains n e i test below passes = by (nat_eq i e) refl
+  where
+    by : (b : Bool) → nat_eq i e ≡ b → Contains (e ∷ passing_below n test) i
+    by true same = rw (eqb-true _ _ same) (0, omega arith, refl)
+    by false other = Contains-append_right (e ∷ []) (passing_below n test) i (passing_below-contains n i test below (passes other))
 
 -- one more value
 pub tabulated-more : (i : ℕ) (at : ℕ → ℕ) {v : ℕ} {front all : List ℕ} → front ≡ tabulated i at → all ≡ front ++ v ∷ [] → v ≡ at i

@@ -1,5 +1,5 @@
 -- The laws of a group as plain sentences, from a table that breaks none.
-use Rattle.std.proofs.Common.{◌≡◌, ℕ, ◌<◌, Bool, true, false, nat_eq, nat_lt, cond, Option, Some, None, refl, sym, ap, ◌∙◌, arith, ◌%◌}
+use Rattle.std.proofs.Common.{◌≡◌, ℕ, ◌<◌, true, nat_eq, nat_lt, Some, None, sym, ap, ◌∙◌, arith, ◌%◌}
 use Rattle.std.specs.Prelude.{List, slice_index, is_some, unwrap_or}
 use Rattle.std.proofs.lemmas.Bool.{ltb-true, eqb-true}
 use Rattle.scan.proofs.Places.{or_none, and_true, first_none-at, first_some, all_below-at}
@@ -122,6 +122,9 @@ two_sided t g h group g_below found =
       right = inverse.right;
       left = right_inverse_left _ _ _ (group_below t group) g h g_below inverse.below inverse.right;
     }
+
+pub two_sided_inverse : (t : Table) → IsGroup t → (g : ℕ) → g < t.order → IsTwoSidedInverse t g (inverse t g)
+two_sided_inverse t group g below = two_sided t g (inverse t g) group below (inverse_found t g group below)
 
 -- so is the number that stands in the list of inverses
 pub listed_inverse : (t : Table) (inverses : List ℕ) (g : ℕ) → IsGroup t → ListsInverses t inverses → g < t.order

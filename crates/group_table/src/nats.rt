@@ -65,7 +65,11 @@ impl Nats {
 
     /// The numbers that `number` gives for each pair of numbers below `n`, row after row.
     #[tactic(auto, unfolding(crate::specs::Numbers::by_pairs), using(crate::proofs::Square::row_below, crate::proofs::Square::column_below))]
-    pub fn by_pairs<F: Fn(u32, u32) -> u32>(alloc: Global, n: u32, number: F) -> Result<Nats, Memory>
+    pub fn by_pairs<F: Fn(u32, u32) -> u32>(
+        alloc: Global,
+        n: u32,
+        number: F,
+    ) -> Result<Nats, Memory>
     where
         F: Drop,
         requires few { n ≤ 60 }

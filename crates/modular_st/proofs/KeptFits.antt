@@ -10,9 +10,9 @@ use Rattle.cyclotomic.specs.CyclotomicRing.{CyclotomicValue, root, conjugate}
 use Rattle.cyclotomic.specs.Fit.{value_size, value_fits}
 use Rattle.cyclotomic.proofs.Sizes.{size-zeros}
 use Rattle.group_table.specs.Group.{Table, product, inverse, IsGroup}
-use Rattle.group_table.proofs.Sentences.{group_below, closed}
+use Rattle.group_table.proofs.Sentences.{group_below, two_sided_inverse, closed}
 use Rattle.classes.specs.Conjugacy.{conjugate as conjugate_element, representatives, class_of, transporter_of}
-use Rattle.classes.proofs.Conjugacy.{inverse_at, class_below, representative_of_conjugate, conjugate_below, conjugate_of_product}
+use Rattle.classes.proofs.Conjugacy.{class_below, class_of_conjugate, conjugate_below, conjugate_of_product}
 use Rattle.slant.specs.Phases.{carried, transport_phase}
 use Rattle.pair_orbits.specs.declared.pair.Pair.{Pair}
 use Rattle.pair_orbits.specs.PairOrbits.{listed_pairs}
@@ -33,17 +33,12 @@ use Rattle.modular_st.proofs.Terms.{pair_below, other_class}
 use Rattle.modular_st.proofs.AllAts.{some_of}
 use Rattle.modular_st.proofs.Smalls.{small_by_multiple, turned_size, turned_conjugate_fits, turned_fits, small_together}
 
--- conjugate elements are in the same class
-class_of_conjugate : (t : Table) → IsGroup t → (k g : ℕ) → k < t.order → g < t.order → class_of t (conjugate_element t k g) ≡ class_of t g
-unfolding class_of
-class_of_conjugate t G k g p q = rw (representative_of_conjugate t G k g p q) refl
-
 -- c^-1 (c a c^-1) c = a
 pub carried_back : (t : Table) → IsGroup t → (c a : ℕ) → c < t.order → a < t.order → carried t (conjugate_element t c a) c ≡ a
 unfolding conjugate_element
 carried_back t G c a c_below a_below =
     let B = group_below t G in
-    let i = inverse_at t G c c_below in
+    let i = two_sided_inverse t G c c_below in
     let ca = closed t c a G c_below a_below in
     ap (product t (inverse t c))
     (B.associative (product t c a) (inverse t c) c ca i.below c_below ∙ ap (product t (product t c a)) i.left ∙ B.unit_right (product t c a) ca)

@@ -1,6 +1,6 @@
 -- The order and the exponent as found, and what they divide.
 use Prim.Native.Nat.{◌∣◌}
-use Rattle.std.proofs.Common.{◌≡◌, ◌≢◌, ℕ, ◌+◌, ◌-◌, ◌%◌, ◌<◌, ◌≤◌, true, ◌↔◌, Some, refl, sym, ap, ◌∙◌, arith, le_antisymm, eq-eqb, eqb-true}
+use Rattle.std.proofs.Common.{◌≡◌, ◌≢◌, ℕ, ◌+◌, ◌-◌, ◌<◌, ◌≤◌, true, ◌↔◌, Some, refl, sym, ap, ◌∙◌, arith, le_antisymm, eq-eqb, eqb-true}
 use Rattle.scan.proofs.Places.{all_below-at, all_below-all}
 use Rattle.orders.specs.Group.{IsGroupBelow, power}
 use Rattle.orders.specs.Order.{IsOrder, IsExponent, order_of, exponent_of, least_from_one, is_unit_power, are_unit_powers}

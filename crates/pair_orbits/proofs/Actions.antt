@@ -1,12 +1,6 @@
 -- Conjugation of pairs is an action, conjugacy of pairs an equivalence, and conjugates of commuting pairs commute.
-use Rattle.std.proofs.Common.{◌≡◌, ℕ, ◌+◌, ◌*◌, ◌/◌, ◌%◌, ◌<◌, true, nat_eq, refl, sym, ap, ap₂, ◌∙◌, arith, eq-eqb, eqb-true}
-use Rattle.std.proofs.Math.Nat.{mod-lt, div-add-mod, div-lt_iff_lt-mul, mul_comm}
-use Rattle.std.proofs.lemmas.Nat.{div-mul-add, mod-mul-add, row_fits}
-use Rattle.group_table.specs.Group.{Table, product, identity_of, inverse, IsGroup}
-use Rattle.group_table.proofs.Sentences.{IsTwoSidedInverse, identity_below, closed}
-use Rattle.classes.specs.Conjugacy.{conjugate}
-use Rattle.scan.proofs.Searches.{is_some_of, some_of, least_passing, least_passing_found}
-use Rattle.classes.proofs.Conjugacy.{inverse_at, conjugate_below, conjugate_by_product, conjugate_of_product, conjugate_by_identity}
+use Rattle.pair_orbits.proofs.Names.{◌≡◌, ℕ, ◌+◌, ◌*◌, ◌/◌, ◌%◌, ◌<◌, true, refl, sym, ap, ap₂, ◌∙◌, arith, eq-eqb, eqb-true, mod-lt, div-add-mod, div-lt_iff_lt-mul, mul_comm, div-mul-add, mod-mul-add, row_fits, Table, product, identity_of, IsGroup, conjugate, IsAction, carrier, met_by, met_refl, met_sym, met_trans, conjugate_below, conjugate_by_product, conjugate_of_product, conjugate_by_identity}
+use Rattle.group_table.proofs.Sentences.{identity_below}
 use Rattle.pair_orbits.specs.PairOrbits.{pair_number, first_of, second_of, is_commuting, conjugate_pair, are_conjugate}
 
 module _ (t : Table) where
@@ -70,41 +64,31 @@ module _ (t : Table) (G : IsGroup t) where
       ∙ ap₂ (pair_number t) (conjugate_by_identity t G (first_of t p) (first_below p q)) (conjugate_by_identity t G (second_of t p) (second_below p))
       ∙ pair_is t p
 
-  -- the inverse carries back
-  pub carried_back : (k p : ℕ) → k < t.order → p < t.order * t.order → conjugate_pair t (inverse t k) (conjugate_pair t k p) ≡ p
-  carried_back k p k_below p_below =
-      let i : IsTwoSidedInverse t k (inverse t k) = inverse_at t G k k_below in
-      sym (carried_by_product (inverse t k) k p i.below k_below p_below) ∙ ap (λ x. conjugate_pair t x p) i.left ∙ carried_by_identity p p_below
+  -- the group acts on the pairs
+  pub pairs_action : IsAction t (t.order * t.order) (conjugate_pair t)
+  pairs_action = record { below = carried_below; by_product = carried_by_product; by_identity = carried_by_identity }
 
   -- some k carries p to q, where they are conjugate
   pub pair_carrier : (p q : ℕ) → are_conjugate t p q ≡ true → (k : ℕ) × (k < t.order) × (conjugate_pair t k p ≡ q)
   unfolding are_conjugate
-  pair_carrier p q conjugates =
-      let (k, found) = some_of _ conjugates in
-      let least = least_passing t.order (λ k. nat_eq (conjugate_pair t k p) q) k found in
-      (k, least.below, eqb-true _ _ least.passes)
+  pair_carrier = carrier t G (t.order * t.order) (conjugate_pair t) pairs_action
 
   -- where some k carries p to q, they are conjugate
   pub pair_conjugate_by : (p q k : ℕ) → k < t.order → conjugate_pair t k p ≡ q → are_conjugate t p q ≡ true
   unfolding are_conjugate
-  pair_conjugate_by p q k below carries =
-      let passes : nat_eq (conjugate_pair t k p) q ≡ true = eq-eqb _ _ carries in
-      is_some_of _ _ (least_passing_found t.order (λ k. nat_eq (conjugate_pair t k p) q) k below passes)
+  pair_conjugate_by = met_by t G (t.order * t.order) (conjugate_pair t) pairs_action
 
   pub pair_refl : (p : ℕ) → p < t.order * t.order → are_conjugate t p p ≡ true
-  pair_refl p q = pair_conjugate_by p p (identity_of t) (identity_below t G) (carried_by_identity p q)
+  unfolding are_conjugate
+  pair_refl = met_refl t G (t.order * t.order) (conjugate_pair t) pairs_action
 
   pub pair_sym : (p q : ℕ) → p < t.order * t.order → are_conjugate t p q ≡ true → are_conjugate t q p ≡ true
-  pair_sym p q p_below conjugates =
-      let (k, below, carries) = pair_carrier p q conjugates in
-      pair_conjugate_by q p (inverse t k) (inverse_at t G k below).below (ap (conjugate_pair t (inverse t k)) (sym carries) ∙ carried_back k p below p_below)
+  unfolding are_conjugate
+  pair_sym = met_sym t G (t.order * t.order) (conjugate_pair t) pairs_action
 
   pub pair_trans : (p q r : ℕ) → p < t.order * t.order → are_conjugate t p q ≡ true → are_conjugate t q r ≡ true → are_conjugate t p r ≡ true
-  pair_trans p q r p_below first second =
-      let (k, k_below, k_carries) = pair_carrier p q first in
-      let (l, l_below, l_carries) = pair_carrier q r second in
-      pair_conjugate_by p r (product t l k) (closed t l k G l_below k_below)
-      (carried_by_product l k p l_below k_below p_below ∙ ap (conjugate_pair t l) k_carries ∙ l_carries)
+  unfolding are_conjugate
+  pair_trans = met_trans t G (t.order * t.order) (conjugate_pair t) pairs_action
 
   -- conjugates of elements that commute do
   pub commuting_carried : (c p : ℕ) → c < t.order → p < t.order * t.order → is_commuting t p ≡ true → is_commuting t (conjugate_pair t c p) ≡ true

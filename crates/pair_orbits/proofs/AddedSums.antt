@@ -1,23 +1,10 @@
 -- Sums of values over a list: term by term, and with the elements left out at which the value is 0.
-use Rattle.std.proofs.Common.{◌≡◌, ℕ, ◌+◌, ◌<◌, Bool, true, false, cond, not, ◌||◌, List, [], ◌∷◌, length, map, get_or, refl, sym, ap, ap₂, ◌∙◌, arith, nat_lt, zero-add}
-use Rattle.std.specs.Prelude.{sum_by}
-use Rattle.std.specs.List.{range_with_len, filter}
-use Rattle.std.proofs.lemmas.List.{length-map, get_or-map}
-use Rattle.std.proofs.lemmas.List.FromFn.{fill_by_all}
-use Rattle.std.proofs.lemmas.List.Sums.{sum_by-cons}
-use mathlib.Core.Path.{fun_ext}
-use Rattle.scan.specs.First.{all_below}
-use Rattle.scan.proofs.Places.{all_below-all}
+use Rattle.pair_orbits.proofs.Names.{◌≡◌, ℕ, ◌+◌, ◌<◌, Bool, true, false, cond, not, ◌||◌, List, [], ◌∷◌, length, map, get_or, refl, sym, ap, ap₂, ◌∙◌, arith, nat_lt, zero-add, sum_by, range_with_len, filter, length-map, get_or-map, fill_by_all, sum_by-cons, fun_ext, all_below, all_below-all, sum_list_cons, sum_list_range, CyclotomicValue, cyclotomic_ring, size-zeros, listed, given, added}
 use Rattle.algebra.specs.Sums.{sum_below, sum_list}
 use Rattle.algebra.proofs.RingLaws.{nought_add}
-use Rattle.algebra.proofs.SumLaws.{sum_list_cons, sum_list_range}
 use Rattle.cyclotomic.specs.Ring.{value_nought}
-use Rattle.cyclotomic.specs.CyclotomicRing.{CyclotomicValue, cyclotomic_ring}
 use Rattle.cyclotomic.specs.Fit.{value_size, sizes_overflow, greatest_magnitude}
-use Rattle.cyclotomic.proofs.Sizes.{size-zeros}
 use Rattle.qd_ring.specs.Fit.{sum_overflows}
-use Rattle.qd_ring.specs.Formed.{listed, given}
-use Rattle.pair_orbits.specs.FormedSums.{added}
 
 module _ (k : ℕ) where
   size_nought : (u : CyclotomicValue k) → u ≡ value_nought → value_size u ≡ 0

@@ -1,11 +1,5 @@
 -- The least of the conjugates of a pair.
-use Rattle.std.proofs.Common.{◌≡◌, ℕ, ◌*◌, ◌<◌, ◌≤◌, Bool, true, false, not, nat_lt, Some, None, cond, refl, arith}
-use Rattle.std.specs.Prelude.{unwrap_or}
-use Rattle.std.proofs.lemmas.Bool.{ltb-false, le-ltb, not_from_false}
-use Rattle.scan.specs.First.{first}
-use Rattle.scan.proofs.Places.{all_below-at, all_below-all}
-use Rattle.group_table.specs.Group.{Table, IsGroup}
-use Rattle.scan.proofs.Searches.{IsLeastPassing, least_passing, least_passing_found}
+use Rattle.pair_orbits.proofs.Names.{◌≡◌, ℕ, ◌*◌, ◌<◌, ◌≤◌, Bool, true, false, not, nat_lt, Some, None, cond, refl, arith, unwrap_or, ltb-false, le-ltb, not_from_false, first, all_below-at, all_below-all, Table, IsGroup, IsLeastPassing, least_passing, least_passing_found}
 use Rattle.pair_orbits.specs.PairOrbits.{conjugate_pair, are_conjugate, is_least}
 use Rattle.pair_orbits.proofs.Actions.{pair_carrier, pair_conjugate_by, pair_refl, pair_sym, pair_trans, carried_below}
 

@@ -1,3 +1,4 @@
+pub mod Names
 pub mod Actions
 pub mod Least
 pub mod Passing

@@ -1,15 +1,7 @@
 -- Sums over lists of the numbers that pass a test, and how long these lists are.
-use Rattle.std.proofs.Common.{◌≡◌, ℕ, zero, suc, ◌+◌, ◌*◌, Bool, true, false, cond, List, [], ◌∷◌, ◌++◌, length, map, refl, sym, ap, ap₂, ◌∙◌, arith, length-append, add-zero}
-use Rattle.std.specs.Prelude.{sum_by}
-use Rattle.std.proofs.lemmas.List.{map-append}
-use Rattle.std.proofs.lemmas.List.Sums.{sum_by-append, sum_by-cons}
-use Rattle.std.proofs.Math.Nat.{zero-mul, one-mul}
-use Rattle.orders.proofs.Sums.{total, pick, total_same}
-use Rattle.algebra.specs.Structures.{CommRing}
+use Rattle.pair_orbits.proofs.Names.{◌≡◌, ℕ, zero, suc, ◌+◌, Bool, true, false, cond, List, [], ◌∷◌, ◌++◌, length, map, refl, sym, ap, ap₂, ◌∙◌, arith, length-append, add-zero, sum_by, map-append, sum_by-append, sum_by-cons, CommRing, sum_zero, sum_suc, sum_list_nil, sum_list_push, pick_true, pick_false, multiple_zero, multiple_add, multiple_one, passing_below, passing_below-zero, passing_below-suc}
+use Rattle.orders.proofs.Sums.{total, pick}
 use Rattle.algebra.specs.Sums.{sum_below, multiple, sum_list, pick as pick_in}
-use Rattle.algebra.proofs.SumLaws.{sum_zero, sum_suc, sum_list_nil, sum_list_push, pick_true, pick_false, multiple_zero, multiple_add, multiple_one}
-use Rattle.group_table.specs.Numbers.{passing_below}
-use Rattle.group_table.proofs.Numbers.{passing_below-zero, passing_below-suc}
 
 -- a list whose elements are mapped twice, and a sum over one
 pub map_again : {X Y Z : Type 0} (f : X → Y) (g : Y → Z) (xs : List X) → map g (map f xs) ≡ map (λ x. g (f x)) xs
@@ -31,33 +23,6 @@ passing_total (suc n) test f = ap (sum_by f) (passing_below-suc n test) ∙ by (
         → sum_by f (cond b (front ++ n ∷ []) front) ≡ total n (λ i. pick (test i) (f i)) + pick b (f n)
     by true front e = let more = sum_by-append f front (n ∷ []) in omega (arith, e, more)
     by false front e = e ∙ sym (add-zero (total n (λ i. pick (test i) (f i))))
-
--- how long it is
-pub passing_length : (n : ℕ) (test : ℕ → Bool) → length (passing_below n test) ≡ total n (λ i. pick (test i) 1)
-unfolding total
-passing_length zero test = ap length (passing_below-zero test)
-passing_length (suc n) test =
-    ap length (passing_below-suc n test) ∙ by (test n) (passing_below n test) (passing_length n test)
-  where
-    by : (b : Bool) (front : List ℕ) → length front ≡ total n (λ i. pick (test i) 1) → length (cond b (front ++ n ∷ []) front) ≡ total n (λ i. pick (test i) 1) + pick b 1
-    by true front e = length-append front (n ∷ []) ∙ ap (λ k. k + 1) e
-    by false front e = e ∙ sym (add-zero (total n (λ i. pick (test i) 1)))
-
--- a constant factor
-pub total_times : (n c : ℕ) (f : ℕ → ℕ) → total n (λ i. f i * c) ≡ total n f * c
-unfolding total
-total_times zero c f = sym (zero-mul c)
-total_times (suc n) c f = let before : total n (λ i. f i * c) ≡ total n f * c = total_times n c f in omega (arith, before)
-
-pub pick_times : (b : Bool) (c : ℕ) → pick b c ≡ pick b 1 * c
-pick_times true c = sym (one-mul c)
-pick_times false c = sym (zero-mul c)
-
--- as many copies of c as the list is long
-pub passing_copies : (n c : ℕ) (test : ℕ → Bool) → length (passing_below n test) * c ≡ total n (λ i. pick (test i) c)
-passing_copies n c test =
-    ap (λ k. k * c) (passing_length n test) ∙ sym (total_times n c (λ i. pick (test i) 1))
-    ∙ total_same n (λ i. pick (test i) 1 * c) (λ i. pick (test i) c) (λ i below. sym (pick_times (test i) c))
 
 module _ {A : Type 0} (R : CommRing A) where
   -- a sum in a ring over the list

@@ -1,27 +1,14 @@
 //! The list of commuting pairs of a group.
 
 ghost use Rattle.std.specs.Prelude.{◌≡◌, ◌*◌, ◌<◌, ◌==◌, ◌&&◌, length, IfOk};
-ghost use Rattle.group_table.specs.Group.{IsGroup, IsSmall};
-ghost use Rattle.classes.specs.Conjugacy.{conjugate};
 ghost use Rattle.pair_orbits.specs.PairOrbits.{conjugate_pair, is_commuting, is_least, fixing, weighted_pair, listed_pairs};
 
 use crate::pair::Pair;
 use crate::pairs::Pairs;
+use classes::conjugate;
 use group_table::{Group, Memory};
 use scan::holds_below;
 use std::alloc::Global;
-
-/// The conjugate `c a c^-1`.
-#[tactic(auto, unfolding(classes::specs::Conjugacy::conjugate))]
-fn conjugate(group: &Group, c: u32, a: u32) -> u32
-    requires c_below { c < group.now.order }
-    requires a_below { a < group.now.order }
-    ensures conjugate { result ≡ conjugate group.now c a }
-    ensures below { result < group.now.order }
-{
-    let carried = group.product(c, a);
-    group.product(carried, group.inverse(c))
-}
 
 /// The pair of the conjugates by `c` of both elements of the pair with the number `p`.
 #[tactic(auto, unfolding(crate::specs::PairOrbits::conjugate_pair))]

@@ -4,9 +4,8 @@ use Rattle.std.proofs.Math.Nat.{mul-le-mul}
 use mathlib.Core.Path.{ap₂}
 use Rattle.scan.proofs.Places.{all_below-all}
 use Rattle.group_table.specs.Group.{inverse, identity_of}
-use Rattle.group_table.proofs.Sentences.{identity_below, closed}
+use Rattle.group_table.proofs.Sentences.{identity_below, two_sided_inverse, closed}
 use Rattle.classes.specs.Conjugacy.{conjugate}
-use Rattle.classes.proofs.Conjugacy.{inverse_at}
 use Rattle.cyclotomic.specs.Conductors.{is_conductor}
 use Rattle.cyclotomic.specs.CyclotomicRing.{root}
 use Rattle.qd_ring.proofs.RootSumLaws.{one_root}
@@ -40,7 +39,7 @@ module _ (k : ℕ) (entry : is_conductor k ≡ true) (s : TwistedSubgroup) (twis
   identity_place = identity_below s.group twist.group
 
   inverse_place : (x : ℕ) → x < size s → inverse s.group x < size s
-  inverse_place x below = (inverse_at s.group twist.group x below).below
+  inverse_place x below = (two_sided_inverse s.group twist.group x below).below
 
   left_place : (y x : ℕ) → y < size s → x < size s → left_quotient s y x < size s
   left_place y x y_below x_below = closed s.group (inverse s.group y) x twist.group (inverse_place y y_below) x_below

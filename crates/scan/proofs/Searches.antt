@@ -41,6 +41,10 @@ pub asked : (b c : Bool) → cond b c true ≡ true → b ≡ true → c ≡ tru
 asked true c e h = e
 asked false c e h = absurd cc
 
+pub not_asked : (b c : Bool) → cond b c true ≡ false → (b ≡ true) × (c ≡ false)
+not_asked true c e = (refl, e)
+not_asked false c e = absurd cc
+
 pub where_asked : (b c : Bool) → (b ≡ true → c ≡ true) → cond b c true ≡ true
 where_asked true c h = h refl
 where_asked false c h = refl

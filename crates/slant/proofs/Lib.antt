@@ -1,3 +1,4 @@
+pub mod Names
 pub mod Instances
 pub mod Identities
 pub mod Places

@@ -1,20 +1,12 @@
 -- The centraliser of an element as a group on places. An element is a number of the whole group, a place the number of an element in
 -- the ascending list of the centraliser.
-use Rattle.std.proofs.Common.{◌≡◌, ℕ, ◌<◌, nat_eq, List, length, get_or, refl, sym, ap, ◌∙◌, arith, eqb-true, eq-eqb}
+use Rattle.slant.proofs.Names.{◌≡◌, ℕ, ◌<◌, nat_eq, List, length, get_or, refl, sym, ap, ◌∙◌, arith, eqb-true, eq-eqb, IsGroupBelow, Table, product, inverse, identity_of, IsGroup, group_below, closed, identity_below, two_sided_inverse, passing_below-ascending, centraliser_exactly, place_in, product_place, table_of, identity_is_unit, is_group, length-by_pairs, pair_at}
 use Rattle.std.specs.Prelude.{unwrap_or}
 use Rattle.std.proofs.lemmas.List.Elements.{Contains-get_or}
 use Rattle.std.proofs.lemmas.Grind.{get_or_default_zero}
-use Rattle.orders.specs.Group.{IsGroupBelow}
-use Rattle.group_table.specs.Group.{Table, product, inverse, identity_of, IsGroup}
-use Rattle.group_table.proofs.Sentences.{group_below, closed, identity_below, inverse_found, two_sided, IsTwoSidedInverse}
-use Rattle.group_table.proofs.Numbers.{passing_below-ascending}
 use Rattle.orders.proofs.Powers.{inverse_unique}
 use Rattle.classes.specs.Conjugacy.{conjugate, centraliser_of}
-use Rattle.classes.proofs.Conjugacy.{centraliser_exactly}
 use Rattle.scan.proofs.Searches.{IsLeastPassing, least_passing, least_passing_found}
-use Rattle.slant.specs.Twists.{place_in, product_place, table_of}
-use Rattle.group_table.proofs.Lawful.{identity_is_unit, is_group}
-use Rattle.group_table.proofs.Square.{length-by_pairs, pair_at}
 
 -- x is an element that commutes with a
 pub record Centralises (t : Table) (a x : ℕ) : Type 0 where
@@ -66,9 +58,6 @@ module _ (t : Table) (T : IsGroup t) (a : ℕ) (a_below : a < t.order) where
   B : IsGroupBelow t.order (product t) (identity_of t)
   B = group_below t T
 
-  inverse_at : (x : ℕ) → x < t.order → IsTwoSidedInverse t x (inverse t x)
-  inverse_at x p = two_sided t x (inverse t x) T p (inverse_found t x T p)
-
   pub own : Centralises t a a
   own = record { below = a_below; commutes = refl }
 
@@ -88,7 +77,7 @@ module _ (t : Table) (T : IsGroup t) (a : ℕ) (a_below : a < t.order) where
   pub inverse_centralises : (x : ℕ) → Centralises t a x → Centralises t a (inverse t x)
   inverse_centralises x h =
       let i = inverse t x in
-      let inv = inverse_at x h.below in
+      let inv = two_sided_inverse t T x h.below in
       let ia_below : product t i a < t.order = closed t i a T inv.below a_below in
       let xi : product t (product t i (product t a x)) i ≡ product t i a =
       ap (λ z. product t z i) (sym (B.associative i a x inv.below a_below h.below)) ∙ B.associative (product t i a) x i ia_below h.below inv.below
@@ -142,7 +131,7 @@ module _ (t : Table) (T : IsGroup t) (a : ℕ) (a_below : a < t.order) where
           r_below,
           element_injective (product table p r) (place (identity_of t)) (product_below p r below r_below) unit_place_below
               (element_of_product p r below r_below ∙ ap (product t (element p)) (element_at_place (inverse t (element p)) (inverse_place p below))
-              ∙ (inverse_at (element p) (element_centralises p below).below).right ∙ sym element_at_unit),
+              ∙ (two_sided_inverse t T (element p) (element_centralises p below).below).right ∙ sym element_at_unit),
         );
     associative = λ p q r p_below q_below r_below.
         let pq = product_below p q p_below q_below in
@@ -161,14 +150,14 @@ module _ (t : Table) (T : IsGroup t) (a : ℕ) (a_below : a < t.order) where
   element_of_identity = ap element (identity_is_unit table (place (identity_of t)) places_group) ∙ element_at_unit
 
   pub inverse_below : (p : ℕ) → p < length elements → inverse table p < length elements
-  inverse_below p below = (two_sided table p (inverse table p) places_lawful below (inverse_found table p places_lawful below)).below
+  inverse_below p below = (two_sided_inverse table places_lawful p below).below
 
   pub element_of_inverse : (p : ℕ) → p < length elements → element (inverse table p) ≡ inverse t (element p)
   element_of_inverse p below =
-      let inv = two_sided table p (inverse table p) places_lawful below (inverse_found table p places_lawful below) in
+      let inv = two_sided_inverse table places_lawful p below in
       let x_below = (element_centralises p below).below in
-      inverse_unique _ _ _ B (element p) (element (inverse table p)) (inverse t (element p)) x_below (element_centralises (inverse table p) inv.below).below (inverse_at (element p) x_below).below
-      (sym (element_of_product p (inverse table p) below inv.below) ∙ ap element inv.right ∙ element_of_identity) (inverse_at (element p) x_below).right
+      inverse_unique _ _ _ B (element p) (element (inverse table p)) (inverse t (element p)) x_below (element_centralises (inverse table p) inv.below).below (two_sided_inverse t T (element p) x_below).below
+      (sym (element_of_product p (inverse table p) below inv.below) ∙ ap element inv.right ∙ element_of_identity) (two_sided_inverse t T (element p) x_below).right
 
   pub conjugate_below : (c p : ℕ) → c < length elements → p < length elements → conjugate table c p < length elements
   unfolding conjugate

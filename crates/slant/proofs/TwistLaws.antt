@@ -1,16 +1,9 @@
 -- The centraliser of an element with the slant product is a twist.
-use Rattle.std.proofs.Common.{◌≡◌, ℕ, ◌+◌, ◌-◌, ◌*◌, ◌/◌, ◌%◌, ◌<◌, ◌≤◌, List, length, get_or, refl, sym, ap, ◌∙◌, arith}
-use Rattle.std.proofs.Common.{nat_eq}
+use Rattle.slant.proofs.Names.{◌≡◌, ℕ, ◌+◌, ◌-◌, ◌*◌, ◌/◌, ◌%◌, ◌<◌, ◌≤◌, List, length, get_or, refl, sym, ap, ◌∙◌, arith, nat_eq, IsGroupBelow, Table, product, inverse, identity_of, IsGroup, IsSmall, group_below, two_sided_inverse, length-passing_below, Cochain, IsCocycle, centraliser_exactly, identity_is_unit, length-by_pairs, row_below, column_below, listed_at, pair_at}
 use mathlib.Core.Path.{ap₂}
 use Rattle.algebra.specs.Congruences.{Same}
 use Rattle.algebra.proofs.CongruenceLaws.{same_of, same_trans}
-use Rattle.orders.specs.Group.{IsGroupBelow}
-use Rattle.group_table.specs.Group.{Table, product, inverse, identity_of, IsGroup, IsSmall}
-use Rattle.group_table.proofs.Sentences.{group_below, inverse_found, two_sided}
-use Rattle.group_table.proofs.Numbers.{length-passing_below}
-use Rattle.cochain.specs.Cochain.{Cochain, IsCocycle}
 use Rattle.classes.specs.Conjugacy.{conjugate, centraliser_of}
-use Rattle.classes.proofs.Conjugacy.{centraliser_exactly}
 use Rattle.twisted.specs.Twist.{TwistedSubgroup, phase, size, HasCocycle, IsTwist}
 use Rattle.twisted.specs.Regular.{kappa as kappa_at_places}
 use Rattle.slant.specs.Phases.{carried, theta, kappa}
@@ -18,15 +11,13 @@ use Rattle.slant.specs.TwistLaws.{CentraliserIsTwist, ElementsCommute, ProductsA
 use Rattle.group_table.specs.Numbers.{by_pairs}
 use Rattle.slant.specs.Twists.{table_of, phase_at, twist_over, twist_of}
 use Rattle.slant.proofs.Identities.{phases_below, theta_normalised, theta_associative}
-use Rattle.group_table.proofs.Lawful.{identity_is_unit}
-use Rattle.group_table.proofs.Square.{length-by_pairs, row_below, column_below, listed_at, pair_at}
 use Rattle.slant.proofs.Places.{Centralises, elements, element, table, place, ascending, element_centralises, own, identity_centralises, place_below, element_at_place, element_of_product, product_below, places_group, places_lawful, element_of_identity, element_of_inverse, conjugate_below, element_of_conjugate}
 
 -- what commutes with a carries it to itself
 pub carried_back : (t : Table) → IsGroup t → (a x : ℕ) → a < t.order → Centralises t a x → carried t a x ≡ a
 carried_back t T a x a_below h =
     let B : IsGroupBelow t.order (product t) (identity_of t) = group_below t T in
-    let inv = two_sided t x (inverse t x) T h.below (inverse_found t x T h.below) in
+    let inv = two_sided_inverse t T x h.below in
     ap (product t (inverse t x)) (sym h.commutes) ∙ sym (B.associative (inverse t x) x a inv.below h.below a_below)
     ∙ ap (λ z. product t z a) inv.left ∙ B.unit_left a a_below
 

@@ -8,24 +8,12 @@ ghost use Rattle.group_table.specs.Numbers.{by_pairs};
 ghost use Rattle.slant.specs.Twists.{place_in, product_place, table_of, phase_at, twist_of};
 
 use crate::slant_product::theta;
+use classes::centraliser;
 use cochain::Cocycle;
 use group_table::{Group, Memory, Nats};
 use scan::first_below;
 use std::alloc::Global;
 use twisted::Twist;
-
-/// The elements that commute with `a`, ascending.
-#[tactic(auto, unfolding(classes::specs::Conjugacy::centraliser_of))]
-fn centraliser(alloc: Global, group: &Group, a: u32) -> Result<Nats, Memory>
-    requires a_below { a < group.now.order }
-    ensures centraliser { IfOk result (λ elements. elements ≡ centraliser_of group.now a) }
-{
-    Nats::passing_below(
-        alloc,
-        group.order(),
-        |x| group.product(x, a) == group.product(a, x),
-    )
-}
 
 /// The place of the element `x` among these.
 fn place_in(elements: &Nats, x: u32) -> Option<u32>

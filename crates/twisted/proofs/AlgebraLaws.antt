@@ -1,21 +1,7 @@
 -- The laws of the algebra of a twist, from those over abstract groups.
-use Rattle.std.proofs.Common.{◌≡◌, ℕ, ◌+◌, ◌*◌, ◌/◌, ◌%◌, ◌<◌, true, false, Option, Some, None, get_or, refl, sym, ◌∙◌, ap, arith, ◌↔◌, eqb-true}
-use Rattle.std.specs.Prelude.{is_some}
-use Rattle.std.proofs.Math.Nat.{div-add-mod}
-use Rattle.std.specs.Option.{option_map_or}
+use Rattle.twisted.proofs.Names.{◌≡◌, ℕ, ◌+◌, ◌*◌, ◌/◌, ◌%◌, ◌<◌, true, false, Option, Some, None, get_or, refl, sym, ◌∙◌, ap, arith, ◌↔◌, eqb-true, is_some, div-add-mod, option_map_or, CommRing, Below, below_equal, Roots, RootOfUnity, twisted_convolution, total_below, convolution_at, convolution_assoc, conjugate, least_transporter, transporter_least, conjugate_by, TwistedSubgroup, size, IsTwist, kappa, is_regular, regular_representatives, rank, root, product_term, twisted_product, unit_vector, IsCentral, class_sum, combination}
 use mathlib.Core.Path.{fun_ext}
-use Rattle.algebra.specs.Structures.{CommRing}
 use Rattle.algebra.specs.Totals.{equals}
-use Rattle.algebra.specs.Below.{Below, below_equal}
-use Rattle.algebra.specs.Roots.{Roots, RootOfUnity}
-use Rattle.algebra.specs.Convolution.{twisted_convolution}
-use Rattle.algebra.proofs.BelowLaws.{total_below}
-use Rattle.algebra.proofs.ConvolutionLaws.{convolution_at, convolution_assoc}
-use Rattle.classes.specs.Conjugacy.{conjugate, least_transporter}
-use Rattle.classes.proofs.Conjugacy.{transporter_least, conjugate_by}
-use Rattle.twisted.specs.Twist.{TwistedSubgroup, size, IsTwist}
-use Rattle.twisted.specs.Regular.{kappa, is_regular, regular_representatives, rank}
-use Rattle.twisted.specs.Algebra.{root, product_term, twisted_product, unit_vector, IsCentral, class_sum, combination}
 use Rattle.twisted.proofs.SeparateRoots.{scaled_roots, scaled_roots_separate}
 use Rattle.twisted.proofs.Carrying.{carry}
 use Rattle.twisted.proofs.ConjugationPhases.{IsRegular, kappa_depends}

@@ -1,7 +1,5 @@
 -- The conjugate c x c^-1 in a group whose elements are a type.
-use Rattle.std.proofs.Common.{◌≡◌, refl, sym, ◌∙◌, ap}
-use Rattle.algebra.specs.Groups.{Group}
-use Rattle.algebra.proofs.GroupLaws.{group_rules, op_cancel_right, op_inv_op}
+use Rattle.twisted.proofs.Names.{◌≡◌, refl, sym, ◌∙◌, ap, Group, group_rules, op_cancel_right, op_inv_op}
 
 -- c x c^-1
 unfoldable pub carry : {G : Type 0} → Group G → G → G → G

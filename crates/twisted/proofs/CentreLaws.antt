@@ -1,22 +1,8 @@
 -- The centre of a twisted group algebra over a commutative ring with a root of unity that tells exponents apart: the class sums
 -- of the regular classes are a basis of it (textbook).
-use Rattle.std.proofs.Common.{◌≡◌, ◌≢◌, ℕ, ◌+◌, ◌-◌, ◌*◌, ◌%◌, ◌<◌, Bool, sym, ◌∙◌, ap, arith, ◌⊎◌, inl, inr}
-use Rattle.std.proofs.Math.Nat.{zero-mod}
+use Rattle.twisted.proofs.Names.{◌≡◌, ◌≢◌, ℕ, ◌+◌, ◌-◌, ◌*◌, ◌%◌, ◌<◌, Bool, sym, ◌∙◌, ap, arith, ◌⊎◌, inl, inr, zero-mod, eq-eqb, ne_eqb, cases_eq, CommRing, sum_below, pick, Finite, equals, Group, Roots, Same, IsTwoCocycle, twisted_convolution, mul_nought, one_mul, product_rules, sum_ext, sum_nought, sum_pick, pick_of, pick_off, pick_cong, pick_mul, mul_pick, pick_same, mul_sum, inv_op_op, op_inv_op, op_op_inv, op_inv_cancel, convolution_at, same_sym, same_trans, same_add, same_multiple, same_of, same_lin}
 use Rattle.std.proofs.Math.Dec.{eqb}
-use Rattle.std.proofs.lemmas.Bool.{eq-eqb, ne_eqb, cases_eq}
-use Rattle.algebra.specs.Structures.{CommRing}
-use Rattle.algebra.specs.Sums.{sum_below, pick}
-use Rattle.algebra.specs.Totals.{Finite, equals}
-use Rattle.algebra.specs.Groups.{Group}
-use Rattle.algebra.specs.Roots.{Roots}
-use Rattle.algebra.specs.Congruences.{Same}
-use Rattle.algebra.specs.Convolution.{IsTwoCocycle, twisted_convolution}
-use Rattle.algebra.proofs.RingLaws.{mul_nought, one_mul, product_rules}
-use Rattle.algebra.proofs.SumLaws.{sum_ext, sum_nought, sum_pick, pick_of, pick_off, pick_cong, pick_mul, mul_pick, pick_same, mul_sum}
 use Rattle.algebra.proofs.TotalLaws.{total_ext, total_pick, equals_true, equals_of}
-use Rattle.algebra.proofs.GroupLaws.{inv_op_op, op_inv_op, op_op_inv, op_inv_cancel}
-use Rattle.algebra.proofs.ConvolutionLaws.{convolution_at}
-use Rattle.algebra.proofs.CongruenceLaws.{same_sym, same_trans, same_add, same_multiple, same_of, same_lin}
 use Rattle.twisted.proofs.SeparateRoots.{Separates}
 use Rattle.twisted.proofs.Carrying.{carry, carry_op, carry_one, carry_back, carry_left, carry_is, carry_of_commuting}
 use Rattle.twisted.proofs.ConjugationPhases.{IsConjugationPhase, IsRegular, kappa_composes, kappa_of_one, regular_of_conjugate}

@@ -1,18 +1,5 @@
 -- A class sum, written place by place as its conjugates are met.
-use Rattle.std.proofs.Common.{◌≡◌, ◌≢◌, ℕ, suc, ◌+◌, ◌%◌, ◌<◌, true, cond, nat_eq, Option, Some, None, List, length, refl, sym, ◌∙◌, ap, arith, add-one, eqb-true, ◌⊎◌, inl, inr}
-use Rattle.std.specs.Option.{option_map_or}
-use Rattle.std.proofs.Math.ListN.{set}
-use Rattle.std.proofs.lemmas.Bool.{eq-eqb, ne_eqb, cases_eq}
-use Rattle.scan.specs.First.{first, option_or}
-use Rattle.scan.proofs.Places.{first-suc, first-zero}
-use Rattle.algebra.specs.Structures.{CommRing}
-use Rattle.algebra.specs.Roots.{RootOfUnity}
-use Rattle.classes.specs.Conjugacy.{conjugate}
-use Rattle.scan.proofs.Searches.{least_passing}
-use Rattle.classes.proofs.Conjugacy.{conjugate_below}
-use Rattle.twisted.specs.Twist.{TwistedSubgroup, size, IsTwist}
-use Rattle.twisted.specs.Regular.{kappa, is_regular}
-use Rattle.twisted.specs.Algebra.{coefficient, root, IsCentral, class_sum}
+use Rattle.twisted.proofs.Names.{◌≡◌, ◌≢◌, ℕ, suc, ◌+◌, ◌%◌, ◌<◌, true, cond, nat_eq, Option, Some, None, List, length, refl, sym, ◌∙◌, ap, arith, add-one, eqb-true, ◌⊎◌, inl, inr, option_map_or, set, eq-eqb, ne_eqb, cases_eq, first, option_or, first-suc, first-zero, CommRing, RootOfUnity, conjugate, least_passing, conjugate_below, TwistedSubgroup, size, IsTwist, kappa, is_regular, coefficient, root, IsCentral, class_sum}
 use Rattle.twisted.proofs.Coefficients.{coefficient-set_same, coefficient-set_other}
 use Rattle.twisted.proofs.PhaseLaws.{kappa_of_conjugate}
 use Rattle.twisted.proofs.AlgebraLaws.{central_exactly, class_sum_central}

@@ -1,8 +1,5 @@
 -- Coefficients of a list of them, after one is put in.
-use Rattle.std.proofs.Common.{◌≡◌, ◌≢◌, ℕ, ◌+◌, ◌<◌, List, [], ◌∷◌, length, get_or, map, ◌∙◌, ap, arith, below_more, All}
-use Rattle.std.proofs.Math.ListN.{set}
-use Rattle.std.proofs.lemmas.List.{map-set, get_or-set_same, get_or-set_other, length-map, get_or-map}
-use Rattle.twisted.specs.Algebra.{coefficient}
+use Rattle.twisted.proofs.Names.{◌≡◌, ◌≢◌, ℕ, ◌+◌, ◌<◌, List, [], ◌∷◌, length, get_or, map, ◌∙◌, ap, arith, below_more, All, set, map-set, get_or-set_same, get_or-set_other, length-map, get_or-map, coefficient}
 
 module _ {E A : Type 0} (of : E → A) (nought : A) (xs : List E) where
   pub coefficient-set_same : (i : ℕ) (v : E) → i < length xs → coefficient of nought (set xs i v) i ≡ of v

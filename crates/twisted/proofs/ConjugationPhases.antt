@@ -1,10 +1,5 @@
 -- The conjugation phase ka(c,x) = th(c,x) - th(c x c^-1, c) of a 2-cocycle th, modulo n (textbook).
-use Rattle.std.proofs.Common.{◌≡◌, ℕ, ◌+◌, sym, ◌∙◌, ap, arith}
-use Rattle.algebra.specs.Groups.{Group}
-use Rattle.algebra.specs.Congruences.{Same}
-use Rattle.algebra.specs.Convolution.{IsTwoCocycle}
-use Rattle.algebra.proofs.CongruenceLaws.{same_sym, same_add, same_lin}
-use Rattle.algebra.proofs.GroupLaws.{op_inv_op}
+use Rattle.twisted.proofs.Names.{◌≡◌, ℕ, ◌+◌, sym, ◌∙◌, ap, arith, Group, Same, IsTwoCocycle, same_sym, same_add, same_lin, op_inv_op}
 use Rattle.twisted.proofs.Carrying.{carry, carry_op, carry_one, carry_move, carry_back, carry_of_commuting, commuting_of_carry}
 
 -- k is the conjugation phase of t: what th(c x c^-1, c) falls short of th(c,x)

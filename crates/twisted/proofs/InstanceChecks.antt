@@ -1,12 +1,9 @@
 -- The worked twists are twists, by computing.
-use Rattle.std.proofs.Common.{◌≡◌, ℕ, ◌+◌, ◌%◌, ◌<◌, Bool, true, ◌&&◌, nat_eq, nat_lt, length, get_or, None, refl, lit<, lit≤, eqb-true}
-use Rattle.std.proofs.lemmas.Bool.{ltb-true}
+use Rattle.twisted.proofs.Names.{◌≡◌, ℕ, ◌+◌, ◌%◌, ◌<◌, Bool, true, ◌&&◌, nat_eq, nat_lt, length, get_or, None, refl, lit<, lit≤, eqb-true, ltb-true, all_below-at, and_true, TwistedSubgroup, size, element, phase, HasCocycle}
 use Rattle.scan.specs.First.{first, all_below}
-use Rattle.scan.proofs.Places.{all_below-at, and_true}
 use Rattle.group_table.specs.Group.{product, identity_of, group_fault}
 use Rattle.group_table.specs.Numbers.{passing_below}
 use Rattle.classes.specs.Conjugacy.{conjugate, representative_of, other_representatives}
-use Rattle.twisted.specs.Twist.{TwistedSubgroup, size, element, phase, HasCocycle}
 use Rattle.twisted.specs.Regular.{kappa, is_regular, regular_representatives, rank}
 use Rattle.twisted.specs.Instances.{four_twist, permutation_twist, FourIsTwist, PermutationsAreTwist, FourRegular, PermutationsRegular}
 

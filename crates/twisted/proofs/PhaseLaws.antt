@@ -1,12 +1,5 @@
 -- The laws of conjugation phases and of regular places, from those over abstract groups.
-use Rattle.std.proofs.Common.{◌≡◌, ℕ, ◌+◌, ◌%◌, ◌<◌, true, sym, ◌∙◌, ap}
-use Rattle.std.proofs.Math.Nat.{mod-lt, mod-eq_of_lt}
-use Rattle.algebra.specs.Below.{Below, below_equal}
-use Rattle.algebra.proofs.CongruenceLaws.{same_equal}
-use Rattle.group_table.specs.Group.{product}
-use Rattle.classes.specs.Conjugacy.{conjugate}
-use Rattle.scan.proofs.Searches.{same_test}
-use Rattle.twisted.specs.Twist.{TwistedSubgroup, size, IsTwist}
+use Rattle.twisted.proofs.Names.{◌≡◌, ℕ, ◌+◌, ◌%◌, ◌<◌, true, sym, ◌∙◌, ap, mod-lt, mod-eq_of_lt, Below, below_equal, same_equal, product, conjugate, same_test, TwistedSubgroup, size, IsTwist}
 use Rattle.twisted.specs.Regular.{kappa, is_regular}
 use Rattle.twisted.proofs.Carrying.{carry, carry_back}
 use Rattle.twisted.proofs.ConjugationPhases.{kappa_composes, kappa_depends, regular_of_conjugate}

@@ -1,18 +1,5 @@
 -- Elements and places.
-use Rattle.std.proofs.Common.{◌≡◌, ◌≢◌, ℕ, ◌<◌, Bool, true, false, nat_eq, cond, Option, Some, None, refl, sym, ap, ◌∙◌, arith, eqb-true}
-use Rattle.std.specs.Prelude.{IfSome, IfNone}
-use Rattle.std.proofs.lemmas.Bool.{eq-eqb}
-use Rattle.scan.proofs.Places.{first_none-at, first_some}
-use Rattle.twisted.specs.Twist.{TwistedSubgroup, size, element, place_of}
-
--- a value that a test let through
-let_through : {A : Type 0} (b : Bool) (x y : A) → cond b (Some x) None ≡ Some y → (b ≡ true) × (x ≡ y)
-let_through true x y e = (refl, cc)
-let_through false x y e = absurd cc
-
-kept_out : {A : Type 0} (b : Bool) (x : A) → cond b (Some x) None ≡ None → b ≡ false
-kept_out true x e = absurd cc
-kept_out false x e = refl
+use Rattle.twisted.proofs.Names.{◌≡◌, ◌≢◌, ℕ, ◌<◌, true, false, nat_eq, Option, Some, None, sym, ap, ◌∙◌, arith, eqb-true, IfSome, IfNone, eq-eqb, first_none-at, first_some, let_through, kept_out, TwistedSubgroup, size, element, place_of}
 
 -- at the place that is found stands the element
 pub place_there : (s : TwistedSubgroup) (x : ℕ) (o : Option ℕ) → o ≡ place_of s x → IfSome o (λ p. (p < size s) × (element s p ≡ x))

@@ -1,21 +1,8 @@
 -- The representatives of the regular classes: one for each, all different.
-use Rattle.std.proofs.Common.{◌≡◌, ◌≢◌, ℕ, zero, suc, ◌+◌, ◌<◌, ◌≤◌, Bool, true, false, ◌&&◌, not, nat_eq, [], ◌∷◌, ◌++◌, length, get_or, refl, subst, sym, ◌∙◌, ap, arith, inl, inr, ◌⊎◌, add-one, eq-eqb, eqb-true}
-use Rattle.std.specs.Prelude.{filter}
+use Rattle.std.proofs.Common.{◌≡◌, ◌≢◌, ℕ, zero, suc, ◌+◌, ◌<◌, ◌≤◌, Bool, true, false, ◌&&◌, nat_eq, [], ◌∷◌, ◌++◌, length, get_or, refl, subst, sym, ◌∙◌, ap, arith, inl, inr, ◌⊎◌, add-one, eq-eqb, eqb-true}
+use Rattle.classes.proofs.Conjugacy.{different_numbers}
+use Rattle.twisted.proofs.Names.{filter, get_or_default, cases_order, get_or-eq_default, All-get_or, All-cons, All-weaker, and_true, Below, below_equal, identity_of, passing_below, IsPassing, passing_below-all, begun_differ, begun_contains, passing_below-zero, passing_below-passes, passing_below-fails, identity_below, conjugate, representative_of, carrier, representative_least, representative_twice, representative_of_identity, representative_of_conjugate, TwistedSubgroup, size, IsTwist, is_regular, regular_representatives, rank}
 use Rattle.std.specs.List.{All, Contains}
-use Rattle.std.proofs.lemmas.List.{get_or_default}
-use Rattle.std.proofs.lemmas.Bool.{cases_order}
-use Rattle.std.proofs.Math.ListN.{get_or-eq_default}
-use Rattle.std.proofs.lemmas.List.Elements.{All-get_or, All-cons, All-weaker, Contains-append_right}
-use Rattle.scan.proofs.Places.{and_true}
-use Rattle.algebra.specs.Below.{Below, below_equal}
-use Rattle.group_table.specs.Group.{identity_of}
-use Rattle.group_table.specs.Numbers.{passing_below}
-use Rattle.group_table.proofs.Numbers.{IsPassing, passing_below-all, passing_below-contains, passing_below-ascending, passing_below-zero, passing_below-passes, passing_below-fails}
-use Rattle.group_table.proofs.Sentences.{identity_below}
-use Rattle.classes.specs.Conjugacy.{conjugate, representative_of}
-use Rattle.classes.proofs.Conjugacy.{carrier, representative_least, representative_twice, representative_of_identity, representative_of_conjugate}
-use Rattle.twisted.specs.Twist.{TwistedSubgroup, size, IsTwist}
-use Rattle.twisted.specs.Regular.{is_regular, regular_representatives, rank}
 use Rattle.twisted.proofs.Carrying.{carry, carry_back}
 use Rattle.twisted.proofs.ConjugationPhases.{IsRegular, regular_of_conjugate}
 use Rattle.twisted.proofs.CentreLaws.{Representatives}
@@ -41,13 +28,6 @@ filter-passing_below (suc n) test other =
     by true true o t front =
         filter_one_more test other n o t ∙ ap (λ f. f ++ n ∷ []) front
         ∙ sym (passing_below-passes n (λ p. other p && test p) (ap (λ a. a && test n) o ∙ t))
-
-different_numbers : (a e : ℕ) → not (nat_eq a e) ≡ true → a ≡ e → ⊥
-different_numbers a e fails same = by (nat_eq a e) fails (eq-eqb a e same)
-  where
-    by : (b : Bool) → not b ≡ true → b ≡ true → ⊥
-    by true f p = absurd cc
-    by false f p = absurd cc
 
 module _ (s : TwistedSubgroup) (twist : IsTwist s) where
   abbrev pub other_test : ℕ → Bool
@@ -77,26 +57,18 @@ module _ (s : TwistedSubgroup) (twist : IsTwist s) where
   pub represents_at : (i : ℕ) → i < length (regular_representatives s) → IsRegularRepresentative (get_or (regular_representatives s) i 0)
   represents_at i below = All-get_or IsRegularRepresentative (regular_representatives s) i 0 below (rw representatives_listed all_represent)
 
-  -- no two are the same
-  different_at : (i j : ℕ) → i < j → j < length (identity_of s.group ∷ passing_below (size s) other_test)
-      → get_or (identity_of s.group ∷ passing_below (size s) other_test) i 0 ≢ get_or (identity_of s.group ∷ passing_below (size s) other_test) j 0
-  different_at zero (suc d) less last same =
-      let there : IsPassing (size s) other_test (get_or (passing_below (size s) other_test) d 0) =
-      All-get_or (IsPassing (size s) other_test) (passing_below (size s) other_test) d 0 (omega arith) (passing_below-all (size s) other_test) in
-      let both = and_true (is_other s.group (get_or (passing_below (size s) other_test) d 0)) (is_regular s (get_or (passing_below (size s) other_test) d 0)) there.passes in
-      different_numbers (get_or (passing_below (size s) other_test) d 0) (identity_of s.group) (and_true _ _ both.0).1 (sym same)
-  different_at (suc c) (suc d) less last same =
-      let ascends : get_or (passing_below (size s) other_test) c 0 < get_or (passing_below (size s) other_test) d 0 =
-      passing_below-ascending (size s) other_test c d (omega arith) (omega arith) in
-      omega (arith, same)
-  different_at c zero less last same = omega arith
+  is_not_identity : (p : ℕ) → other_test p ≡ true → p ≢ identity_of s.group
+  is_not_identity p passes =
+      let other = and_true (is_other s.group p) (is_regular s p) passes in
+      different_numbers p (identity_of s.group) (and_true (nat_eq (representative_of s.group p) p) _ other.0).1
 
+  -- no two are the same
   pub representatives_differ : (i j : ℕ) → i < length (regular_representatives s) → j < length (regular_representatives s)
       → get_or (regular_representatives s) i 0 ≡ get_or (regular_representatives s) j 0 → i ≡ j
   representatives_differ i j i_below j_below same = by (cases_order i j)
     where
       apart : (i j : ℕ) → i < j → j < length (regular_representatives s) → get_or (regular_representatives s) i 0 ≢ get_or (regular_representatives s) j 0
-      apart i j less below = rw representatives_listed (different_at i j less (rw representatives_listed at below))
+      apart i j less below = rw representatives_listed (begun_differ (size s) (identity_of s.group) other_test is_not_identity i j less (rw representatives_listed at below))
 
       by : (i ≡ j) ⊎ ((i < j) ⊎ (j < i)) → i ≡ j
       by (inl equal) = equal
@@ -105,13 +77,9 @@ module _ (s : TwistedSubgroup) (twist : IsTwist s) where
 
   -- each representative of a regular class is in the list
   pub listed : (p : ℕ) → IsRegularRepresentative p → Contains (regular_representatives s) p
-  listed p r = rw representatives_listed (by (nat_eq p (identity_of s.group)) refl)
-    where
-      by : (b : Bool) → nat_eq p (identity_of s.group) ≡ b → Contains (identity_of s.group ∷ passing_below (size s) other_test) p
-      by true e = rw (eqb-true _ _ e) (0, omega arith, refl)
-      by false e =
-          let passes : other_test p ≡ true = rw (eq-eqb _ _ r.represents, e, r.regular) refl in
-          Contains-append_right (identity_of s.group ∷ []) (passing_below (size s) other_test) p (passing_below-contains (size s) p other_test r.below passes)
+  listed p r =
+      rw representatives_listed
+      (begun_contains (size s) (identity_of s.group) p other_test r.below (λ e. rw (eq-eqb _ _ r.represents, e, r.regular) refl))
 
   -- the representative with the number i, as a place; past the last one some place
   pub representative_below_at : (i : ℕ) → get_or (regular_representatives s) i 0 < size s

@@ -1,20 +1,9 @@
 -- Places that are least in their class, and the lists and numbers of those that are regular.
 use Rattle.std.proofs.Common.{◌≡◌, ℕ, ◌+◌, ◌<◌, ◌≤◌, Bool, true, false, ◌&&◌, not, cond, nat_eq, nat_le, List, [], ◌∷◌, ◌++◌, length, length-append, refl, sym, ◌∙◌, ap, arith, eq-eqb, eqb-true}
-use Rattle.std.proofs.lemmas.Bool.{leb-true, le-leb}
-use Rattle.std.specs.Prelude.{filter}
-use Rattle.std.proofs.lemmas.List.Elements.{filter-append}
-use Rattle.std.proofs.lemmas.List.{append-nil}
+use Rattle.twisted.proofs.Names.{leb-true, le-leb, filter, filter-append, append-nil, TwistedSubgroup, size, phase, IsTwist, passing_below, passing_below-passes, passing_below-fails, passing_below-zero, all_below, all_below-all, all_below-at, and_true, Table, product, identity_of, IsGroup, same_test, carrier, conjugate_by, conjugate_refl, conjugate_sym, conjugate_below, representative_least}
 use Rattle.std.proofs.lemmas.List.Sums.{length-filter}
-use Rattle.twisted.specs.Twist.{TwistedSubgroup, size, phase, IsTwist}
 use Rattle.twisted.specs.Regular.{is_symmetric_at, is_regular, regular_representatives, rank}
-use Rattle.group_table.specs.Numbers.{passing_below}
-use Rattle.group_table.proofs.Numbers.{passing_below-passes, passing_below-fails, passing_below-zero}
-use Rattle.scan.specs.First.{all_below}
-use Rattle.scan.proofs.Places.{all_below-all, all_below-at, and_true}
-use Rattle.group_table.specs.Group.{Table, product, identity_of, IsGroup}
 use Rattle.classes.specs.Conjugacy.{conjugate, representative_of, representatives, other_representatives}
-use Rattle.scan.proofs.Searches.{same_test}
-use Rattle.classes.proofs.Conjugacy.{carrier, conjugate_by, conjugate_refl, conjugate_sym, conjugate_below, representative_least}
 
 -- p is least in its class exactly where no conjugate is lower
 pub is_least_in_class : (t : Table) (p : ℕ) → IsGroup t → p < t.order → all_below t.order (λ c. nat_le p (conjugate t c p)) ≡ nat_eq (representative_of t p) p

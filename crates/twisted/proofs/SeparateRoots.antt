@@ -1,11 +1,5 @@
 -- Roots of unity that tell exponents apart.
-use Rattle.std.proofs.Common.{◌≡◌, ◌≢◌, ℕ, zero, suc, ◌+◌, ◌*◌, ◌/◌, ◌%◌, ◌<◌, refl, sym, ◌∙◌, ap, arith}
-use Rattle.std.proofs.Math.Nat.{zero-mul, suc-mul, mul-suc, add-mul, div-add-mod, mod-lt, mod-eq_of_lt, mul-add-mod_self_left, mul-lt-mul_of_pos_left}
-use Rattle.algebra.specs.Structures.{CommRing}
-use Rattle.algebra.specs.Sums.{power}
-use Rattle.algebra.specs.Roots.{Roots, RootOfUnity}
-use Rattle.algebra.proofs.RingLaws.{nought_mul, one_mul}
-use Rattle.algebra.proofs.SumLaws.{sum_ext, sum_constant, sum_mul, power_zero, power_add}
+use Rattle.twisted.proofs.Names.{◌≡◌, ◌≢◌, ℕ, zero, suc, ◌+◌, ◌*◌, ◌/◌, ◌%◌, ◌<◌, refl, sym, ◌∙◌, ap, arith, zero-mul, suc-mul, mul-suc, add-mul, div-add-mod, mod-lt, mod-eq_of_lt, mul-add-mod_self_left, mul-lt-mul_of_pos_left, CommRing, power, Roots, RootOfUnity, nought_mul, one_mul, sum_ext, sum_constant, sum_mul, power_zero, power_add}
 use Rattle.algebra.proofs.RootLaws.{power_same}
 
 -- only nought stays fixed under a root that isn't one

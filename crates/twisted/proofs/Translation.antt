@@ -1,22 +1,9 @@
 -- A twist as an abstract group with a 2-cocycle: the elements of the group are the places.
-use Rattle.std.proofs.Common.{◌≡◌, ℕ, zero, suc, ◌+◌, ◌-◌, ◌*◌, ◌%◌, ◌<◌, Bool, true, false, ◌&&◌, cond, nat_eq, Option, Some, None, refl, sym, ◌∙◌, ap, arith, ◌⊎◌, inl, inr, eq-eqb, eqb-true}
-use Rattle.scan.specs.First.{all_below}
-use Rattle.scan.proofs.Places.{all_below-at, all_below-suc, all_below-zero}
-use Rattle.algebra.specs.Groups.{Group}
-use Rattle.algebra.specs.Below.{Below, IsGroupBelow, below_equal}
-use Rattle.algebra.specs.Totals.{Finite}
-use Rattle.algebra.specs.Congruences.{Same}
-use Rattle.algebra.specs.Convolution.{IsTwoCocycle}
-use Rattle.algebra.proofs.BelowLaws.{finite_below, group_below}
-use Rattle.algebra.proofs.CongruenceLaws.{same_of, same_trans, same_add_right, same_mod, same_add_multiple, same_equal}
-use Rattle.group_table.specs.Group.{Table, product, identity_of, inverse, IsGroup}
+use Rattle.std.proofs.Common.{◌≡◌, ℕ, zero, suc, ◌+◌, ◌-◌, ◌*◌, ◌%◌, ◌<◌, Bool, true, false, ◌&&◌, nat_eq, Option, Some, None, refl, sym, ◌∙◌, ap, arith, ◌⊎◌, inl, inr, eq-eqb, eqb-true}
+use Rattle.twisted.proofs.Names.{all_below, all_below-at, all_below-suc, all_below-zero, Group, Below, IsGroupBelow, below_equal, Finite, Same, IsTwoCocycle, finite_below, group_below, same_of, same_trans, same_add_right, same_mod, same_add_multiple, same_equal, Table, product, identity_of, inverse, IsGroup, two_sided_inverse, asked, not_asked, transporter_least, conjugate_by, is_some, TwistedSubgroup, size, phase, IsTwist}
 use Rattle.group_table.proofs.Square.{place_below}
-use Rattle.group_table.proofs.Sentences.{IsTwoSidedInverse, two_sided, inverse_found, closed}
 use Rattle.group_table.proofs.Sentences as sentences
 use Rattle.classes.specs.Conjugacy.{conjugate, least_transporter}
-use Rattle.classes.proofs.Conjugacy.{transporter_least, conjugate_by}
-use Rattle.std.specs.Prelude.{is_some}
-use Rattle.twisted.specs.Twist.{TwistedSubgroup, size, phase, IsTwist}
 use Rattle.twisted.specs.Regular.{kappa, is_symmetric_at, is_regular}
 use Rattle.twisted.proofs.Carrying.{carry}
 use Rattle.twisted.proofs.ConjugationPhases.{IsConjugationPhase, IsRegular}
@@ -29,16 +16,13 @@ table_group t group =
     record {
       one_below = g.unit_below;
       op_below = g.closed;
-      inv_below = λ x p. (inverse_at x p).below;
+      inv_below = λ x p. (two_sided_inverse t group x p).below;
       op_assoc = g.associative;
       one_op = g.unit_left;
       op_one = g.unit_right;
-      inv_op = λ x p. (inverse_at x p).left;
-      op_inv = λ x p. (inverse_at x p).right;
+      inv_op = λ x p. (two_sided_inverse t group x p).left;
+      op_inv = λ x p. (two_sided_inverse t group x p).right;
     }
-  where
-    inverse_at : (x : ℕ) → x < t.order → IsTwoSidedInverse t x (inverse t x)
-    inverse_at x p = two_sided t x (inverse t x) group p (inverse_found t x group p)
 
 -- the difference of two exponents, with the second added again
 pub difference_back : (n a b : ℕ) → b < n → Same n ((a + (n - b)) % n + b) a
@@ -60,15 +44,6 @@ all_below-fails_at (suc n) test fails = by (all_below n test) (test n) refl refl
         below_suc h = omega arith
     by true false front last e before = (n, omega arith, last)
     by true true front last e before = absurd cc
-
--- what a test of two numbers under another test says
-test_passes : (b c : Bool) → cond b c true ≡ true → b ≡ true → c ≡ true
-test_passes true c e t = e
-test_passes false c e t = absurd cc
-
-test_fails : (b c : Bool) → cond b c true ≡ false → (b ≡ true) × (c ≡ false)
-test_fails true c e = (refl, e)
-test_fails false c e = absurd cc
 
 module _ (s : TwistedSubgroup) (twist : IsTwist s) where
   pub some_place : 0 < size s
@@ -123,7 +98,7 @@ module _ (s : TwistedSubgroup) (twist : IsTwist s) where
     symmetric = λ y same.
         same_of s.modulus
         (eqb-true _ _
-        (test_passes (nat_eq (product s.group x.value y.value) (product s.group y.value x.value)) (nat_eq (phase s x.value y.value) (phase s y.value x.value))
+        (asked (nat_eq (product s.group x.value y.value) (product s.group y.value x.value)) (nat_eq (phase s x.value y.value) (phase s y.value x.value))
         (all_below-at (size s) y.value (is_symmetric_at s x.value) e y.below)
         (eq-eqb _ _ (ap (λ (z : Below (size s)). z.value) same))));
   }
@@ -135,7 +110,7 @@ module _ (s : TwistedSubgroup) (twist : IsTwist s) where
   irregular_of_test x e =
       let found = all_below-fails_at (size s) (is_symmetric_at s x.value) e in
       let y : Below (size s) = record { value = found.0; below = found.1 } in
-      let shows = test_fails (nat_eq (product s.group x.value y.value) (product s.group y.value x.value)) (nat_eq (phase s x.value y.value) (phase s y.value x.value)) found.2 in (
+      let shows = not_asked (nat_eq (product s.group x.value y.value) (product s.group y.value x.value)) (nat_eq (phase s x.value y.value) (phase s y.value x.value)) found.2 in (
         y,
         places_commute x y (eqb-true _ _ shows.0),
         λ same.

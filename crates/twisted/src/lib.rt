@@ -11,10 +11,11 @@ mod regular;
 mod sums;
 mod twist;
 
+pub use classes::conjugate;
 pub use elem::Elem;
 pub use product::{MulRefusal, mul};
 use qd_ring::Ring;
-pub use regular::{centre_rank, conjugate, is_regular, kappa, regular_reps};
+pub use regular::{centre_rank, is_regular, kappa, regular_reps};
 pub use sums::class_sum;
 pub use twist::Twist;
 

@@ -8,21 +8,10 @@ ghost use Rattle.twisted.specs.Twist.{size, IsTwist};
 ghost use Rattle.twisted.specs.Regular.{kappa, is_symmetric_at, is_regular, regular_representatives, rank};
 
 use crate::twist::Twist;
-use group_table::{Group, Memory, Nats};
+use classes::conjugate;
+use group_table::{Memory, Nats};
 use scan::holds_below;
 use std::alloc::Global;
-
-/// The conjugate `c x c^-1`.
-#[tactic(auto, unfolding(classes::specs::Conjugacy::conjugate))]
-pub fn conjugate(group: &Group, c: u32, x: u32) -> u32
-    requires c_below { c < group.now.order }
-    requires x_below { x < group.now.order }
-    ensures conjugate { result ≡ conjugate group.now c x }
-    ensures below { result < group.now.order }
-{
-    let carried = group.product(c, x);
-    group.product(carried, group.inverse(c))
-}
 
 /// The conjugation phase at the places `c` and `p`: the exponent at `c` and `p` less that at `c p c^-1` and `c`, modulo the modulus.
 /// In the twisted group algebra `u_c u_p` is that root times `u_q u_c`, where `q` is `c p c^-1`.

@@ -7,8 +7,9 @@ ghost use Rattle.twisted.specs.Algebra.{coefficient, class_sum, IsCentral};
 
 use crate::elem::Elem;
 use crate::product::exponent;
-use crate::regular::{conjugate, kappa};
+use crate::regular::kappa;
 use crate::twist::Twist;
+use classes::conjugate;
 use group_table::Memory;
 use qd_ring::{Ring, root_of};
 use std::alloc::Global;

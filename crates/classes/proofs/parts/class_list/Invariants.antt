@@ -1,6 +1,4 @@
-use Rattle.std.proofs.Common.{◌≡◌, ◌∷◌, map, take}
-use Rattle.group_table.specs.Group.{identity_of}
-use Rattle.classes.specs.Kept.{class_at}
+use Rattle.classes.proofs.Names.{◌≡◌, ◌∷◌, map, take, identity_of, class_at}
 use Rattle.classes.proofs.parts.class_list.Given as goal
 
 abbrev pub invariant-loop-a : goal.invariant-loop-a

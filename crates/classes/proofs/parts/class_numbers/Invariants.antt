@@ -1,5 +1,4 @@
-use Rattle.std.proofs.Common.{◌≡◌, ℕ, ◌<◌, length, get_or}
-use Rattle.classes.specs.Conjugacy.{class_of}
+use Rattle.classes.proofs.Names.{◌≡◌, ℕ, ◌<◌, length, get_or, class_of}
 use Rattle.classes.proofs.parts.class_numbers.Given as goal
 
 abbrev pub invariant-loop-g : goal.invariant-loop-g

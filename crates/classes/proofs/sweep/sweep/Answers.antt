@@ -1,5 +1,4 @@
-use Rattle.std.proofs.Common.{◌≡◌, ◌∙◌, Some, sym, arith, length-append}
-use Rattle.classes.specs.Sweep.{reach_of}
+use Rattle.classes.proofs.Names.{◌≡◌, ◌∙◌, Some, sym, arith, length-append, reach_of}
 use Rattle.classes.proofs.Rows.{reach_read, one_more_reach}
 use Rattle.classes.proofs.sweep.sweep.Goals as goal
 

@@ -1,6 +1,4 @@
-use Rattle.std.proofs.Common.{◌≡◌, ℕ, ◌<◌, length, get_or}
-use Rattle.classes.specs.Sweep.{reach_of}
-use Rattle.classes.specs.declared.sweep.Reach.{Reach}
+use Rattle.classes.proofs.Names.{◌≡◌, ℕ, ◌<◌, length, get_or, reach_of, Reach}
 use Rattle.classes.proofs.sweep.sweep.Given as goal
 
 abbrev pub invariant-loop-reach : goal.invariant-loop-reach

@@ -1,5 +1,4 @@
-use Rattle.std.proofs.Common.{rules, arith}
-use Rattle.std.proofs.lemmas.List.{length-replicate}
+use Rattle.classes.proofs.Names.{rules, arith, length-replicate}
 use Rattle.classes.proofs.Rows.{nothing_reached}
 use Rattle.classes.proofs.sweep.sweep_rows.Goals as goal
 

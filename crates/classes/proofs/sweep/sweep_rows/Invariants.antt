@@ -1,5 +1,4 @@
-use Rattle.std.proofs.Common.{◌≡◌, ℕ, ◌<◌, None, length, get_or}
-use Rattle.classes.specs.Sweep.{reach_below}
+use Rattle.classes.proofs.Names.{◌≡◌, ℕ, ◌<◌, None, length, get_or, reach_below}
 use Rattle.classes.proofs.sweep.sweep_rows.Given as goal
 
 abbrev pub invariant-loop-a : goal.invariant-loop-a

@@ -1,5 +1,4 @@
-use Rattle.std.proofs.Common.{◌≡◌, ℕ, ◌<◌, ◌/◌, ◌%◌, false, length, get_or}
-use Rattle.cochain.specs.ZeroRows.{is_zero_row}
+use Rattle.cochain.proofs.Names.{◌≡◌, ℕ, ◌<◌, ◌/◌, ◌%◌, false, length, get_or, is_zero_row}
 use Rattle.cochain.proofs.zero_rows.mark_zero_rows.Given as goal
 
 -- the marks of the rows before the place i

@@ -1,6 +1,5 @@
-use Rattle.std.proofs.Common.{refl, ap, ◌∙◌}
+use Rattle.slant.proofs.Names.{refl, ap, ◌∙◌, table_of}
 use Rattle.classes.specs.Conjugacy.{centraliser_of}
-use Rattle.slant.specs.Twists.{table_of}
 use Rattle.slant.proofs.TwistLaws.{elements_below, elements_few, elements_lawful, made_lawful}
 use Rattle.slant.proofs.centraliser.twist_at.Goals as goal
 

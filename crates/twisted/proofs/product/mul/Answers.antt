@@ -1,7 +1,4 @@
-use Rattle.std.proofs.Common.{◌<◌, length, arith}
-use Rattle.std.proofs.lemmas.List.{length-set}
-use Rattle.std.proofs.lemmas.List.Elements.{All-set}
-use Rattle.twisted.specs.Algebra.{coefficient, twisted_product}
+use Rattle.twisted.proofs.Names.{◌<◌, length, arith, length-set, All-set, coefficient, twisted_product}
 use Rattle.twisted.proofs.Coefficients.{coefficients_more}
 use Rattle.twisted.proofs.product.mul.Goals as goal
 

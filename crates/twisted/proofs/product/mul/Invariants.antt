@@ -1,6 +1,4 @@
-use Rattle.std.proofs.Common.{◌≡◌, ℕ, ◌<◌, All, length}
-use Rattle.twisted.specs.Twist.{size}
-use Rattle.twisted.specs.Algebra.{coefficient, twisted_product}
+use Rattle.twisted.proofs.Names.{◌≡◌, ℕ, ◌<◌, All, length, size, coefficient, twisted_product}
 use Rattle.twisted.proofs.product.mul.Given as goal
 
 -- the coefficients before the place are those of the product

@@ -1,9 +1,5 @@
-use Rattle.std.proofs.Common.{rules, ◌≡◌, ℕ, subst}
-use Rattle.std.specs.Prelude.{IfSome}
-use Rattle.algebra.specs.Sums.{sum_below}
+use Rattle.twisted.proofs.Names.{rules, ◌≡◌, ℕ, subst, IfSome, sum_below, phase, left_quotient, coefficient, exponent, product_term}
 use Rattle.qd_ring.specs.Fit.{term_fits}
-use Rattle.twisted.specs.Twist.{phase}
-use Rattle.twisted.specs.Algebra.{left_quotient, coefficient, exponent, product_term}
 use Rattle.twisted.proofs.product.product_at.Goals as goal
 
 pub returns-clause-sum : goal.returns-clause-sum

@@ -1,5 +1,4 @@
-use Rattle.std.proofs.Common.{◌≡◌, ◌+◌, length, [], ◌∷◌, sym, ap, ◌∙◌, arith, length-append}
-use Rattle.twisted.specs.Twist.{size}
+use Rattle.twisted.proofs.Names.{◌≡◌, ◌+◌, length, [], ◌∷◌, sym, ap, ◌∙◌, arith, length-append, size}
 use Rattle.twisted.proofs.Representatives.{other_regular, other_regular-zero, other_regular-more, other_regular-same, rank_is}
 use Rattle.twisted.proofs.regular.centre_rank.Goals as goal
 use Rattle.twisted.proofs.regular.centre_rank.Goals.{then-is_other_regular, else-is_other_regular}

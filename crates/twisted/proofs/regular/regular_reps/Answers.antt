@@ -1,6 +1,4 @@
-use Rattle.std.proofs.Common.{◌≡◌, ◌+◌, ◌∷◌, sym, ap, ◌∙◌, arith}
-use Rattle.group_table.specs.Group.{identity_of}
-use Rattle.twisted.specs.Twist.{size}
+use Rattle.twisted.proofs.Names.{◌≡◌, ◌+◌, ◌∷◌, sym, ap, ◌∙◌, arith, identity_of, size}
 use Rattle.twisted.proofs.Representatives.{other_regular, other_regular-zero, other_regular-more, other_regular-same, regular_representatives_are, list_begun, list_grown, length-pushed}
 use Rattle.twisted.proofs.regular.regular_reps.Goals as goal
 use Rattle.twisted.proofs.regular.regular_reps.Goals.{then-is_other_regular+in_ok-push-2, else-is_other_regular}

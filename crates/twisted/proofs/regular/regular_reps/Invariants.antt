@@ -1,5 +1,4 @@
-use Rattle.std.proofs.Common.{◌≡◌, ◌+◌, ◌≤◌, ◌∷◌, length}
-use Rattle.group_table.specs.Group.{identity_of}
+use Rattle.twisted.proofs.Names.{◌≡◌, ◌+◌, ◌≤◌, ◌∷◌, length, identity_of}
 use Rattle.twisted.proofs.Representatives.{other_regular}
 use Rattle.twisted.proofs.regular.regular_reps.Given as goal
 

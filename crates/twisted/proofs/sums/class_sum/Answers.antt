@@ -1,12 +1,4 @@
-use Rattle.std.proofs.Common.{◌≡◌, ℕ, ◌<◌, length, ◌∙◌, ap, sym, arith}
-use Rattle.std.proofs.lemmas.List.{length-set}
-use Rattle.std.proofs.lemmas.List.Elements.{All-set}
-use Rattle.algebra.specs.Sums.{power}
-use Rattle.group_table.specs.Group.{Table}
-use Rattle.classes.specs.Conjugacy.{conjugate}
-use Rattle.twisted.specs.Twist.{size}
-use Rattle.twisted.specs.Regular.{kappa}
-use Rattle.twisted.specs.Algebra.{coefficient, exponent, root}
+use Rattle.twisted.proofs.Names.{◌≡◌, ℕ, ◌<◌, length, ◌∙◌, ap, sym, arith, length-set, All-set, power, Table, conjugate, size, kappa, coefficient, exponent, root}
 use Rattle.twisted.proofs.Coefficients.{coefficient_nought}
 use Rattle.twisted.proofs.ClassSums.{partial_sum, partial_sum-zero, partial_sums_step, same_central}
 use Rattle.twisted.proofs.sums.class_sum.Goals as goal

@@ -1,6 +1,4 @@
-use Rattle.std.proofs.Common.{◌≡◌, ℕ, ◌<◌, All, length}
-use Rattle.twisted.specs.Twist.{size}
-use Rattle.twisted.specs.Algebra.{coefficient}
+use Rattle.twisted.proofs.Names.{◌≡◌, ℕ, ◌<◌, All, length, size, coefficient}
 use Rattle.twisted.proofs.ClassSums.{partial_sum}
 use Rattle.twisted.proofs.sums.class_sum.Given as goal
 

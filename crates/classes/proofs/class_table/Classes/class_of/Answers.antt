@@ -1,6 +1,4 @@
-use Rattle.std.proofs.Common.{◌≡◌, ◌<◌, length, subst}
-use Rattle.group_table.specs.Group.{Table}
-use Rattle.classes.specs.Conjugacy.{representatives, representative_at, representative_of}
+use Rattle.classes.proofs.Names.{◌≡◌, ◌<◌, length, subst, Table, representatives, representative_at, representative_of}
 use Rattle.classes.proofs.Conjugacy.{class_below, class_represents}
 use Rattle.classes.proofs.class_table.Classes.class_of.Goals as goal
 

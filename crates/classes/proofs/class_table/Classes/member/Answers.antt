@@ -1,7 +1,4 @@
-use Rattle.std.proofs.Common.{◌<◌, length, ap, subst, sym}
-use Rattle.group_table.specs.Group.{Table}
-use Rattle.classes.specs.Conjugacy.{representative_at, members_of}
-use Rattle.classes.specs.declared.class_table.Class.{Class}
+use Rattle.classes.proofs.Names.{◌<◌, length, ap, subst, sym, Table, representative_at, members_of, Class}
 use Rattle.classes.proofs.Conjugacy.{member_below, member_class}
 use Rattle.classes.proofs.Lookups.{class_kept}
 use Rattle.classes.proofs.class_table.Classes.member.Goals as goal

@@ -1,7 +1,4 @@
-use Rattle.std.proofs.Common.{◌≡◌, ap, subst}
-use Rattle.group_table.specs.Group.{Table}
-use Rattle.classes.specs.Conjugacy.{class_of}
-use Rattle.classes.specs.declared.class_table.Class.{Class}
+use Rattle.classes.proofs.Names.{◌≡◌, ap, subst, Table, class_of, Class}
 use Rattle.classes.proofs.Conjugacy.{IsRepresentative, representative_at_is, class_of_representative}
 use Rattle.classes.proofs.Lookups.{class_kept}
 use Rattle.classes.proofs.class_table.Classes.representative.Goals as goal

@@ -1,7 +1,4 @@
-use Rattle.std.proofs.Common.{ap, subst}
-use Rattle.group_table.specs.Group.{Table}
-use Rattle.classes.specs.Conjugacy.{representative_at}
-use Rattle.classes.specs.declared.class_table.Class.{Class}
+use Rattle.classes.proofs.Names.{ap, subst, Table, representative_at, Class}
 use Rattle.classes.proofs.Lookups.{IsSizeOf, class_kept, size_is}
 use Rattle.classes.proofs.class_table.Classes.size.Goals as goal
 use Rattle.classes.proofs.class_table.Classes.size.Goals.{After-len}

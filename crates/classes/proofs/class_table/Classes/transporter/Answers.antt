@@ -1,5 +1,4 @@
-use Rattle.std.proofs.Common.{subst}
-use Rattle.group_table.specs.Group.{Table}
+use Rattle.classes.proofs.Names.{subst, Table}
 use Rattle.classes.proofs.Conjugacy.{IsLeastTransporter}
 use Rattle.classes.proofs.Lookups.{transporter_kept}
 use Rattle.classes.proofs.class_table.Classes.transporter.Goals as goal

@@ -1,5 +1,4 @@
-use Rattle.std.proofs.Common.{◌≡◌, None, sym, ◌∙◌}
-use Rattle.cochain.specs.Gauge.{gauge_fault}
+use Rattle.cochain.proofs.Names.{◌≡◌, None, sym, ◌∙◌, gauge_fault}
 use Rattle.cochain.proofs.Gauged.{gauged_is_cocycle}
 use Rattle.cochain.proofs.cocycle.Cocycle.gauge.Goals as goal
 
