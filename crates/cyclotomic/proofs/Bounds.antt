@@ -1,22 +1,8 @@
 -- Reduced powers of x have size 1, and a product of two values fits where the product of their sizes is below 2^108.
-use Rattle.std.proofs.Common.{◌≡◌, ℕ, zero, suc, ◌*◌, ◌^◌, ◌%◌, ◌≤◌, ◌<◌, List, [], ◌∷◌, ◌++◌, length, get_or, Bool, true, false, refl, sym, ap, ◌∙◌, subst, arith, sum_by, IsPermutation}
-use Rattle.std.proofs.Math.Nat.{mod-lt, mul-le-mul, mul-le-mul_right}
-use Rattle.std.specs.Prelude.{ℤ, pos, negsuc, nat_lt, nat_le, not}
-use Rattle.std.specs.List.{list_all}
+use Rattle.cyclotomic.proofs.Names.{leb-true, ◌≡◌, ℕ, zero, suc, ◌*◌, ◌^◌, ◌%◌, ◌≤◌, ◌<◌, List, [], ◌∷◌, ◌++◌, length, get_or, Bool, true, false, refl, sym, ap, ◌∙◌, subst, arith, sum_by, IsPermutation, mod-lt, mul-le-mul, mul-le-mul_right, ℤ, nat_lt, nat_le, not, list_all, ltb-true, ltb-false, le-leb, le-ltb, sum_list, sum_list_nil, sum_list_cons, degree, cyclotomic, conductors, is_conductor, phi_of, Value, value_sum, value_nought, value_one, value_product, value_root, size_of, value_size, value_fits, product_fits, sizes_overflow, greatest_magnitude, iterate, remainder_ring, value_shift}
 use Rattle.std.proofs.lemmas.Bool.Decides.{nat_tests}
 use Rattle.std.proofs.lemmas.List.Sums.{sum_by-append, sum_by-cons}
 use Rattle.std.proofs.lemmas.List.Sorted.{sum_by-IsPermutation}
-use borrow.Author.Tests.{ltb-true, ltb-false, le-leb, le-ltb}
-use Rattle.algebra.specs.Sums.{sum_list}
-use Rattle.algebra.proofs.SumLaws.{sum_list_nil, sum_list_cons}
-use Rattle.cyclotomic.specs.Division.{degree}
-use Rattle.cyclotomic.specs.Cyclotomic.{cyclotomic}
-use Rattle.cyclotomic.specs.Conductors.{conductors, is_conductor, phi_of}
-use Rattle.cyclotomic.specs.Ring.{Value, value_sum, value_nought, value_one, value_product, value_root}
-use Rattle.cyclotomic.specs.Fit.{size_of, value_size, value_fits, product_fits, sizes_overflow, greatest_magnitude}
-use Rattle.cyclotomic.specs.Laws.Action.{iterate}
-use Rattle.cyclotomic.specs.CyclotomicRing.{remainder_ring}
-use Rattle.cyclotomic.specs.Laws.Values.{value_shift}
 use Rattle.cyclotomic.proofs.Images.{root_steps, root-mod}
 use Rattle.cyclotomic.proofs.Tests.{and_left, and_right, at_each_conductor}
 use Rattle.cyclotomic.proofs.Rows.{power_rows}
@@ -26,15 +12,6 @@ use Rattle.cyclotomic.proofs.Fields.{from_listed, cyclotomic_degree, cyclotomic_
 use Rattle.cyclotomic.proofs.Sizes.{size-plus, size-zeros, total_of, total-size, size-product}
 
 -- ---- reduced powers of x
-pub ternary-size : (p : List ℤ) → is_ternary p ≡ true → size_of p ≤ 1
-unfolding is_ternary size_of
-ternary-size [] e = omega arith
-ternary-size (pos zero ∷ p) e = omega (arith, ternary-size p e)
-ternary-size (pos (suc zero) ∷ p) e = omega (arith, ternary-size p e)
-ternary-size (pos (suc (suc a)) ∷ p) e = cc
-ternary-size (negsuc zero ∷ p) e = omega (arith, ternary-size p e)
-ternary-size (negsuc (suc a) ∷ p) e = cc
-
 -- what passes at every element passes at a place of the list
 all_at : {X : Type 0} (test : X → Bool) (xs : List X) (d : X) → list_all test xs ≡ true → test d ≡ true → (i : ℕ) → test (get_or xs i d) ≡ true
 all_at test [] d all default i = default
@@ -42,11 +19,8 @@ all_at test (x ∷ xs) d all default zero = and_left (test x) (list_all test xs)
 all_at test (x ∷ xs) d all default (suc i) = all_at test xs d (and_right (test x) (list_all test xs) all) default i
 
 -- ---- phi * phi is at most 2^11
-square_is_small : ℕ → Bool
-square_is_small k = nat_lt (phi_of k * phi_of k) 2048
-
-all_squares : list_all (λ (entry : ℕ × ℕ). square_is_small entry.0) conductors ≡ true
-unfolding square_is_small conductors phi_of
+all_squares : list_all (λ (entry : ℕ × ℕ). nat_lt (phi_of entry.0 * phi_of entry.0) 2048) conductors ≡ true
+unfolding conductors phi_of
 all_squares = refl
 
 product_bound : (n a b s t p : ℕ) → s ≤ n * a → t ≤ n * b → p ≤ s * t → n * n < 2048 → p ≤ 2048 * (a * b)
@@ -56,29 +30,24 @@ product_bound n a b s t p hs ht hp hn =
     omega (arith, both, squares)
 
 module _ (k : ℕ) (entry : is_conductor k ≡ true) where
-  small_row : (i : ℕ) → i < k → is_ternary (value_root (cyclotomic k) i).coefficients ≡ true
-  unfolding is_ternary
+  small_row : (i : ℕ) → i < k → value_size (value_root (cyclotomic k) i) ≤ 1
+  unfolding size_of
   small_row i h =
-      from_listed k entry (λ m. is_ternary (value_root m i).coefficients ≡ true)
-      (ap is_ternary (sym (power_row-at (listed k) k i h))
-      ∙ all_at is_ternary (power_rows (listed k) k) [] (listed_ternary k entry) refl i)
+      from_listed k entry (λ m. value_size (value_root m i) ≤ 1)
+      (subst (λ p. size_of p ≤ 1) (power_row-at (listed k) k i h)
+      (leb-true (size_of (get_or (power_rows (listed k) k) i [])) 1 (all_at is_ternary (power_rows (listed k) k) [] (listed_ternary k entry) refl i)))
 
   -- each reduced power of x has coefficients -1, 0 and 1
-  pub root_ternary : (v : ℕ) → is_ternary (value_root (cyclotomic k) v).coefficients ≡ true
-  root_ternary v =
-      let positive : 0 < k = conductor_positive k entry in
-      ap (λ u. is_ternary u.coefficients) (root-mod (cyclotomic k) k (cyclotomic_period k entry) positive v)
-      ∙ small_row (v % k) (mod-lt v positive)
-
   pub root_size : (v : ℕ) → value_size (value_root (cyclotomic k) v) ≤ 1
-  root_size v = ternary-size (value_root (cyclotomic k) v).coefficients (root_ternary v)
+  root_size v =
+      let positive : 0 < k = conductor_positive k entry in
+      subst (λ u. value_size u ≤ 1) (sym (root-mod (cyclotomic k) k (cyclotomic_period k entry) positive v)) (small_row (v % k) (mod-lt v positive))
 
   pub step_size : (i : ℕ) → value_size (iterate (value_shift (cyclotomic k)) i (value_one (cyclotomic k))) ≤ 1
   step_size i = subst (λ u. value_size u ≤ 1) (root_steps (cyclotomic k) i) (root_size i)
 
   pub phi_square : phi_of k * phi_of k < 2048
-  unfolding square_is_small
-  phi_square = ltb-true (phi_of k * phi_of k) 2048 (at_each_conductor square_is_small all_squares k entry)
+  phi_square = ltb-true (phi_of k * phi_of k) 2048 (at_each_conductor (λ j. nat_lt (phi_of j * phi_of j) 2048) all_squares k entry)
 
   -- the size of a product is below 2048 times the product of the sizes
   pub product_size : (u v : Value (degree (cyclotomic k))) → value_size (value_product (cyclotomic k) u v) ≤ 2048 * (value_size u * value_size v)

@@ -1,21 +1,10 @@
 -- The facts about Phi_K at each conductor K: it is monic of degree phi(K), x^K is 1, and it divides itself at x^t for t prime to K.
-use Rattle.std.proofs.Common.{◌≡◌, ℕ, ◌%◌, ◌<◌, List, length, true, sym, ap, ◌∙◌, subst}
-use Rattle.std.proofs.Math.Nat.{mod-lt}
-use Rattle.std.specs.Prelude.{ℤ, pos}
-use Rattle.std.specs.Int.{IsGcd}
-use Rattle.cyclotomic.specs.Polynomial.{zeros, at_power, leading, lower}
-use Rattle.cyclotomic.specs.Division.{degree}
-use Rattle.cyclotomic.specs.Cyclotomic.{cyclotomic}
-use Rattle.cyclotomic.specs.Conductors.{reduction_of, is_conductor, phi_of}
-use Rattle.cyclotomic.specs.Ring.{Value, value_nought, value_of, value_one, value_root}
-use Rattle.cyclotomic.specs.Laws.Action.{map_power, iterate-zero, act, act-at_power, act-same_map}
-use Rattle.cyclotomic.specs.Laws.Polynomials.{leading-last, lower-last}
-use Rattle.cyclotomic.specs.Laws.Values.{same_value, times_x, value_of-act}
+use Rattle.cyclotomic.proofs.Names.{◌≡◌, ℕ, ◌%◌, ◌<◌, List, length, true, sym, ap, ◌∙◌, subst, mod-lt, ℤ, pos, IsGcd, zeros, at_power, leading, lower, degree, cyclotomic, reduction_of, is_conductor, phi_of, Value, value_nought, value_of, value_one, value_root, map_power, iterate-zero, act, act-at_power, act-same_map, leading-last, lower-last, same_value, times_x, value_of-act}
 use Rattle.cyclotomic.proofs.Images.{steps-mod}
 use Rattle.cyclotomic.proofs.Rows.{power_rows, sum_of_rows}
 use Rattle.cyclotomic.proofs.RowLaws.{sum_of_rows-act}
 use Rattle.cyclotomic.proofs.Gcd.{euclid_of_prime}
-use Rattle.cyclotomic.proofs.Checks.{listed, cyclotomic_is, conductor_positive, reduction_length, listed_period, listed_sums, listed_divides, is_proper_divisor, powers_of_multiples}
+use Rattle.cyclotomic.proofs.Checks.{listed, cyclotomic_is, conductor_positive, reduction_length, listed_period, listed_sums, listed_divides, powers_of_multiples}
 
 pub degree_listed : (k : ℕ) → degree (listed k) ≡ length (reduction_of k)
 degree_listed k = ap length (lower-last (reduction_of k) (pos 1))
@@ -46,13 +35,13 @@ module _ (k : ℕ) (entry : is_conductor k ≡ true) where
   pub cyclotomic_period : value_root (cyclotomic k) k ≡ value_one (cyclotomic k)
   cyclotomic_period = from_listed (λ m. value_root m k ≡ value_one m) period_of_listed
 
-  sums_of_listed : (g : ℕ) → g < k → is_proper_divisor k g ≡ true → value_of (listed k) (powers_of_multiples k g) ≡ value_nought
+  sums_of_listed : (g : ℕ) → g < k → k % g ≡ 0 → value_of (listed k) (powers_of_multiples k g) ≡ value_nought
   unfolding value_of
   sums_of_listed g small divides =
       value_zeros (value_of (listed k) (powers_of_multiples k g)) (length (reduction_of k))
       (listed_sums k entry g small divides) (sym (degree_listed k))
 
-  pub cyclotomic_sums : (g : ℕ) → g < k → is_proper_divisor k g ≡ true → value_of (cyclotomic k) (powers_of_multiples k g) ≡ value_nought
+  pub cyclotomic_sums : (g : ℕ) → g < k → k % g ≡ 0 → value_of (cyclotomic k) (powers_of_multiples k g) ≡ value_nought
   cyclotomic_sums g small divides =
       from_listed (λ m. value_of m (powers_of_multiples k g) ≡ value_nought) (sums_of_listed g small divides)
 

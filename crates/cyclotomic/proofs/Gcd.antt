@@ -1,7 +1,5 @@
 -- Euclid's algorithm computes the greatest common divisor.
-use Rattle.std.proofs.Common.{◌≡◌, ℕ, zero, suc, ◌%◌, ◌≤◌, ◌<◌, refl, arith}
-use Rattle.std.specs.Int.{IsGcd}
-use Rattle.std.proofs.lemmas.Nat.Gcd.{IsGcd-from_zero, IsGcd-from_mod, same_from_IsGcd}
+use Rattle.cyclotomic.proofs.Names.{◌≡◌, ℕ, zero, suc, ◌%◌, ◌≤◌, ◌<◌, refl, arith, IsGcd, IsGcd-from_zero, IsGcd-from_mod, same_from_IsGcd}
 
 -- with at least b steps
 unfoldable pub euclid : ℕ → ℕ → ℕ → ℕ

@@ -1,12 +1,5 @@
 -- Powers of x modulo a monic polynomial m, and the images under which x goes to x^t.
-use Rattle.std.proofs.Common.{◌≡◌, ℕ, zero, suc, ◌+◌, ◌*◌, ◌%◌, ◌/◌, ◌<◌, List, [], ◌∷◌, refl, sym, ap, ◌∙◌, arith}
-use Rattle.std.specs.Prelude.{ℤ, pos}
-use mathlib.Core.Path.{ap₂}
-use Rattle.cyclotomic.specs.Polynomial.{times, x_to, at_power, leading}
-use Rattle.cyclotomic.specs.Division.{degree}
-use Rattle.cyclotomic.specs.Ring.{Value, value_sum, value_multiple, value_nought, value_of, value_one, value_product, value_root, value_image}
-use Rattle.cyclotomic.specs.Laws.Action.{map_power, iterate, act, act-nil, act-cons, act-plus, act-scaled, act-times, act_comm, act-x_to, act-remainder, act-at_power, act-same_map, act-power_power, act-nought, act-one, act-iterate, iterate-sum, iterate-power, iterate-zero}
-use Rattle.cyclotomic.specs.Laws.Values.{value_shift, times_x, value_of-act, act-itself, product-of}
+use Rattle.cyclotomic.proofs.Names.{◌≡◌, ℕ, zero, suc, ◌+◌, ◌*◌, ◌%◌, ◌/◌, ◌<◌, List, [], ◌∷◌, refl, sym, ap, ◌∙◌, arith, ℤ, pos, ap₂, times, x_to, at_power, leading, degree, Value, value_sum, value_multiple, value_nought, value_of, value_one, value_product, value_root, value_image, map_power, iterate, act, act-nil, act-cons, act-plus, act-times, act_comm, act-x_to, act-remainder, act-at_power, act-same_map, act-power_power, act-nought, act-one, act-iterate, iterate-sum, iterate-power, iterate-zero, value_shift, times_x, value_of-act, act-itself, product-of}
 
 module _ (m : List ℤ) where
   -- x^v, as the steps "times x" from 1
@@ -75,12 +68,6 @@ module _ (m : List ℤ) where
   image-sum t u v =
       image-act t (value_sum u v) ∙ act-plus (map_power (times_x m) t) u.coefficients v.coefficients (value_one m)
       ∙ ap₂ value_sum (sym (image-act t u)) (sym (image-act t v))
-
-  pub image-multiple : (t : ℕ) (c : ℤ) (u : Value (degree m)) → value_image m t (value_multiple c u) ≡ value_multiple c (value_image m t u)
-  unfolding value_multiple
-  image-multiple t c u =
-      image-act t (value_multiple c u) ∙ act-scaled (map_power (times_x m) t) c u.coefficients (value_one m)
-      ∙ ap (value_multiple c) (sym (image-act t u))
 
   pub image-one_power : (u : Value (degree m)) → value_image m 1 u ≡ u
   unfolding iterate

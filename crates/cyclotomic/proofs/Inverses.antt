@@ -1,17 +1,7 @@
 -- Images under numbers prime to K respect the ring, and images under numbers inverse to each other undo each other.
-use Rattle.std.proofs.Common.{◌≡◌, ℕ, zero, suc, ◌+◌, ◌-◌, ◌*◌, ◌%◌, ◌<◌, List, Bool, true, refl, sym, ap, ◌∙◌, subst, arith, eqb-true, ◌==◌}
+use Rattle.cyclotomic.proofs.Names.{◌≡◌, ℕ, zero, suc, ◌+◌, ◌-◌, ◌*◌, ◌%◌, ◌<◌, List, true, refl, sym, ap, ◌∙◌, subst, arith, eqb-true, ◌==◌, dvd-mod_iff, one-dvd, dvd-mul_right, dvd-mul_right_of_dvd, mod-eq-zero_of_dvd, ℤ, list_all, IsGcd, cyclotomic, conductors, is_conductor, value_product, value_one, value_of, at_power, CyclotomicValue, root, galois_image, conjugate}
 use Prim.Native.Nat.{◌∣◌}
-use Rattle.std.proofs.Math.Nat.{dvd-mod_iff, one-dvd, dvd-mul_right, dvd-mul_right_of_dvd}
 use Rattle.std.proofs.Math.Numerals.{sub-one}
-use Rattle.std.proofs.lemmas.Nat.Gcd.{mod-eq-zero_of_dvd}
-use Rattle.std.specs.Prelude.{ℤ}
-use Rattle.std.specs.List.{list_all}
-use Rattle.std.specs.Int.{IsGcd}
-use Rattle.cyclotomic.specs.Cyclotomic.{cyclotomic}
-use Rattle.cyclotomic.specs.Conductors.{conductors, is_conductor}
-use Rattle.cyclotomic.specs.Ring.{value_product, value_one, value_of}
-use Rattle.cyclotomic.specs.Polynomial.{at_power}
-use Rattle.cyclotomic.specs.CyclotomicRing.{CyclotomicValue, root, galois_image, conjugate}
 use Rattle.cyclotomic.proofs.Tests.{at_each_conductor}
 use Rattle.cyclotomic.proofs.Checks.{conductor_positive}
 use Rattle.cyclotomic.proofs.Images.{root-sum, root-mod, root-zero, image-mod, image-one_power, image-of, image-one, image-product, image-root, image-image}
@@ -30,17 +20,13 @@ prime_of_inverse k t s e = (
 )
 
 -- ---- K - 1 is its own inverse
-is_own_inverse : ℕ → Bool
-is_own_inverse k = ((k - 1) * (k - 1)) % k == 1
-
-all_own_inverses : list_all (λ (entry : ℕ × ℕ). is_own_inverse entry.0) conductors ≡ true
-unfolding is_own_inverse conductors
+all_own_inverses : list_all (λ (entry : ℕ × ℕ). ((entry.0 - 1) * (entry.0 - 1)) % entry.0 == 1) conductors ≡ true
+unfolding conductors
 all_own_inverses = refl
 
 module _ (k : ℕ) (entry : is_conductor k ≡ true) where
   pub conjugation_inverse : ((k - 1) * (k - 1)) % k ≡ 1
-  unfolding is_own_inverse
-  conjugation_inverse = eqb-true (((k - 1) * (k - 1)) % k) 1 (at_each_conductor is_own_inverse all_own_inverses k entry)
+  conjugation_inverse = eqb-true (((k - 1) * (k - 1)) % k) 1 (at_each_conductor (λ j. ((j - 1) * (j - 1)) % j == 1) all_own_inverses k entry)
 
   pub conjugation_prime : IsGcd (k - 1) k 1
   conjugation_prime = prime_of_inverse k (k - 1) (k - 1) conjugation_inverse

@@ -1,11 +1,6 @@
 -- The first number of a column that is a multiple: in an ascending column it is the least.
-use Rattle.std.proofs.Common.{◌≡◌, ◌≢◌, ℕ, ◌%◌, ◌≤◌, Bool, true, false, cond, List, [], ◌∷◌, map, Option, Some, None, refl, sym, ap, subst, ◌∙◌, ◌&&◌, ◌||◌, inl, inr, eqb-true, eq-eqb}
-use Rattle.std.specs.Prelude.{◌==◌, nat_le, find}
-use Rattle.std.specs.List.{list_all, list_any}
-use Rattle.std.proofs.lemmas.Bool.{cases_eq, ne_eqb}
-use borrow.Author.Tests.{leb-true}
+use Rattle.cyclotomic.proofs.Names.{◌≡◌, ◌≢◌, ℕ, ◌%◌, ◌≤◌, Bool, true, false, cond, List, [], ◌∷◌, map, Option, Some, None, refl, sym, ap, subst, ◌∙◌, ◌&&◌, ◌||◌, inl, inr, eqb-true, eq-eqb, ◌==◌, nat_le, find, list_all, list_any, cases_eq, ne_eqb, leb-true, conductors, is_conductor, least_conductor, IsLeastConductor}
 use Rattle.std.proofs.Math.Bool.{or-true}
-use Rattle.cyclotomic.specs.Conductors.{conductors, is_conductor, least_conductor, IsLeastConductor}
 use Rattle.cyclotomic.proofs.Tests.{and_left, and_right, all_entries}
 
 -- k stands in the first column

@@ -1,3 +1,4 @@
+pub mod Names
 pub mod Images
 pub mod Tests
 pub mod Gcd

@@ -1,13 +1,6 @@
 -- Long division is division: a polynomial is the quotient times the divisor, plus the remainder.
-use Rattle.std.proofs.Common.{◌≡◌, ℕ, zero, suc, List, [], ◌∷◌, length, refl, sym, ap, ◌∙◌}
-use Rattle.std.specs.Prelude.{ℤ, pos, ◌+ℤ◌, ◌*ℤ◌, neg_ℤ}
-use mathlib.Core.Path.{ap₂, fun_ext}
-use Rattle.cyclotomic.specs.Polynomial.{plus, times, scaled, leading, lower, coefficient, IsSamePolynomial}
-use Rattle.cyclotomic.specs.Division.{cancelled, division, remainder}
+use Rattle.cyclotomic.proofs.Names.{◌≡◌, ℕ, zero, suc, List, [], ◌∷◌, length, refl, sym, ap, ◌∙◌, ℤ, pos, ◌+ℤ◌, ◌*ℤ◌, neg_ℤ, ap₂, fun_ext, plus, times, scaled, leading, lower, coefficient, IsSamePolynomial, cancelled, division, remainder, leading-nil, length-lower, zero_not_one, length-remainder, LinearMap, iterate, act, act-nil, act-cons, act-plus, act-scaled, act-times, act-leading, act-nothing, nought_add, add_left_comm}
 use Rattle.cyclotomic.specs.Laws.Integers as Z
-use Rattle.cyclotomic.specs.Laws.Polynomials.{leading-nil, length-lower}
-use Rattle.cyclotomic.specs.Laws.Remainders.{zero_not_one, length-remainder}
-use Rattle.cyclotomic.specs.Laws.Action.{LinearMap, iterate, act, act-nil, act-cons, act-plus, act-scaled, act-times, act-leading, act-nothing, nought_add, add_left_comm}
 
 -- ---- sequences of whole numbers, with the map that shifts them by one place
 shifted : (ℕ → ℤ) → ℕ → ℤ

@@ -1,27 +1,13 @@
 -- x is a root of unity of order K modulo Phi_K: whole multiples cancel, and sums of its powers over all exponents vanish.
-use Rattle.std.proofs.Common.{◌≡◌, ℕ, zero, suc, ◌+◌, ◌*◌, ◌%◌, ◌/◌, ◌<◌, ◌≢◌, List, [], ◌∷◌, length, Bool, true, false, refl, sym, ap, ◌∙◌, arith, replicate, eqb-true, inl, inr}
-use Rattle.std.proofs.Math.Nat.{mod-lt, mul_comm, zero-mul, suc-mul}
-use Rattle.std.proofs.lemmas.Bool.{cases_eq, ne_eqb, eq-eqb}
+use Rattle.std.proofs.Math.Nat.{div-add-mod}
+use Rattle.cyclotomic.proofs.Names.{◌≡◌, ℕ, zero, suc, ◌+◌, ◌*◌, ◌%◌, ◌/◌, ◌<◌, ◌≢◌, List, [], ◌∷◌, length, true, refl, sym, ap, ◌∙◌, arith, replicate, inl, inr, mod-lt, mul_comm, zero-mul, suc-mul, cases_eq, ℤ, pos, ◌+ℤ◌, ◌*ℤ◌, ◌↔◌, ap₂, up, down, same_in, product_is, sum_below, multiple, power, sum_suc, sum_first, sum_ext, sum_constant, mul_sum, multiple_zero, multiple_suc, mul_multiple, power_zero, power_suc, power_add, power_mul, one_power, zeros, scaled, at_power, degree, remainder, cyclotomic, is_conductor, Value, value_sum, value_multiple, value_nought, value_of, value_one, value_product, value_root, map_power, iterate, act, act-nil, act-cons, act-at_power, remainder_ring, same_value, value_shift, times_x, product-of}
 use Rattle.std.proofs.lemmas.Nat.{mul-mod_second}
-use Rattle.std.specs.Prelude.{ℤ, pos, ◌+ℤ◌, ◌*ℤ◌, ◌==◌, ◌↔◌}
-use mathlib.Core.Path.{ap₂}
-use borrow.Author.Differences.{up, down, same_in, product_is}
 use Rattle.algebra.specs.Structures.{CommRing}
-use Rattle.algebra.specs.Sums.{sum_below, multiple, power}
 use Rattle.algebra.specs.Roots.{RootOfUnity}
 use Rattle.algebra.proofs.RingLaws.{one_mul, add_cancel, nought_mul}
-use Rattle.algebra.proofs.SumLaws.{sum_suc, sum_first, sum_ext, sum_constant, mul_sum, multiple_zero, multiple_suc, mul_multiple, power_zero, power_suc, power_add, power_mul, one_power}
 use Rattle.algebra.proofs.RootLaws.{power_mod}
-use Rattle.cyclotomic.specs.Polynomial.{zeros, scaled, at_power}
-use Rattle.cyclotomic.specs.Division.{degree, remainder}
-use Rattle.cyclotomic.specs.Cyclotomic.{cyclotomic}
-use Rattle.cyclotomic.specs.Conductors.{is_conductor}
-use Rattle.cyclotomic.specs.Ring.{Value, value_sum, value_multiple, value_nought, value_of, value_one, value_product, value_root}
-use Rattle.cyclotomic.specs.Laws.Action.{map_power, iterate, act, act-nil, act-cons, act-at_power}
-use Rattle.cyclotomic.specs.CyclotomicRing.{remainder_ring}
-use Rattle.cyclotomic.specs.Laws.Values.{same_value, value_shift, times_x, product-of}
 use Rattle.cyclotomic.proofs.Images.{root-zero, root-sum, root-mod, product-root}
-use Rattle.cyclotomic.proofs.Checks.{head_of, one_is_one, is_proper_divisor, powers_of_multiples, conductor_positive, some_divisor}
+use Rattle.cyclotomic.proofs.Checks.{head_of, one_is_one, powers_of_multiples, conductor_positive, some_divisor}
 use Rattle.cyclotomic.proofs.Fields.{from_listed, cyclotomic_period, cyclotomic_sums}
 
 -- ---- whole multiples
@@ -124,31 +110,20 @@ positive_quotient : (k g d : ℕ) → 0 < k → g * d ≡ k → 0 < d
 positive_quotient k g zero h e = absurd (omega (arith, e))
 positive_quotient k g (suc d) h e = omega arith
 
-proper_divisor_means : (k g : ℕ) → is_proper_divisor k g ≡ true → (0 < g) × (k % g ≡ 0)
-unfolding is_proper_divisor
-proper_divisor_means k g h = elim (cases_eq g 0) [
-  | inl zero_g ↦ absurd (apart (sym (ap (λ (b : Bool). elim b [ true ↦ false | false ↦ k % g == 0 ]) (eq-eqb g 0 zero_g)) ∙ h))
-  | inr nonzero ↦ (omega arith, eqb-true (k % g) 0 (sym (ap (λ (b : Bool). elim b [ true ↦ false | false ↦ k % g == 0 ]) (ne_eqb g 0 nonzero)) ∙ h))
-]
-  where
-    apart : false ≡ true → ⊥
-    apart e = cc
-
 module _ (k : ℕ) (entry : is_conductor k ≡ true) where
   pub x_cycle : power (remainder_ring (cyclotomic k)) (value_root (cyclotomic k) 1) k ≡ value_one (cyclotomic k)
   x_cycle = power-root (cyclotomic k) k ∙ cyclotomic_period k entry
 
   -- a value that x^g doesn't change, for a proper divisor g of k, is 0
-  fixed_is_nought : (g : ℕ) (u : Value (degree (cyclotomic k))) → g < k → is_proper_divisor k g ≡ true → value_product (cyclotomic k) (value_root (cyclotomic k) g) u ≡ u → u ≡ value_nought
+  fixed_is_nought : (g : ℕ) (u : Value (degree (cyclotomic k))) → g < k → k % g ≡ 0 → value_product (cyclotomic k) (value_root (cyclotomic k) g) u ≡ u → u ≡ value_nought
   unfolding powers_of_multiples
   fixed_is_nought g u small divides fixed =
       let m = cyclotomic k in
       let R = remainder_ring m in
       let M = times_x m in
       let d = k / g in
-      let meaning = proper_divisor_means k g divides in
       let positive : 0 < k = conductor_positive k entry in
-      let whole : g * d ≡ k = omega (arith, meaning.0, meaning.1) in
+      let whole : g * d ≡ k = omega (arith, div-add-mod k g, divides) in
       let ones = replicate d (pos 1) in
       let vanishes : value_multiple (pos d) u ≡ value_nought =
       sym (multiple-is m d u) ∙ sym (fixed_multiple m g d u fixed) ∙ sym (act-at_power M g ones u)
@@ -167,8 +142,7 @@ module _ (k : ℕ) (entry : is_conductor k ≡ true) where
       let reached = some_divisor k entry (e % k) (mod-lt e positive) apart in
       let a = reached.0 in
       let g = (a * e) % k in
-      let divides : is_proper_divisor k g ≡ true =
-      ap (is_proper_divisor k) (sym (mul-mod_second a e k)) ∙ reached.1 in
+      let divides : k % g ≡ 0 = ap (λ n. k % n) (sym (mul-mod_second a e k)) ∙ reached.1 in
       let fixed : value_product m (value_root m g) total ≡ total =
       ap (λ v. value_product m v total) (sym (power-root m g)) ∙ sum_is_fixed_modulo R z k e x_cycle a in
       fixed_is_nought g total (mod-lt (a * e) positive) divides fixed

@@ -1,13 +1,5 @@
 -- The rows are the reduced powers of x, and their sums are polynomials at x^t.
-use Rattle.std.proofs.Common.{◌≡◌, ℕ, zero, suc, ◌+◌, ◌%◌, ◌<◌, List, [], ◌∷◌, get_or, refl, sym, ap, ◌∙◌, arith}
-use Rattle.std.proofs.Math.Nat.{mod-lt}
-use Rattle.std.specs.Prelude.{ℤ, pos}
-use mathlib.Core.Path.{ap₂}
-use Rattle.cyclotomic.specs.Polynomial.{plus, scaled}
-use Rattle.cyclotomic.specs.Division.{degree}
-use Rattle.cyclotomic.specs.Ring.{Value, value_sum, value_multiple, value_nought, value_of, value_one, value_root}
-use Rattle.cyclotomic.specs.Laws.Action.{map_power, iterate, iterate-inner, iterate-sum, iterate-add, iterate-scale, act, act-nil, act-cons}
-use Rattle.cyclotomic.specs.Laws.Values.{value_shift, times_x}
+use Rattle.cyclotomic.proofs.Names.{◌≡◌, ℕ, zero, suc, ◌+◌, ◌%◌, ◌<◌, List, [], ◌∷◌, get_or, refl, sym, ap, ◌∙◌, arith, mod-lt, ℤ, pos, ap₂, plus, scaled, degree, Value, value_sum, value_multiple, value_nought, value_of, value_one, value_root, map_power, iterate, iterate-inner, iterate-sum, iterate-add, iterate-scale, act, act-nil, act-cons, value_shift, times_x}
 use Rattle.cyclotomic.proofs.Rows.{rows_from, power_rows, sum_of_rows}
 use Rattle.cyclotomic.proofs.Images.{root_steps, steps-mod}
 

@@ -1,8 +1,5 @@
 -- The list of the reduced powers of x, and the value of a polynomial at x^t as a sum of them.
-use Rattle.std.proofs.Common.{ℕ, zero, suc, ◌+◌, ◌%◌, List, [], ◌∷◌, get_or}
-use Rattle.std.specs.Prelude.{ℤ, pos}
-use Rattle.cyclotomic.specs.Polynomial.{zeros, plus, scaled}
-use Rattle.cyclotomic.specs.Division.{cancelled, remainder}
+use Rattle.cyclotomic.proofs.Names.{ℕ, zero, suc, ◌+◌, ◌%◌, List, [], ◌∷◌, get_or, ℤ, pos, zeros, plus, scaled, cancelled, remainder}
 
 -- r, x r, x^2 r, .., n of them, reduced by m
 unfoldable pub rows_from : List ℤ → List ℤ → ℕ → List (List ℤ)

@@ -1,14 +1,5 @@
 -- Sizes of sums, multiples and products of values.
-use Rattle.std.proofs.Common.{◌≡◌, ℕ, zero, suc, ◌+◌, ◌*◌, ◌≤◌, max, List, [], ◌∷◌, length, refl, sym, ap, ◌∙◌, subst, arith}
-use Rattle.std.proofs.Math.Nat.{mul-le-mul_left}
-use Rattle.std.specs.Prelude.{ℤ, pos, negsuc, ◌+ℤ◌, ◌*ℤ◌, neg_ℤ, nat_abs}
-use borrow.Author.Differences.{sum_is_lem, abs_is}
-use Rattle.cyclotomic.specs.Polynomial.{zeros, plus, scaled}
-use Rattle.cyclotomic.specs.Division.{degree}
-use Rattle.cyclotomic.specs.Ring.{Value, value_sum, value_multiple, value_nought, value_one, value_product}
-use Rattle.cyclotomic.specs.Fit.{size_of, value_size}
-use Rattle.cyclotomic.specs.Laws.Action.{iterate, iterate-zero, iterate-suc, iterate-sum, iterate-inner, act, act-nil, act-cons, act-map, act-iterate}
-use Rattle.cyclotomic.specs.Laws.Values.{value_shift, times_x, act-itself, product-act}
+use Rattle.cyclotomic.proofs.Names.{◌≡◌, ℕ, zero, suc, ◌+◌, ◌*◌, ◌≤◌, max, List, [], ◌∷◌, length, refl, sym, ap, ◌∙◌, subst, arith, mul-le-mul_left, ℤ, pos, negsuc, ◌+ℤ◌, ◌*ℤ◌, neg_ℤ, nat_abs, sum_is_lem, abs_is, zeros, plus, scaled, degree, Value, value_sum, value_multiple, value_nought, value_one, value_product, size_of, value_size, iterate, iterate-zero, iterate-suc, iterate-sum, iterate-inner, act, act-nil, act-cons, act-map, act-iterate, value_shift, times_x, act-itself, product-act}
 
 pub magnitude-sum : (a b : ℤ) → nat_abs (a +ℤ b) ≤ nat_abs a + nat_abs b
 magnitude-sum a b = omega (arith, abs_is (a +ℤ b), abs_is a, abs_is b, sum_is_lem a b)

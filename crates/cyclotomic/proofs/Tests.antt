@@ -1,11 +1,6 @@
 -- Tests that compute over the table of conductors, and what they mean.
-use Rattle.std.proofs.Common.{◌≡◌, ℕ, zero, suc, ◌<◌, List, [], ◌∷◌, Bool, true, false, refl, sym, ap, ◌∙◌, arith, inl, inr, eqb-true}
-use Rattle.std.proofs.lemmas.Bool.{cases_eq, ne_eqb}
-use Rattle.std.specs.Prelude.{ℤ, pos, negsuc, ◌==◌, ◌&&◌, ◌||◌}
-use Rattle.std.specs.List.{list_all, list_any}
-use mathlib.Core.Path.{ap₂}
-use Rattle.scan.specs.First.{all_below}
-use Rattle.cyclotomic.specs.Conductors.{conductors, is_conductor}
+use Rattle.scan.proofs.Places.{all_below-at}
+use Rattle.cyclotomic.proofs.Names.{◌≡◌, ℕ, zero, suc, ◌<◌, List, [], ◌∷◌, Bool, true, false, refl, sym, ap, ◌∙◌, inl, inr, eqb-true, cases_eq, ne_eqb, ℤ, pos, negsuc, ◌==◌, ◌&&◌, ◌||◌, list_all, list_any, ap₂, all_below, conductors, is_conductor}
 
 -- ---- conjunctions
 pub and_left : (a b : Bool) → (a && b) ≡ true → a ≡ true
@@ -48,12 +43,7 @@ same_list_means (a ∷ p) (b ∷ q) e =
 
 -- ---- each number below a bound
 pub all_below_means : (n : ℕ) (test : ℕ → Bool) → all_below n test ≡ true → (i : ℕ) → i < n → test i ≡ true
-unfolding all_below
-all_below_means zero test e i h = absurd (omega arith)
-all_below_means (suc n) test e i h = elim (cases_eq i n) [
-  | inl here ↦ ap test here ∙ and_right (all_below n test) (test n) e
-  | inr apart ↦ all_below_means n test (and_left (all_below n test) (test n) e) i (omega arith)
-]
+all_below_means n test e i h = all_below-at n i test e h
 
 -- some number below a bound passes
 unfoldable pub any_below : ℕ → (ℕ → Bool) → Bool

@@ -1,22 +1,6 @@
 -- Buffers of coefficients: adding a multiple of a power of x at a place, and one step of long division in place.
-use Rattle.std.proofs.Common.{◌≡◌, ℕ, zero, suc, pred, ◌+◌, ◌*◌, ◌^◌, ◌≤◌, ◌<◌, max, List, [], ◌∷◌, ◌++◌, length, get_or, set, take, refl, sym, ap, ◌∙◌, subst, arith}
-use Rattle.std.proofs.Math.Numerals.{add-one}
-use Rattle.std.specs.Prelude.{ℤ, pos, negsuc, ◌+ℤ◌, ◌*ℤ◌, neg_ℤ, nat_abs}
-use Rattle.std.proofs.lemmas.Int.{to_z-of_z}
-use mathlib.Core.Path.{ap₂}
-use Rattle.std.proofs.Math.Nat.{mul-le-mul_left, mul-le-mul_right}
-use mir.Syntax.{w8, w128}
-use mir.Val.{SFits, to_z, of_z}
-use Rattle.cyclotomic.specs.Polynomial.{plus, scaled, leading, lower}
-use Rattle.cyclotomic.specs.Division.{cancelled}
-use Rattle.cyclotomic.specs.Fit.{size_of}
-use Rattle.cyclotomic.specs.Ring.{value_sum, value_multiple, value_of, value_one, value_root}
+use Rattle.qd_ring.proofs.Names.{◌≡◌, ℕ, zero, suc, pred, ◌+◌, ◌*◌, ◌^◌, ◌≤◌, ◌<◌, max, List, [], ◌∷◌, ◌++◌, length, get_or, set, take, refl, sym, ap, ◌∙◌, subst, arith, add-one, ℤ, pos, negsuc, ◌+ℤ◌, ◌*ℤ◌, neg_ℤ, nat_abs, to_z-of_z, ap₂, mul-le-mul_left, mul-le-mul_right, w8, w128, SFits, to_z, of_z, plus, scaled, leading, lower, cancelled, size_of, value_sum, value_multiple, value_of, value_one, value_root, lower-last, LinearMap, iterate, act, act-nil, act-cons, iterate-zero, iterate-suc, map_nought, times_x, value_of-act, root_steps, total_of, magnitude-sum, magnitude-product, magnitude-negative}
 use Rattle.cyclotomic.specs.Laws.Integers as Z
-use Rattle.cyclotomic.specs.Laws.Polynomials.{lower-last}
-use Rattle.cyclotomic.specs.Laws.Action.{LinearMap, iterate, act, act-nil, act-cons, iterate-zero, iterate-suc, map_nought}
-use Rattle.cyclotomic.specs.Laws.Values.{times_x, value_of-act}
-use Rattle.cyclotomic.proofs.Images.{root_steps}
-use Rattle.cyclotomic.proofs.Sizes.{total_of, magnitude-sum, magnitude-product, magnitude-negative}
 
 -- ---- numbers of 128 bits
 pub fits_128 : (z : ℤ) → nat_abs z < 2 ^ 127 → SFits w128 z

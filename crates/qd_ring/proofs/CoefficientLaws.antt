@@ -1,13 +1,8 @@
 -- Lists of coefficients, written and read.
-use Rattle.std.proofs.Common.{◌≡◌, ℕ, zero, suc, ◌+◌, ◌<◌, ◌≤◌, min, Bool, true, false, ◌&&◌, List, [], ◌∷◌, ◌++◌, length, drop, map, refl, ap, sym, subst, ◌∙◌, inl, inr, arith, eqb, cond, replicate, length-append, zero-add, Option, Some, None}
-use Rattle.std.proofs.Math.Nat.{add-zero, suc-add}
-use Rattle.std.specs.Prelude.{ℤ, pos, negsuc, nat_abs, option_and_then, option_map}
-use Rattle.std.proofs.lemmas.Bool.{cases_Bool, eqb-true, eqb-false, eq-eqb, ne_eqb, true≢false}
-use Rattle.qd_ring.specs.declared.value_reader.Term.{Term}
-use Rattle.qd_ring.specs.ValueText.{term_text, terms_text}
-use Rattle.qd_ring.specs.ValueReading.{term_after_sign, term_of, term_here, coefficients_of}
-use Rattle.qd_ring.proofs.ValueTextLaws.{terms_nil, terms_nought, terms_term, term_nonempty}
-use Rattle.qd_ring.proofs.TermLaws.{capped, EndsTerm, TermRead, term_written, term_read, front_dropped}
+use Rattle.qd_ring.proofs.Names.{◌≡◌, ℕ, zero, suc, ◌+◌, ◌<◌, ◌≤◌, min, Bool, true, false, ◌&&◌, List, [], ◌∷◌, ◌++◌, length, drop, map, refl, ap, sym, subst, ◌∙◌, inl, inr, arith, eqb, cond, replicate, length-append, zero-add, Option, Some, None, add-zero, suc-add, ℤ, pos, negsuc, nat_abs, option_and_then, option_map, cases_Bool, eqb-true, eqb-false, eq-eqb, ne_eqb, true≢false, Term, term_text, terms_text, term_after_sign, term_of, term_here, coefficients_of}
+use Rattle.std.proofs.Math.Seq.{drop-append_seam}
+use Rattle.qd_ring.proofs.ValueTextLaws.{number_nought, empty_list, terms_nil, terms_nought, terms_term, term_nonempty}
+use Rattle.qd_ring.proofs.TermLaws.{capped, EndsTerm, TermRead, term_written, term_read}
 
 -- ---- one power after another
 
@@ -106,10 +101,6 @@ mapped : {A B : Type 0} (f : A → B) (o : Option A) (y : B) → option_map f o 
 mapped f None y h = absurd (cc h)
 mapped f (Some x) y h = (x, refl, cc h)
 
-empty_list : (xs : List ℕ) → length xs ≡ 0 → xs ≡ []
-empty_list [] h = refl
-empty_list (x ∷ xs) h = absurd (omega arith)
-
 -- one 0 before coefficients that are read
 read_nought : (n p : ℕ) (later : Bool) (text : List ℕ) (cut : List ℤ) → CoefficientsRead n (suc p) later text cut → CoefficientsRead (suc n) p later text (pos 0 ∷ cut)
 read_nought n p later text cut r = record {
@@ -174,10 +165,6 @@ ends_terms q (c ∷ cs) = elim (cases_Bool (eqb (nat_abs c) 0)) [
     sign_ends (pos n) tail = record { no_digit = refl; no_letter = refl }
     sign_ends (negsuc n) tail = record { no_digit = refl; no_letter = refl }
 
-is_nought : (c : ℤ) → eqb (nat_abs c) 0 ≡ true → c ≡ pos 0
-is_nought (pos n) e = ap pos (eqb-true n 0 e)
-is_nought (negsuc n) e = absurd (omega (arith, eqb-true (suc n) 0 e))
-
 is_some : (c : ℤ) → eqb (nat_abs c) 0 ≡ false → 0 < nat_abs c
 is_some c e = omega (arith, eqb-false (nat_abs c) 0 e)
 
@@ -214,7 +201,7 @@ coefficients_written n p later (c ∷ cs) count small begun = elim (cases_Bool (
       let rest = coefficients_written (length cs) (suc p) later cs refl (omega arith) (λ l. omega (arith, begun l, ap length same)) in
       ap (λ k. coefficients_of k p later (terms_text later p (c ∷ cs))) (sym count) ∙ ap (coefficients_of (suc (length cs)) p later) same
       ∙ skips (length cs) p later text (term_of later text) refl (λ term h. no_lower later (suc p) cs term (omega arith) h)
-      ∙ ap skipped rest ∙ ap (λ d. Some (capped d ∷ map capped cs)) (sym (is_nought c e))
+      ∙ ap skipped rest ∙ ap (λ d. Some (capped d ∷ map capped cs)) (sym (number_nought c e))
   | inr e ↦
       let tail = terms_text true (suc p) cs in
       let same = terms_term later p c cs e in
@@ -222,6 +209,6 @@ coefficients_written n p later (c ∷ cs) count small begun = elim (cases_Bool (
       let rest = coefficients_written (length cs) (suc p) true cs refl (omega arith) (λ l. absurd (true≢false l)) in
       ap (λ k. coefficients_of k p later (terms_text later p (c ∷ cs))) (sym count) ∙ ap (coefficients_of (suc (length cs)) p later) same
       ∙ here (length cs) p later (term_text later p c ++ tail) (record { coefficient = capped c; power = min p 42; len = length (term_text later p c) }) written (omega arith)
-      ∙ ap (λ t. option_map (λ ds. capped c ∷ ds) (coefficients_of (length cs) (suc p) true t)) (front_dropped (term_text later p c) tail)
+      ∙ ap (λ t. option_map (λ ds. capped c ∷ ds) (coefficients_of (length cs) (suc p) true t)) (drop-append_seam (term_text later p c) tail)
       ∙ ap (option_map (λ ds. capped c ∷ ds)) rest
 ]

@@ -1,20 +1,5 @@
 -- Sizes of arrays and of the values that they stand for, and the special images.
-use Rattle.qd_ring.specs.ArrayLaws.{array_length, size-padded}
-use Rattle.std.proofs.Common.{◌≡◌, ℕ, ◌-◌, ◌*◌, ◌^◌, ◌%◌, ◌≤◌, ◌<◌, true, false, List, length, sym, ap, ◌∙◌, subst, arith, nat_le}
-use Rattle.std.specs.Prelude.{ℤ}
-use borrow.Author.Tests.{leb-true, le-leb, lt-leb, lt-ltb, le-ltb}
-use mathlib.Core.Path.{ap₂}
-use Rattle.cyclotomic.specs.Cyclotomic.{cyclotomic}
-use Rattle.cyclotomic.specs.Conductors.{is_conductor}
-use Rattle.cyclotomic.specs.Fit.{size_of, value_size, value_fits, product_fits, greatest_magnitude}
-use Rattle.cyclotomic.specs.Ring.{Value, value_product}
-use Rattle.cyclotomic.specs.CyclotomicRing.{CyclotomicValue, galois_image, root, remainder_ring}
-use Rattle.algebra.proofs.RingLaws.{one_mul}
-use Rattle.cyclotomic.proofs.Images.{root-zero, image-one_power}
-use Rattle.cyclotomic.proofs.Inverses.{galois_modulo}
-use Rattle.cyclotomic.proofs.Sizes.{total_of, total-size}
-use Rattle.cyclotomic.proofs.Bounds.{product_that_fits}
-use Rattle.qd_ring.specs.CycArrays.{array_of, is_array, is_small}
+use Rattle.qd_ring.proofs.Names.{array_length, size-padded, ◌≡◌, ℕ, ◌-◌, ◌*◌, ◌^◌, ◌%◌, ◌≤◌, ◌<◌, true, false, List, length, sym, ap, ◌∙◌, subst, arith, nat_le, ℤ, leb-true, le-leb, lt-leb, lt-ltb, le-ltb, ap₂, cyclotomic, is_conductor, size_of, value_size, value_fits, product_fits, greatest_magnitude, Value, value_product, CyclotomicValue, galois_image, root, remainder_ring, one_mul, root-zero, image-one_power, galois_modulo, total_of, total-size, product_that_fits, array_of, is_array, is_small}
 use Rattle.qd_ring.proofs.ProductLaws.{is_array-of}
 
 pub small_means : (xs : List ℤ) → is_small xs ≡ true → size_of xs ≤ greatest_magnitude

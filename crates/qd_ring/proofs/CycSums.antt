@@ -1,27 +1,8 @@
 -- Sums, differences and constants as arrays.
-use Rattle.qd_ring.specs.ArrayLaws.{all_noughts, array_length, array_parts, coefficients_of, size-value, value_of-padded, value_of-zeros, zeros_noughts}
-use Rattle.std.proofs.Common.{◌≡◌, ℕ, zero, suc, pred, ◌-◌, ◌%◌, ◌≤◌, ◌<◌, true, false, List, [], ◌∷◌, ◌++◌, length, take, drop, refl, sym, ap, ◌∙◌, arith, ◌&&◌, eq-eqb, length-drop, get_or}
-use Rattle.std.proofs.Math.Seq.{take-length}
-use Rattle.std.proofs.lemmas.List.{drop-replicate}
-use Rattle.std.specs.Prelude.{ℤ, pos, negsuc, ◌+ℤ◌, ◌*ℤ◌, nat_abs}
-use Rattle.std.specs.List.{list_all}
-use mathlib.Core.Path.{ap₂}
-use Rattle.cyclotomic.specs.Polynomial.{zeros, plus, scaled, coefficient}
-use Rattle.cyclotomic.specs.Cyclotomic.{cyclotomic}
-use Rattle.cyclotomic.specs.Conductors.{is_conductor, phi_of}
-use Rattle.cyclotomic.specs.Fit.{size_of, value_size, value_fits, greatest_magnitude}
-use borrow.Author.Tests.{le-leb}
-use Rattle.cyclotomic.specs.Ring.{value_sum, value_multiple, value_negative, value_nought, value_product}
-use Rattle.cyclotomic.specs.CyclotomicRing.{CyclotomicValue, cyclotomic_ring, cyclotomic_value, root}
-use Rattle.algebra.specs.Sums.{power}
+use Rattle.qd_ring.proofs.Names.{all_noughts, array_length, array_parts, size-value, value_of-padded, value_of-zeros, zeros_noughts, ◌≡◌, ℕ, zero, suc, pred, ◌-◌, ◌%◌, ◌≤◌, ◌<◌, true, false, List, [], ◌∷◌, ◌++◌, length, take, drop, refl, sym, ap, ◌∙◌, arith, ◌&&◌, eq-eqb, length-drop, get_or, take-length, drop-replicate, ℤ, pos, negsuc, ◌+ℤ◌, ◌*ℤ◌, nat_abs, list_all, ap₂, zeros, plus, scaled, coefficient, cyclotomic, is_conductor, phi_of, size_of, value_size, value_fits, greatest_magnitude, le-leb, value_sum, value_multiple, value_negative, value_nought, value_product, CyclotomicValue, cyclotomic_ring, cyclotomic_value, root, power, root_modulo, length-zeros, length-scaled, length-plus, scaled-one, scaled-zeros, plus-zeros, size-scaled, size-zeros, size-cons, root_size, array_of, is_array, is_nought, is_small, conductor_bounds}
+use Rattle.qd_ring.specs.ArrayLaws.{coefficients_of}
 use Rattle.cyclotomic.proofs.Orthogonality.{power-root}
-use Rattle.cyclotomic.proofs.Inverses.{root_modulo}
-use Rattle.cyclotomic.specs.Laws.Polynomials.{length-zeros, length-scaled, length-plus, scaled-one, scaled-zeros, plus-zeros}
-use Rattle.cyclotomic.proofs.Sizes.{size-scaled, size-zeros, size-cons}
-use Rattle.cyclotomic.proofs.Bounds.{root_size}
-use Rattle.qd_ring.specs.CycArrays.{array_of, is_array, is_nought, is_small}
-use Rattle.qd_ring.specs.ReductionSigns.{conductor_bounds}
-use Rattle.qd_ring.proofs.ProductLaws.{length-value, nought_sum}
+use Rattle.qd_ring.proofs.ProductLaws.{length-value}
 use Rattle.qd_ring.proofs.CycLaws.{small_means, size-array_of, is_small_yes}
 
 plus-padded : (p q : List ℤ) (j : ℕ) → length p ≡ length q → plus (p ++ zeros j) (q ++ zeros j) ≡ plus p q ++ zeros j
@@ -96,14 +77,6 @@ module _ (k : ℕ) (entry : is_conductor k ≡ true) where
   pub root_array_small : (e : ℕ) (xs : List ℤ) → xs ≡ array_of (root k e) → is_small xs ≡ true
   root_array_small e xs is =
       is_small_yes xs (size_of xs) refl (omega (arith, ap size_of is, size-array_of (root k e), root_size k entry e))
-
-  -- ---- negatives
-  pub negative_array : (xs : List ℤ) → is_array k xs ≡ true → plus (zeros 42) (scaled (negsuc 0) xs) ≡ array_of (value_negative (cyclotomic_value k xs))
-  negative_array xs a =
-      let zeros_array : is_array k (zeros 42) ≡ true = constant_array (pos 0) in
-      difference_array (zeros 42) xs zeros_array a
-      ∙ ap (λ z. array_of (value_sum z (value_negative (cyclotomic_value k xs)))) zero_value
-      ∙ ap array_of (nought_sum (cyclotomic k) (value_negative (cyclotomic_value k xs)))
 
 -- ---- whole numbers and single coefficients
 coefficient_padded : (p : List ℤ) (j i : ℕ) → coefficient (p ++ zeros j) i ≡ coefficient p i

@@ -1,34 +1,5 @@
 -- Steps of adding up products in one buffer.
-use Rattle.std.proofs.Common.{◌≡◌, ◌+◌, ◌*◌, ◌^◌, ◌<◌, ◌≤◌, ℕ, true, not, ◌||◌, ◌&&◌, Some, List, ◌++◌, length, take, map, refl, sym, ◌∙◌, ap, subst, arith, zero-add, sum_by}
-use Rattle.std.specs.Prelude.{ℤ}
-use Rattle.std.specs.List.{range_with_len}
-use Rattle.std.proofs.Math.Nat.{mul-le-mul}
-use Rattle.std.proofs.lemmas.Bool.{le-ltb}
-use Rattle.std.proofs.lemmas.List.FromFn.{sum_by-map-range_with_len_more}
-use borrow.Author.Tests.{le-leb, lt-ltb}
-use mathlib.Core.Path.{ap₂}
-use Rattle.scan.proofs.Places.{all_below-zero, all_below-step}
-use Rattle.algebra.proofs.RingLaws.{one_mul}
-use Rattle.algebra.proofs.SumLaws.{sum_zero}
-use Rattle.cyclotomic.specs.Conductors.{is_conductor}
-use Rattle.cyclotomic.specs.Cyclotomic.{cyclotomic}
-use Rattle.cyclotomic.specs.Ring.{value_sum, value_nought, value_product}
-use Rattle.cyclotomic.specs.CyclotomicRing.{CyclotomicValue, cyclotomic_ring, cyclotomic_value}
-use Rattle.cyclotomic.specs.Fit.{value_size, value_fits, product_fits, greatest_magnitude, sizes_overflow}
-use Rattle.cyclotomic.proofs.Images.{root-zero}
-use Rattle.cyclotomic.proofs.Sizes.{total_of}
-use Rattle.qd_ring.specs.declared.cyc.Cyc.{Cyc}
-use Rattle.qd_ring.specs.declared.monomial.Monomial.{Monomial}
-use Rattle.qd_ring.specs.Fit.{sum_overflows}
-use Rattle.qd_ring.specs.Formed.{Formed, Forms, listed, multiplied, turned}
-use Rattle.qd_ring.specs.SparseValues.{value_of_terms, total_of_terms}
-use Rattle.qd_ring.specs.Folding.{turned_product, IsSparseOf, IsTurnedProduct, IsFolded}
-use Rattle.std.proofs.Math.Seq.{take-append_seam}
-use Rattle.std.proofs.lemmas.List.{length-take-le}
-use Rattle.cyclotomic.specs.Ring.{value_of}
-use Rattle.cyclotomic.specs.Fit.{size_of}
-use Rattle.qd_ring.specs.CycArrays.{array_of, is_small}
-use Rattle.qd_ring.specs.ReductionSigns.{conductor_bounds}
+use Rattle.qd_ring.proofs.Names.{◌≡◌, ◌+◌, ◌*◌, ◌^◌, ◌<◌, ◌≤◌, ℕ, true, not, ◌||◌, ◌&&◌, Some, List, ◌++◌, length, take, map, refl, sym, ◌∙◌, ap, subst, arith, zero-add, sum_by, ℤ, range_with_len, mul-le-mul, le-ltb, sum_by-map-range_with_len_more, le-leb, lt-ltb, ap₂, all_below-zero, all_below-step, one_mul, sum_zero, is_conductor, cyclotomic, value_sum, value_nought, value_product, CyclotomicValue, cyclotomic_ring, cyclotomic_value, value_size, value_fits, product_fits, greatest_magnitude, sizes_overflow, root-zero, total_of, Cyc, Monomial, sum_overflows, Formed, Forms, listed, multiplied, turned, value_of_terms, total_of_terms, turned_product, IsSparseOf, IsTurnedProduct, IsFolded, take-append_seam, length-take-le, value_of, size_of, array_of, is_small, conductor_bounds}
 use Rattle.qd_ring.proofs.CycLaws.{is_small_yes, size-array_of}
 use Rattle.qd_ring.proofs.ReduceLaws.{remainder_size}
 use Rattle.qd_ring.proofs.ListedSums.{sum_below_more}

@@ -1,15 +1,8 @@
 -- Lists that begin with another list, and numbers in decimal.
-use Rattle.std.proofs.Common.{◌≡◌, ℕ, ◌+◌, ◌/◌, ◌%◌, ◌^◌, ◌<◌, ◌≤◌, List, [], ◌∷◌, ◌++◌, length, take, map, refl, sym, ◌∙◌, ap, arith}
-use Rattle.std.specs.Prelude.{decimal}
+use Rattle.qd_ring.proofs.Names.{◌≡◌, ℕ, ◌+◌, ◌/◌, ◌%◌, ◌^◌, ◌<◌, ◌≤◌, List, [], ◌∷◌, ◌++◌, length, take, map, refl, sym, ◌∙◌, ap, arith, decimal, map-append, numeral}
 use Rattle.std.specs.Int.Digits.{digits_of}
 use Rattle.std.proofs.lemmas.Fmt.{decimal_by_steps_wide}
 use Rattle.std.proofs.lemmas.Int.Digits.{digits_of_step}
-use Rattle.std.proofs.lemmas.List.{map-append}
-use Rattle.qd_ring.specs.ValueText.{numeral}
-
-pub front_append : (xs ys : List ℕ) → take (length xs) (xs ++ ys) ≡ xs
-front_append [] ys = refl
-front_append (x ∷ xs) ys = ap (λ zs. x ∷ zs) (front_append xs ys)
 
 pub front_trans : (xs ys zs : List ℕ) → take (length xs) ys ≡ xs → take (length ys) zs ≡ ys → take (length xs) zs ≡ xs
 front_trans [] ys zs p q = refl

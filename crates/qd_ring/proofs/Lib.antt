@@ -1,8 +1,8 @@
+pub mod Names
 pub mod ListedSums
 pub mod ThirdsLaws
 pub mod ValueTextLaws
 pub mod Fronts
-pub mod ValueReaderLaws
 pub mod NumeralLaws
 pub mod TermLaws
 pub mod CoefficientLaws

@@ -1,24 +1,7 @@
 -- Steps of a loop that adds up a listed sum.
-use Rattle.std.proofs.Common.{◌≡◌, ◌+◌, ◌<◌, ℕ, Bool, true, false, List, [], ◌∷◌, ◌++◌, map, take, drop, length, get_or, refl, sym, ◌∙◌, ap}
-use Rattle.std.proofs.lemmas.Bool.{false≢true}
-use Rattle.std.proofs.lemmas.List.{take_more, map-append, take-append-drop}
-use Rattle.std.specs.Prelude.{IfSome, is_some, ◌&&◌}
-use Rattle.std.proofs.Common.{Option, Some, None, subst, ◌≤◌, suc, ◌||◌, not, arith, zero-add, add-one}
-use Rattle.std.specs.List.{range_with_len}
+use Rattle.qd_ring.proofs.Names.{◌≡◌, ◌+◌, ◌<◌, ℕ, Bool, true, false, List, [], ◌∷◌, ◌++◌, map, take, drop, length, get_or, refl, sym, ◌∙◌, ap, false≢true, take_more, map-append, take-append-drop, IfSome, is_some, ◌&&◌, Option, Some, None, subst, ◌≤◌, suc, ◌||◌, not, arith, zero-add, add-one, range_with_len, take-map-range_with_len, all_below, all_below-fails, all_below-at, all_below-all, ap₂, sum_list, sum_below, sum_list_push, sum_list_range, sum_ext, sum_suc, cyclotomic_ring, value_fits, sizes_overflow, sizes_overflow-one, cyclotomic_fit, Formed, listed, FitRules, sum_overflows, IsTerm}
 use Rattle.std.proofs.Math.Bool.{or-true}
-use Rattle.std.proofs.lemmas.List.FromFn.{take-map-range_with_len}
-use Rattle.scan.specs.First.{all_below}
-use Rattle.scan.proofs.Places.{all_below-fails, all_below-at, all_below-all}
-use mathlib.Core.Path.{ap₂}
 use Rattle.algebra.specs.Structures.{CommRing}
-use Rattle.algebra.specs.Sums.{sum_list, sum_below}
-use Rattle.algebra.proofs.SumLaws.{sum_list_push, sum_list_range, sum_ext, sum_suc}
-use Rattle.cyclotomic.specs.CyclotomicRing.{cyclotomic_ring}
-use Rattle.cyclotomic.specs.Fit.{value_fits, sizes_overflow}
-use Rattle.cyclotomic.proofs.Bounds.{sizes_overflow-one}
-use Rattle.qd_ring.specs.CyclotomicFit.{cyclotomic_fit}
-use Rattle.qd_ring.specs.Formed.{Formed, listed}
-use Rattle.qd_ring.specs.Fit.{FitRules, sum_overflows, IsTerm}
 
 module _ {A E : Type 0} (R : CommRing A) (of : E → A) (xs : List E) where
   -- the sum s of the first i terms, with one more term

@@ -1,21 +1,6 @@
 -- Terms that are 0 may be left out of a sum.
-use Rattle.std.proofs.Common.{◌≡◌, ◌+◌, ◌-◌, ◌*◌, ◌^◌, ◌<◌, ◌&&◌, ℕ, zero, suc, Bool, true, false, refl, sym, ◌∙◌, ap, subst, arith, zero-add}
-use Rattle.std.proofs.lemmas.Bool.{le-leb, lt-ltb}
-use mathlib.Core.Path.{ap₂}
-use Rattle.std.proofs.lemmas.List.FromFn.{sum_by-map-range_with_len_more}
-use Rattle.scan.proofs.Places.{all_below-step}
-use Rattle.algebra.proofs.SumLaws.{nought_map}
-use Rattle.cyclotomic.specs.Cyclotomic.{cyclotomic}
-use Rattle.cyclotomic.specs.CyclotomicRing.{CyclotomicValue, cyclotomic_ring, conjugate}
-use Rattle.cyclotomic.specs.Fit.{value_size, value_fits, product_fits, greatest_magnitude}
-use Rattle.cyclotomic.specs.Laws.Values.{sum_nought, product_comm}
-use Rattle.cyclotomic.specs.Ring.{Value, value_nought, value_product, value_sum}
-use Rattle.cyclotomic.proofs.Images.{image-sum}
-use Rattle.cyclotomic.proofs.Sizes.{size-zeros}
+use Rattle.qd_ring.proofs.Names.{◌≡◌, ◌+◌, ◌-◌, ◌*◌, ◌^◌, ◌<◌, ◌&&◌, ℕ, zero, suc, Bool, true, false, refl, sym, ◌∙◌, ap, subst, arith, zero-add, le-leb, lt-ltb, ap₂, sum_by-map-range_with_len_more, all_below-step, nought_map, cyclotomic, CyclotomicValue, cyclotomic_ring, conjugate, value_size, value_fits, product_fits, greatest_magnitude, sum_nought, product_comm, Value, value_nought, value_product, value_sum, image-sum, size-zeros, Formed, conjugated, multiplied, where_so, IsTotal, IsFolded}
 use Rattle.qd_ring.proofs.SpreadLaws.{product-nought}
-use Rattle.qd_ring.specs.Formed.{Formed, conjugated, multiplied, where_so}
-use Rattle.qd_ring.specs.Totals.{IsTotal}
-use Rattle.qd_ring.specs.Folding.{IsFolded}
 use Rattle.qd_ring.proofs.ListedSums.{sum_below_more}
 use Rattle.qd_ring.proofs.TotalLaws.{total_more}
 
@@ -35,10 +20,6 @@ nought_fits u none = le-leb (value_size u) greatest_magnitude (omega (arith, nou
 left_fits : {n : ℕ} (u v : Value n) → u ≡ value_nought → product_fits u v ≡ true
 unfolding product_fits
 left_fits u v none = lt-ltb (value_size u * value_size v) (2 ^ 108) (omega (arith, ap (λ a. a * value_size v) (nought_size u none)))
-
-right_fits : {n : ℕ} (u v : Value n) → v ≡ value_nought → product_fits u v ≡ true
-unfolding product_fits
-right_fits u v none = lt-ltb (value_size u * value_size v) (2 ^ 108) (omega (arith, ap (λ a. value_size u * a) (nought_size v none)))
 
 module _ (k : ℕ) where
   conjugate_nought : conjugate k value_nought ≡ value_nought
@@ -63,11 +44,11 @@ module _ (k : ℕ) where
     nought = ap (λ a. value_product (cyclotomic k) a v.value) none.nought ∙ product_comm (cyclotomic k) value_nought v.value ∙ product-nought (cyclotomic k) v.value;
   }
 
-  pub times_nought : (u v : Formed k) → u.fits ≡ true → IsNought v → IsNought (multiplied k u v)
-  times_nought u v fit none = record {
-    fits = ap₂ (λ a b. a && b) (ap₂ (λ a b. a && b) fit none.fits) (right_fits u.value v.value none.nought);
-    nought = ap (λ b. value_product (cyclotomic k) u.value b) none.nought ∙ product-nought (cyclotomic k) u.value;
-  }
+-- what m steps keep
+step_by_step : (P : ℕ → Type 0) (i m : ℕ) → P i → ((j : ℕ) → j < m → P (i + j) → P (i + j + 1)) → P (i + m)
+step_by_step P i zero here step = subst P (omega arith) here
+step_by_step P i (suc m) here step =
+    subst P (omega arith) (step m (omega arith) (step_by_step P i m here (λ j inside. step j (omega (arith, inside)))))
 
 module _ {k : ℕ} (term : ℕ → Formed k) where
   -- a term that is 0 adds nothing
@@ -80,10 +61,7 @@ module _ {k : ℕ} (term : ℕ → Formed k) where
 
   -- nor do many
   pub total_noughts : (i m : ℕ) (sum : CyclotomicValue k) (sizes : ℕ) → IsTotal term i sum sizes → ((j : ℕ) → j < m → IsNought (term (i + j))) → IsTotal term (i + m) sum sizes
-  total_noughts i zero sum sizes t none = subst (λ p. IsTotal term p sum sizes) (omega arith) t
-  total_noughts i (suc m) sum sizes t none =
-      let before = total_noughts i m sum sizes t (λ j inside. none j (omega (arith, inside))) in
-      subst (λ p. IsTotal term p sum sizes) (omega arith) (total_nought (i + m) sum sizes before (none m (omega arith)))
+  total_noughts i m sum sizes t none = step_by_step (λ p. IsTotal term p sum sizes) i m t (λ j inside before. total_nought (i + j) sum sizes before (none j inside))
 
   -- the same of a sum that is folded
   pub folded_nought : (i : ℕ) (sum : CyclotomicValue k) (bound : ℕ) → IsFolded k term i sum bound → IsNought (term i) → IsFolded k term (i + 1) sum bound
@@ -98,7 +76,5 @@ module _ {k : ℕ} (term : ℕ → Formed k) where
       }
 
   pub folded_noughts : (i m : ℕ) (sum : CyclotomicValue k) (bound : ℕ) → IsFolded k term i sum bound → ((j : ℕ) → j < m → IsNought (term (i + j))) → IsFolded k term (i + m) sum bound
-  folded_noughts i zero sum bound folded none = subst (λ p. IsFolded k term p sum bound) (omega arith) folded
-  folded_noughts i (suc m) sum bound folded none =
-      let before = folded_noughts i m sum bound folded (λ j inside. none j (omega (arith, inside))) in
-      subst (λ p. IsFolded k term p sum bound) (omega arith) (folded_nought (i + m) sum bound before (none m (omega arith)))
+  folded_noughts i m sum bound folded none =
+      step_by_step (λ p. IsFolded k term p sum bound) i m folded (λ j inside before. folded_nought (i + j) sum bound before (none j inside))

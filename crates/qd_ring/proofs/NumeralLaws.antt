@@ -1,12 +1,6 @@
 -- Numerals: positive numbers in decimal, written and read.
-use Rattle.std.proofs.Common.{◌≡◌, ℕ, zero, suc, ◌+◌, ◌-◌, ◌*◌, ◌/◌, ◌%◌, ◌<◌, ◌≤◌, Bool, true, false, List, [], ◌∷◌, ◌++◌, length, take, get_or, refl, ap, sym, subst, ◌∙◌, inl, inr, arith, leb, append-nil, cond}
-use Rattle.std.proofs.Math.Numerals.{one-add}
-use Rattle.std.proofs.lemmas.Bool.{cases_lt, and_parts, and_from, le-leb, leb-true}
-use Rattle.std.specs.List.{list_all, prefix_len}
+use Rattle.qd_ring.proofs.Names.{◌≡◌, ℕ, zero, suc, ◌+◌, ◌-◌, ◌*◌, ◌/◌, ◌%◌, ◌<◌, ◌≤◌, Bool, true, false, List, [], ◌∷◌, ◌++◌, length, take, get_or, refl, ap, sym, subst, ◌∙◌, inl, inr, arith, leb, append-nil, cond, one-add, cases_lt, and_parts, and_from, le-leb, leb-true, list_all, prefix_len, append_assoc, numeral, is_digit, number, number_after}
 use Rattle.std.proofs.lemmas.List.Folds.{list_all-append}
-use mathlib.Core.List.{append_assoc}
-use Rattle.qd_ring.specs.ValueText.{numeral}
-use Rattle.qd_ring.specs.ValueReading.{is_digit, number, number_after}
 use Rattle.qd_ring.proofs.Fronts.{numeral_step, numeral_digit}
 
 -- what holds of one digit, and with one more digit at the end, holds of each numeral

@@ -1,24 +1,7 @@
 -- Products term by term, arrays of values, and what a zero buffer stands for.
-use Rattle.qd_ring.specs.ArrayLaws.{coefficients_of, value_of-padded, zeros_noughts}
-use Rattle.std.proofs.Common.{◌≡◌, ℕ, zero, suc, ◌-◌, true, List, ◌++◌, length, take, drop, refl, sym, ap, ◌∙◌, arith, length-append, eq-eqb, ◌&&◌}
-use Rattle.std.proofs.Math.Seq.{drop-append_seam}
-use Rattle.std.proofs.lemmas.List.{take-replicate}
-use Rattle.std.specs.Prelude.{ℤ, pos}
-use Rattle.std.specs.List.{list_all}
-use mathlib.Core.Path.{ap₂}
-use Rattle.cyclotomic.specs.Polynomial.{zeros, at_power}
-use Rattle.cyclotomic.specs.Division.{degree, remainder}
-use Rattle.cyclotomic.specs.Cyclotomic.{cyclotomic}
-use Rattle.cyclotomic.specs.Conductors.{is_conductor, phi_of}
-use Rattle.cyclotomic.specs.Ring.{Value, value_sum, value_multiple, value_nought, value_of, value_product, value_image}
-use Rattle.cyclotomic.specs.CyclotomicRing.{CyclotomicValue, cyclotomic_value, galois_image}
-use Rattle.cyclotomic.specs.Laws.Polynomials.{length-zeros}
-use Rattle.cyclotomic.specs.Laws.Values.{value_of-itself, product_comm, sum_nought, sum_comm}
-use Rattle.cyclotomic.proofs.Fields.{cyclotomic_degree}
-use Rattle.cyclotomic.proofs.Sizes.{total_of}
-use Rattle.qd_ring.specs.CycArrays.{array_of, is_array, is_nought}
+use Rattle.qd_ring.proofs.Names.{value_of-padded, zeros_noughts, ◌≡◌, ℕ, zero, suc, ◌-◌, true, List, ◌++◌, length, take, drop, refl, sym, ap, ◌∙◌, arith, length-append, eq-eqb, ◌&&◌, drop-append_seam, take-replicate, ℤ, pos, list_all, ap₂, zeros, at_power, degree, remainder, cyclotomic, is_conductor, phi_of, Value, value_sum, value_multiple, value_nought, value_of, value_product, value_image, CyclotomicValue, cyclotomic_value, galois_image, length-zeros, value_of-itself, product_comm, sum_nought, sum_comm, cyclotomic_degree, total_of, array_of, is_array, is_nought, conductor_bounds}
+use Rattle.qd_ring.specs.ArrayLaws.{coefficients_of}
 use Rattle.qd_ring.proofs.SpreadLaws.{product-multiple}
-use Rattle.qd_ring.specs.ReductionSigns.{conductor_bounds}
 
 -- ---- an empty buffer
 pub nought_sum : (m : List ℤ) (u : Value (degree m)) → value_sum value_nought u ≡ u

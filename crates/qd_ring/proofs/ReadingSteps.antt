@@ -1,13 +1,5 @@
 -- Steps of the loop that reads the coefficients of a value.
-use Rattle.std.proofs.Common.{◌≡◌, ℕ, suc, ◌+◌, ◌-◌, ◌<◌, ◌≤◌, Bool, true, false, List, [], ◌∷◌, ◌++◌, length, take, drop, set, refl, ap, sym, ◌∙◌, arith, ltb, replicate, length-set, length-drop, Option, Some, None}
-use Rattle.std.proofs.Math.Seq.{take-add}
-use Rattle.std.proofs.lemmas.List.{take_more_set, drop-set-lt, take-replicate, drop-replicate, drop-drop, drop_all, take_all}
-use Rattle.std.proofs.Math.Nat.{sub-zero}
-use Rattle.std.proofs.lemmas.Bool.{lt-ltb, le-ltb}
-use Rattle.std.specs.Prelude.{ℤ, pos, option_map}
-use mathlib.Core.List.{append_assoc}
-use Rattle.qd_ring.specs.declared.value_reader.Term.{Term}
-use Rattle.qd_ring.specs.ValueReading.{term_of, coefficients_of}
+use Rattle.qd_ring.proofs.Names.{◌≡◌, ℕ, suc, ◌+◌, ◌-◌, ◌<◌, ◌≤◌, Bool, true, false, List, [], ◌∷◌, ◌++◌, length, take, drop, set, refl, ap, sym, ◌∙◌, arith, ltb, replicate, length-set, length-drop, Option, Some, None, take-add, take_more_set, drop-set-lt, take-replicate, drop-replicate, drop-drop, drop_all, take_all, lt-ltb, le-ltb, ℤ, pos, option_map, append_assoc, Term, term_of, coefficients_of}
 use Rattle.qd_ring.proofs.TermLaws.{term_read}
 use Rattle.qd_ring.proofs.CoefficientLaws.{skipped_to_term, term_missed, no_term_missed, ended, not_begun}
 
@@ -22,19 +14,6 @@ pub record ReadSoFar (phi : ℕ) (text : List ℕ) (next at : ℕ) (cs : List �
   pub count : length cs ≡ 42
   pub zeros : drop next cs ≡ replicate (42 - next) (pos 0)
   pub reads : coefficients_of phi 0 false text ≡ option_map (λ ds. take next cs ++ ds) (coefficients_of (phi - next) next (ltb 0 at) (drop at text))
-
-pub read_nothing : (phi : ℕ) (text : List ℕ) (cs : List ℤ) → cs ≡ replicate 42 (pos 0) → ReadSoFar phi text 0 0 cs
-read_nothing phi text cs e = record {
-  at_within = omega arith;
-  next_within = omega arith;
-  count = ap length e;
-  zeros = e;
-  reads = same (coefficients_of phi 0 false text) ∙ ap (λ n. option_map (λ ds. ds) (coefficients_of n 0 false text)) (sym (sub-zero phi));
-}
-  where
-    same : (o : Option (List ℤ)) → o ≡ option_map (λ ds. ds) o
-    same None = refl
-    same (Some ds) = refl
 
 module _ (phi : ℕ) (text : List ℕ) (next at : ℕ) (cs : List ℤ) (small : phi ≤ 42) (r : ReadSoFar phi text next at cs) (term : Term) (found : term_of (ltb 0 at) (drop at text) ≡ Some term) where
   pub term_longer : 0 < term.len

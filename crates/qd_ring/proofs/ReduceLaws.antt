@@ -1,22 +1,7 @@
 -- Reduction in place: the window moves down by one place at a time, and holds the remainder of what stood from there on.
-use Rattle.std.proofs.Common.{◌≡◌, ℕ, zero, suc, ◌+◌, ◌*◌, ◌≤◌, ◌<◌, true, List, [], ◌∷◌, ◌++◌, length, get_or, take, drop, refl, sym, ap, ◌∙◌, subst, arith, length-drop, append_assoc}
-use Rattle.std.proofs.Math.Nat.{mul-le-mul}
-use Rattle.std.proofs.Math.Decide.{dec_lt}
-use Rattle.std.proofs.Math.Seq.{drop-cons, take-append_seam, drop-append_seam, take-length}
-use Rattle.std.proofs.lemmas.List.{get_or-take, length-take-le}
-use Rattle.std.specs.Prelude.{ℤ, pos}
-use mathlib.Core.Path.{ap₂}
-use Rattle.cyclotomic.specs.Division.{degree, cancelled, remainder}
-use Rattle.cyclotomic.specs.Cyclotomic.{cyclotomic}
-use Rattle.cyclotomic.specs.Conductors.{is_conductor, phi_of, reduction_of}
-use Rattle.cyclotomic.specs.Fit.{size_of, value_size}
-use Rattle.cyclotomic.specs.Ring.{Value, value_of, value_one}
+use Rattle.qd_ring.proofs.Names.{◌≡◌, ℕ, zero, suc, ◌+◌, ◌*◌, ◌≤◌, ◌<◌, true, List, [], ◌∷◌, ◌++◌, length, get_or, take, drop, refl, sym, ap, ◌∙◌, subst, arith, length-drop, drop-cons, take-append_seam, drop-append_seam, take-length, get_or-take, length-take-le, ℤ, pos, ap₂, degree, cancelled, remainder, cyclotomic, is_conductor, phi_of, reduction_of, size_of, value_size, Value, value_of, value_one, value_of-act, cyclotomic_is, cyclotomic_degree, total_of, size-act, size-cons, step_size}
+use Rattle.std.proofs.Common.{append_assoc}
 use Rattle.cyclotomic.specs.Laws.Remainders.{remainder-cons, length-remainder, length-cancelled, remainder-itself}
-use Rattle.cyclotomic.specs.Laws.Values.{value_of-act}
-use Rattle.cyclotomic.proofs.Checks.{cyclotomic_is}
-use Rattle.cyclotomic.proofs.Fields.{cyclotomic_degree}
-use Rattle.cyclotomic.proofs.Sizes.{total_of, size-act, size-cons}
-use Rattle.cyclotomic.proofs.Bounds.{step_size, phi_square}
 use Rattle.qd_ring.proofs.BufferLaws.{magnitude_at}
 
 pub total-drop : (n : ℕ) (xs : List ℤ) → total_of (drop n xs) ≤ total_of xs
@@ -30,17 +15,6 @@ take-take_suc zero xs = refl
 take-take_suc (suc o) [] = refl
 take-take_suc (suc o) (a ∷ xs) = ap (λ z. a ∷ z) (take-take_suc o xs)
 
-take_more : {A : Type 0} (n : ℕ) (a : A) (xs : List A) → take (suc n) (a ∷ xs) ≡ a ∷ take n xs
-take_more n a xs = refl
-
-below_46 : (n : ℕ) → n * n < 2048 → n < 46
-below_46 n h = elim (dec_lt n 46) [
-  | yes l ↦ l
-  | no r ↦
-      let least : 46 ≤ n = omega arith in
-      absurd (omega (arith, mul-le-mul least least))
-]
-
 module _ (k : ℕ) (entry : is_conductor k ≡ true) where
   -- the remainder of a polynomial is no greater than the sum of its magnitudes
   pub remainder_size : (p : List ℤ) → size_of (remainder (cyclotomic k) p) ≤ total_of p
@@ -50,9 +24,6 @@ module _ (k : ℕ) (entry : is_conductor k ≡ true) where
       let bound : value_size (value_of m p) ≤ total_of p * 1 =
       subst (λ (v : Value (degree m)). value_size v ≤ total_of p * 1) (sym (value_of-act m p)) (size-act m p (value_one m) 1 (step_size k entry)) in
       omega (arith, bound)
-
-  pub small_phi : phi_of k < 46
-  small_phi = below_46 (phi_of k) (phi_square k entry)
 
   module _ (o : ℕ) (b b0 : List ℤ) (same : length b ≡ length b0) (inside : suc o + phi_of k ≤ length b) (below : take (suc o) b ≡ take (suc o) b0) (window : take (phi_of k) (drop (suc o) b) ≡ remainder (cyclotomic k) (drop (suc o) b0)) where
     -- the window of a step

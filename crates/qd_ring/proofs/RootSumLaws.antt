@@ -1,30 +1,6 @@
 -- Sums of roots of unity: what is made of them, and how great they are.
-use Rattle.std.proofs.Common.{◌≡◌, ℕ, zero, suc, ◌+◌, ◌-◌, ◌*◌, ◌^◌, ◌<◌, ◌≤◌, true, List, [], ◌∷◌, ◌++◌, length, map, refl, sym, ap, ◌∙◌, arith, length-append, sum_by, add-one, zero-add}
-use Rattle.std.specs.Prelude.{pos}
-use Rattle.std.specs.List.{range_with_len}
+use Rattle.qd_ring.proofs.Names.{◌≡◌, ℕ, zero, suc, ◌+◌, ◌-◌, ◌*◌, ◌^◌, ◌<◌, ◌≤◌, true, List, [], ◌∷◌, ◌++◌, length, map, refl, sym, ap, ◌∙◌, arith, length-append, sum_by, add-one, zero-add, pos, range_with_len, mul-le-mul, map-append, length-map, sum_by-cons, sum_by-map-range_with_len_more, le-leb, lt-ltb, ap₂, sum_list, sum_below, multiple, nought_mul, add_mul, mul_nought, mul_add, sum_list_nil, sum_list_cons, sum_list_append, sum_list_single, sum_zero, sum_suc, multiple_zero, multiple_suc, nought_map, is_conductor, cyclotomic, plus, x_to, degree, value_of-plus, value_sum, value_nought, value_product, CyclotomicValue, cyclotomic_ring, cyclotomic_value, root, conjugate, galois_image, value_size, value_fits, product_fits, greatest_magnitude, root-sum, image-sum, galois_root, conjugation_prime, size-plus, size-zeros, root_size, value_of-zeros}
 use Rattle.std.specs.Int.{IsGcd}
-use Rattle.std.proofs.Math.Nat.{mul-le-mul}
-use Rattle.std.proofs.lemmas.List.{map-append, length-map}
-use Rattle.std.proofs.lemmas.List.Sums.{sum_by-cons}
-use Rattle.std.proofs.lemmas.List.FromFn.{sum_by-map-range_with_len_more}
-use borrow.Author.Tests.{le-leb, lt-ltb}
-use mathlib.Core.Path.{ap₂}
-use Rattle.algebra.specs.Sums.{sum_list, sum_below, multiple}
-use Rattle.algebra.proofs.RingLaws.{nought_mul, add_mul, mul_nought, mul_add}
-use Rattle.algebra.proofs.SumLaws.{sum_list_nil, sum_list_cons, sum_list_append, sum_list_single, sum_zero, sum_suc, multiple_zero, multiple_suc, nought_map}
-use Rattle.cyclotomic.specs.Conductors.{is_conductor}
-use Rattle.cyclotomic.specs.Cyclotomic.{cyclotomic}
-use Rattle.cyclotomic.specs.Polynomial.{plus, x_to}
-use Rattle.cyclotomic.specs.Division.{degree}
-use Rattle.cyclotomic.specs.Laws.Values.{value_of-plus}
-use Rattle.cyclotomic.specs.Ring.{value_sum, value_nought, value_product}
-use Rattle.cyclotomic.specs.CyclotomicRing.{CyclotomicValue, cyclotomic_ring, cyclotomic_value, root, conjugate, galois_image}
-use Rattle.cyclotomic.specs.Fit.{value_size, value_fits, product_fits, greatest_magnitude}
-use Rattle.cyclotomic.proofs.Images.{root-sum, image-sum}
-use Rattle.cyclotomic.proofs.Inverses.{galois_root, conjugation_prime}
-use Rattle.cyclotomic.proofs.Sizes.{size-plus, size-zeros}
-use Rattle.cyclotomic.proofs.Bounds.{root_size}
-use Rattle.qd_ring.specs.ArrayLaws.{value_of-zeros}
 use Rattle.qd_ring.specs.RootSums.{sum_of_roots, IsSumOfRoots}
 
 -- one more number in a sum of numbers

@@ -1,11 +1,6 @@
 -- A value at the end of the last row.
-use Rattle.std.proofs.Common.{◌≡◌, ℕ, ◌+◌, ◌-◌, ◌<◌, ◌^◌, List, [], ◌∷◌, ◌++◌, length, map, get_or, set, ap, sym, ◌∙◌, subst, inl, inr, arith, length-append, length-set}
-use Rattle.std.proofs.lemmas.Bool.{cases_eq}
-use Rattle.std.proofs.lemmas.List.{map-set, map-append, get_or-map, length-map, get_or-set_other}
+use Rattle.qd_ring.proofs.Names.{◌≡◌, ℕ, ◌+◌, ◌-◌, ◌<◌, ◌^◌, List, [], ◌∷◌, ◌++◌, length, map, get_or, set, ap, sym, ◌∙◌, subst, inl, inr, arith, length-append, length-set, cases_eq, map-set, map-append, get_or-map, length-map, get_or-set_other, Result, OnErr, Ok, Err, map-set_same, row_at, with_value}
 use Rattle.std.proofs.lemmas.Grind.{get_or-set_at}
-use Rattle.std.specs.Prelude.{Result, OnErr, Ok, Err}
-use Rattle.std.proofs.Math.Seq.{map-set_same}
-use Rattle.qd_ring.specs.RowLists.{row_at, with_value}
 
 module _ {A B V : Type 0} (items : V → List A) (seen : A → B) (rows : List V) (i : ℕ) (old new : V) (inside : i < length rows) (at : old ≡ get_or rows i old) where
   -- the row that is seen at i

@@ -1,24 +1,5 @@
 -- How great images, root multiples, products and listed sums are.
-use Rattle.std.proofs.Common.{◌≡◌, ℕ, zero, suc, ◌+◌, ◌*◌, ◌<◌, ◌≤◌, Bool, true, false, List, [], ◌∷◌, ◌++◌, map, refl, ap, ◌∙◌, subst, arith, not, ◌||◌, sum_by}
-use Rattle.std.specs.Prelude.{ℤ, nat_abs}
-use Rattle.std.specs.List.{range_with_len}
-use Rattle.std.proofs.Math.Nat.{mul-le-mul}
-use Rattle.std.proofs.lemmas.Bool.{le-ltb}
-use Rattle.std.proofs.lemmas.List.Sums.{sum_by-cons}
-use mathlib.Core.Path.{ap₂}
-use Rattle.scan.specs.First.{all_below}
-use Rattle.cyclotomic.specs.Polynomial.{zeros, plus, at_power}
-use Rattle.cyclotomic.specs.Conductors.{is_conductor, phi_of}
-use Rattle.cyclotomic.specs.Cyclotomic.{cyclotomic}
-use Rattle.cyclotomic.specs.Ring.{value_of, value_sum, value_multiple, value_product, value_image}
-use Rattle.cyclotomic.specs.CyclotomicRing.{CyclotomicValue, cyclotomic_ring, root, galois_image}
-use Rattle.cyclotomic.specs.Fit.{value_size, greatest_magnitude, sizes_overflow}
-use Rattle.cyclotomic.proofs.Fields.{cyclotomic_degree}
-use Rattle.cyclotomic.proofs.Images.{product-root}
-use Rattle.cyclotomic.proofs.Sizes.{total_of, total-size, magnitude-sum, size-plus, size-scaled, size-steps, size-product}
-use Rattle.cyclotomic.proofs.Bounds.{step_size}
-use Rattle.qd_ring.specs.Fit.{sum_overflows}
-use Rattle.qd_ring.specs.CyclotomicFit.{cyclotomic_fit}
+use Rattle.qd_ring.proofs.Names.{◌≡◌, ℕ, zero, suc, ◌+◌, ◌*◌, ◌<◌, ◌≤◌, Bool, true, false, List, [], ◌∷◌, ◌++◌, map, refl, ap, ◌∙◌, subst, arith, not, ◌||◌, sum_by, ℤ, nat_abs, range_with_len, mul-le-mul, le-ltb, sum_by-cons, ap₂, all_below, zeros, plus, at_power, is_conductor, phi_of, cyclotomic, value_of, value_sum, value_multiple, value_product, value_image, CyclotomicValue, cyclotomic_ring, root, galois_image, value_size, greatest_magnitude, sizes_overflow, cyclotomic_degree, product-root, total_of, total-size, magnitude-sum, size-plus, size-scaled, size-steps, size-product, step_size, sum_overflows, cyclotomic_fit}
 use Rattle.qd_ring.proofs.ReduceLaws.{remainder_size}
 
 pub size_sum : (k : ℕ) (u v : CyclotomicValue k) → value_size (value_sum u v) ≤ value_size u + value_size v

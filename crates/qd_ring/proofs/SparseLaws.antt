@@ -1,27 +1,5 @@
 -- Sparse values: one more term, sizes, and the terms of a product.
-use Rattle.std.proofs.Common.{◌≡◌, ℕ, zero, suc, ◌+◌, ◌*◌, ◌^◌, ◌%◌, ◌<◌, ◌≤◌, true, List, [], ◌∷◌, ◌++◌, length, take, get_or, refl, sym, ap, ◌∙◌, arith}
-use Rattle.std.proofs.Math.Nat.{mul-le-mul, mul-le-mul_left, mul-le-mul_right}
-use Rattle.std.proofs.lemmas.List.{take_more}
-use Rattle.std.specs.Prelude.{ℤ, pos, ◌*ℤ◌, nat_abs}
-use Rattle.std.proofs.lemmas.Int.{to_z-of_z}
-use mir.Syntax.{w128}
-use mir.Val.{SFits, to_z, of_z}
-use mathlib.Core.Path.{ap₂}
-use Rattle.algebra.proofs.RingLaws.{add_mul, mul_add, mul_assoc, mul_nought, nought_mul, add_assoc, nought_add, add_nought}
-use Rattle.cyclotomic.specs.Conductors.{is_conductor}
-use Rattle.cyclotomic.specs.Cyclotomic.{cyclotomic}
-use Rattle.cyclotomic.specs.Division.{degree}
-use Rattle.cyclotomic.specs.Ring.{value_sum, value_multiple, value_nought, value_product}
-use Rattle.cyclotomic.specs.CyclotomicRing.{CyclotomicValue, cyclotomic_ring, root}
-use Rattle.cyclotomic.specs.Fit.{value_size}
-use Rattle.cyclotomic.specs.Laws.Action.{scale_nought}
-use Rattle.cyclotomic.specs.Laws.Values.{times_x, sum_assoc}
-use Rattle.cyclotomic.proofs.Images.{root-sum}
-use Rattle.cyclotomic.proofs.Inverses.{root_modulo}
-use Rattle.cyclotomic.proofs.Sizes.{size-zeros, magnitude-product}
-use Rattle.cyclotomic.proofs.Bounds.{root_size}
-use Rattle.qd_ring.specs.declared.monomial.Monomial.{Monomial}
-use Rattle.qd_ring.specs.SparseValues.{value_of_terms, total_of_terms, IsSparse}
+use Rattle.qd_ring.proofs.Names.{◌≡◌, ℕ, zero, suc, ◌+◌, ◌*◌, ◌^◌, ◌%◌, ◌<◌, ◌≤◌, true, List, [], ◌∷◌, ◌++◌, length, take, get_or, refl, sym, ap, ◌∙◌, arith, mul-le-mul, mul-le-mul_left, mul-le-mul_right, take_more, ℤ, pos, ◌*ℤ◌, nat_abs, to_z-of_z, w128, SFits, to_z, of_z, ap₂, add_mul, mul_add, mul_assoc, mul_nought, nought_mul, add_assoc, nought_add, add_nought, is_conductor, cyclotomic, degree, value_sum, value_multiple, value_nought, value_product, CyclotomicValue, cyclotomic_ring, root, value_size, scale_nought, times_x, sum_assoc, root-sum, root_modulo, size-zeros, magnitude-product, root_size, Monomial, value_of_terms, total_of_terms, IsSparse}
 use Rattle.qd_ring.proofs.BufferLaws.{read_128}
 use Rattle.qd_ring.proofs.SpreadLaws.{product-multiple}
 use Rattle.qd_ring.proofs.ProductLaws.{multiple-product}

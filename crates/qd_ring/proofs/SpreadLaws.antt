@@ -1,21 +1,5 @@
 -- Adding a polynomial at x^t, times a power of x, place by place modulo K.
-use Rattle.std.proofs.Common.{◌≡◌, ℕ, zero, suc, ◌+◌, ◌*◌, ◌%◌, ◌≤◌, ◌<◌, true, List, [], ◌∷◌, length, get_or, take, refl, sym, ap, ◌∙◌, arith, mul-zero}
-use Rattle.std.proofs.Math.Nat.{mod-add-mod, mod-eq_of_lt, add-zero}
-use Rattle.std.proofs.Math.Seq.{take-length}
-use Rattle.std.proofs.Math.Numerals.{add-one}
-use Rattle.std.specs.Prelude.{ℤ, pos, nat_abs}
-use mathlib.Core.Path.{ap₂}
-use Rattle.cyclotomic.specs.Polynomial.{at_power}
-use Rattle.cyclotomic.specs.Division.{degree}
-use Rattle.cyclotomic.specs.Cyclotomic.{cyclotomic}
-use Rattle.cyclotomic.specs.Conductors.{is_conductor}
-use Rattle.cyclotomic.specs.Ring.{Value, value_sum, value_multiple, value_nought, value_of, value_one, value_product, value_root}
-use Rattle.cyclotomic.specs.CyclotomicRing.{CyclotomicValue, cyclotomic_value, root}
-use Rattle.cyclotomic.specs.Laws.Action.{map_power, act-scale, act-at_power, iterate-power, act-nought}
-use Rattle.cyclotomic.specs.Laws.Values.{times_x, value_of-act, value_of-nil, product-act, product_sum, sum_assoc}
-use Rattle.cyclotomic.proofs.Images.{root_steps, root-sum}
-use Rattle.cyclotomic.proofs.Inverses.{root_modulo}
-use Rattle.cyclotomic.proofs.Sizes.{total_of}
+use Rattle.qd_ring.proofs.Names.{◌≡◌, ℕ, zero, suc, ◌+◌, ◌*◌, ◌%◌, ◌≤◌, ◌<◌, true, List, [], ◌∷◌, length, get_or, take, refl, sym, ap, ◌∙◌, arith, mul-zero, mod-add-mod, mod-eq_of_lt, add-zero, add-one, ℤ, pos, nat_abs, ap₂, at_power, degree, cyclotomic, is_conductor, Value, value_sum, value_multiple, value_nought, value_of, value_one, value_product, value_root, CyclotomicValue, cyclotomic_value, root, map_power, act-scale, act-at_power, iterate-power, act-nought, times_x, value_of-act, value_of-nil, product-act, product_sum, sum_assoc, root_steps, root-sum, root_modulo, total_of}
 use Rattle.qd_ring.proofs.BufferLaws.{act-take_suc}
 
 pub product-multiple : (m : List ℤ) (c : ℤ) (u v : Value (degree m)) → value_product m u (value_multiple c v) ≡ value_multiple c (value_product m u v)
@@ -92,6 +76,3 @@ module _ (k : ℕ) (entry : is_conductor k ≡ true) (start t : ℕ) (xs : List 
       is ∙ ap (λ z. value_sum z added) before
       ∙ sum_assoc (cyclotomic k) old (spread_by i) added
       ∙ ap (value_sum old) (sym (spread_more i place h e))
-
-  pub spread_all : spread_by (length xs) ≡ value_product (cyclotomic k) (root k start) (cyclotomic_value k (at_power t xs))
-  spread_all = ap (λ p. value_product (cyclotomic k) (root k start) (cyclotomic_value k (at_power t p))) (take-length xs)

@@ -1,14 +1,7 @@
 -- Terms of a value, written and read.
-use Rattle.std.proofs.Common.{◌≡◌, ℕ, zero, suc, ◌+◌, ◌^◌, ◌<◌, ◌≤◌, min, Bool, true, false, ◌&&◌, List, [], ◌∷◌, ◌++◌, length, take, drop, get_or, refl, ap, sym, subst, ◌∙◌, arith, leb, eqb, cond, length-append, take-append-drop, Option, Some, None}
-use Rattle.std.proofs.Math.Numerals.{one-add}
-use Rattle.std.specs.Prelude.{ℤ, pos, negsuc, nat_abs, option_and_then}
-use Rattle.std.specs.List.{prefix_len}
-use Rattle.std.proofs.lemmas.Bool.{and_parts, and_from, le-leb, leb-true, eqb-true, ne_eqb}
-use mathlib.Core.List.{append_assoc}
-use Rattle.std.proofs.lemmas.List.{drop-drop}
-use Rattle.qd_ring.specs.declared.value_reader.Term.{Term}
-use Rattle.qd_ring.specs.ValueText.{numeral, sign_text, power_text, term_text}
-use Rattle.qd_ring.specs.ValueReading.{is_digit, number, signed, numeral_len, power_of, term_after_sign, term_of}
+use Rattle.qd_ring.proofs.Names.{◌≡◌, ℕ, zero, suc, ◌+◌, ◌^◌, ◌<◌, min, Bool, true, false, ◌&&◌, List, [], ◌∷◌, ◌++◌, length, take, drop, get_or, refl, ap, sym, subst, ◌∙◌, arith, leb, eqb, cond, length-append, take-append-drop, Option, Some, None, one-add, ℤ, pos, negsuc, nat_abs, option_and_then, prefix_len, and_parts, and_from, le-leb, leb-true, eqb-true, ne_eqb, append_assoc, drop-drop, Term, numeral, sign_text, power_text, term_text, is_digit, number, signed, numeral_len, power_of, term_after_sign, term_of}
+use Rattle.std.proofs.Math.Seq.{take-append_seam, drop-append_seam}
+use Rattle.qd_ring.proofs.ValueTextLaws.{numeral_nonempty}
 use Rattle.qd_ring.proofs.NumeralLaws.{IsLeading, digits_numeral, number_numeral, leading_numeral, numeral_number, number_positive, digits_front, digits_taken}
 
 -- a whole number whose magnitude is cut at 2^120
@@ -21,22 +14,7 @@ pub record EndsTerm (tail : List ℕ) : Type 0 where
   pub no_digit : is_digit (get_or tail 0 0) ≡ false
   pub no_letter : eqb (get_or tail 0 0) 122 ≡ false
 
-front_taken : (xs ys : List ℕ) → take (length xs) (xs ++ ys) ≡ xs
-front_taken [] ys = refl
-front_taken (x ∷ xs) ys = ap (λ zs. x ∷ zs) (front_taken xs ys)
-
-pub front_dropped : (xs ys : List ℕ) → drop (length xs) (xs ++ ys) ≡ ys
-front_dropped [] ys = refl
-front_dropped (x ∷ xs) ys = front_dropped xs ys
-
 -- ---- a written term is read
-
-pub numeral_filled : (n : ℕ) → 0 < n → 0 < length (numeral n)
-numeral_filled n p = filled (numeral n) (leading_numeral n p).low
-  where
-    filled : (xs : List ℕ) → 49 ≤ get_or xs 0 0 → 0 < length xs
-    filled [] h = absurd (omega arith)
-    filled (x ∷ xs) h = omega arith
 
 -- the front of a nonempty list
 front_kept : (xs ys : List ℕ) → 0 < length xs → get_or (xs ++ ys) 0 0 ≡ get_or xs 0 0
@@ -46,7 +24,7 @@ front_kept (x ∷ xs) ys h = refl
 numeral_len_written : (n : ℕ) (tail : List ℕ) → 0 < n → is_digit (get_or tail 0 0) ≡ false → numeral_len (numeral n ++ tail) ≡ Some (length (numeral n))
 numeral_len_written n tail p ends =
     let lead = leading_numeral n p in
-    let same : get_or (numeral n ++ tail) 0 0 ≡ get_or (numeral n) 0 0 = front_kept (numeral n) tail (numeral_filled n p) in
+    let same : get_or (numeral n ++ tail) 0 0 ≡ get_or (numeral n) 0 0 = front_kept (numeral n) tail (numeral_nonempty n p) in
     ap (λ byte. cond (leb 49 byte && leb byte 57) (Some (prefix_len is_digit (numeral n ++ tail))) None) same
     ∙ ap (λ b. cond b (Some (prefix_len is_digit (numeral n ++ tail))) None) (and_from (leb 49 (get_or (numeral n) 0 0)) (leb (get_or (numeral n) 0 0) 57) (le-leb 49 _ lead.low) (le-leb _ 57 lead.high))
     ∙ ap (λ k. Some k) (digits_front (numeral n) tail (digits_numeral n p) ends)
@@ -55,7 +33,7 @@ power_written : (p : ℕ) (tail : List ℕ) → EndsTerm tail → power_of (powe
 power_written zero tail ends = ap (λ b. cond b (option_and_then (λ digits. Some (min (number (take digits (drop 1 tail))) 42, 1 + digits)) (numeral_len (drop 1 tail))) (Some (0, 0))) ends.no_letter ∙ refl
 power_written (suc p) tail ends =
     ap (λ o. option_and_then (λ digits. Some (min (number (take digits (numeral (suc p) ++ tail))) 42, 1 + digits)) o) (numeral_len_written (suc p) tail (omega arith) ends.no_digit)
-    ∙ ap (λ k. Some (min k 42, 1 + length (numeral (suc p)))) (ap number (front_taken (numeral (suc p)) tail) ∙ number_numeral (suc p) (omega arith))
+    ∙ ap (λ k. Some (min k 42, 1 + length (numeral (suc p)))) (ap number (take-append_seam (numeral (suc p)) tail) ∙ number_numeral (suc p) (omega arith))
     ∙ ap (λ k. Some (min (suc p) 42, k)) (one-add (length (numeral (suc p))))
 
 -- the power's text begins with no digit
@@ -70,9 +48,9 @@ after_sign_written negative sign n p tail positive ends =
     let rest : List ℕ = numeral n ++ (power_text p ++ tail) in
     let made : ℕ → ℕ → ℕ × ℕ → Option Term = λ digits m power. Some (record { coefficient = signed negative (min m (2 ^ 120)); power = power.0; len = sign + digits + power.1 }) in
     ap (option_and_then (λ digits. option_and_then (made digits (number (take digits rest))) (power_of (drop digits rest)))) (numeral_len_written n (power_text p ++ tail) positive (power_ends p tail ends))
-    ∙ ap (λ t. option_and_then (made (length (numeral n)) (number (take (length (numeral n)) rest))) (power_of t)) (front_dropped (numeral n) (power_text p ++ tail))
+    ∙ ap (λ t. option_and_then (made (length (numeral n)) (number (take (length (numeral n)) rest))) (power_of t)) (drop-append_seam (numeral n) (power_text p ++ tail))
     ∙ ap (option_and_then (made (length (numeral n)) (number (take (length (numeral n)) rest)))) (power_written p tail ends)
-    ∙ ap (λ m. made (length (numeral n)) m (min p 42, length (power_text p))) (ap number (front_taken (numeral n) (power_text p ++ tail)) ∙ number_numeral n positive)
+    ∙ ap (λ m. made (length (numeral n)) m (min p 42, length (power_text p))) (ap number (take-append_seam (numeral n) (power_text p ++ tail)) ∙ number_numeral n positive)
 
 -- a term is read as it was written
 pub term_written : (later : Bool) (p : ℕ) (c : ℤ) (tail : List ℕ) → 0 < nat_abs c → EndsTerm tail →
@@ -89,7 +67,7 @@ term_written true p (pos n) tail positive ends =
 term_written false p (pos n) tail positive ends =
     let text : List ℕ = (numeral n ++ power_text p) ++ tail in
     let first : get_or text 0 0 ≡ get_or (numeral n) 0 0 =
-    ap (λ t. get_or t 0 0) (append_assoc (numeral n) (power_text p) tail) ∙ front_kept (numeral n) (power_text p ++ tail) (numeral_filled n positive) in
+    ap (λ t. get_or t 0 0) (append_assoc (numeral n) (power_text p) tail) ∙ front_kept (numeral n) (power_text p ++ tail) (numeral_nonempty n positive) in
     let unsigned : eqb (get_or text 0 0) 45 ≡ false = ne_eqb (get_or text 0 0) 45 (λ e. omega (arith, first, e, (leading_numeral n positive).low)) in
     ap (λ b. option_and_then (λ sign. term_after_sign b sign (drop sign text)) (cond b (Some 1) (Some 0))) unsigned
     ∙ ap (λ t. term_after_sign false 0 t) (append_assoc (numeral n) (power_text p) tail)
@@ -210,7 +188,7 @@ assembled later negative text rest front sign c term a text_is sign_is front_is 
     let tail : List ℕ = drop a.taken rest in
     let dropped : drop term.len text ≡ tail =
     ap (λ t. drop term.len t) text_is ∙ ap (λ n. drop n (front ++ rest)) (a.len_is ∙ ap (λ n. n + a.taken) (sym sign_is))
-    ∙ sym (drop-drop a.taken (length front) (front ++ rest)) ∙ ap (drop a.taken) (front_dropped front rest) in
+    ∙ sym (drop-drop a.taken (length front) (front ++ rest)) ∙ ap (drop a.taken) (drop-append_seam front rest) in
     record {
       power = a.power;
       coefficient = c;

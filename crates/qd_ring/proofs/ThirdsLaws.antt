@@ -1,12 +1,7 @@
 -- What the ring object of the test computes.
-use Rattle.std.proofs.Common.{◌≡◌, ◌≢◌, ℕ, ◌+◌, ◌*◌, ◌%◌, refl, sym, ◌∙◌, ap, arith}
-use Rattle.std.proofs.Math.Nat.{mod-mod, one-mul}
+use Rattle.qd_ring.proofs.Names.{◌≡◌, ◌≢◌, ℕ, ◌+◌, ◌*◌, ◌%◌, refl, sym, ◌∙◌, ap, arith, mod-mod, one-mul, below_equal, residue, power, three, thirds, thirds_cycle, odd_power}
 use Rattle.std.proofs.lemmas.Nat.{mul-mod, mul-mod_second}
-use Rattle.algebra.specs.Below.{below_equal}
-use Rattle.algebra.specs.Residues.{residue}
-use Rattle.algebra.specs.Sums.{power}
 use Rattle.algebra.proofs.RootLaws.{power_mod}
-use Rattle.qd_ring.specs.Thirds.{three, thirds, thirds_cycle, odd_power}
 
 pub sum_residue : (a b : ℕ) → residue 3 three ((a + b) % 3) ≡ residue 3 three (a % 3 + b % 3)
 sum_residue a b = below_equal _ _ (omega arith)

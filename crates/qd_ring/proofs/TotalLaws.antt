@@ -1,22 +1,6 @@
 -- Steps of adding up a listed sum.
-use Rattle.std.proofs.Common.{◌≡◌, ◌+◌, ◌<◌, ◌≤◌, ℕ, Bool, true, false, not, ◌||◌, Some, None, ◌++◌, map, drop, refl, sym, ◌∙◌, ap, arith, zero-add, nat_lt}
-use Rattle.std.specs.Prelude.{sum_by}
-use Rattle.std.specs.List.{range_with_len}
-use Rattle.std.proofs.lemmas.Bool.{or_right, ltb-false, le-ltb}
-use Rattle.std.proofs.lemmas.List.FromFn.{take-map-range_with_len, sum_by-map-range_with_len_more}
-use mathlib.Core.Path.{ap₂}
-use Rattle.scan.specs.First.{all_below}
-use Rattle.scan.proofs.Places.{all_below-zero, all_below-step}
-use Rattle.algebra.proofs.SumLaws.{sum_zero}
-use Rattle.cyclotomic.specs.Ring.{value_sum, value_nought}
-use Rattle.cyclotomic.specs.CyclotomicRing.{CyclotomicValue, cyclotomic_ring, cyclotomic_value}
-use Rattle.cyclotomic.specs.Fit.{value_size, value_fits, greatest_magnitude, sizes_overflow}
-use Rattle.qd_ring.specs.Fit.{sum_overflows}
-use Rattle.qd_ring.specs.CyclotomicFit.{cyclotomic_fit}
-use Rattle.qd_ring.specs.declared.cyc.Cyc.{Cyc}
+use Rattle.qd_ring.proofs.Names.{◌≡◌, ◌+◌, ◌<◌, ◌≤◌, ℕ, true, false, not, ◌||◌, Some, None, map, refl, sym, ◌∙◌, ap, arith, zero-add, nat_lt, sum_by, range_with_len, ltb-false, le-ltb, sum_by-map-range_with_len_more, ap₂, all_below-zero, all_below-step, sum_zero, value_sum, value_nought, CyclotomicValue, cyclotomic_ring, cyclotomic_value, value_size, value_fits, greatest_magnitude, sizes_overflow, sum_overflows, cyclotomic_fit, Cyc, Formed, Forms, listed, IsTotal}
 use Rattle.qd_ring.proofs.ListedSums.{front_below, overflow_unless, overflow_by_step, overflow_by_size, sum_below_more}
-use Rattle.qd_ring.specs.Formed.{Formed, Forms, listed}
-use Rattle.qd_ring.specs.Totals.{IsTotal}
 
 module _ {k : ℕ} (term : ℕ → Formed k) where
   -- the sizes of the first n terms together

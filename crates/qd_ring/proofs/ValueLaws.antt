@@ -1,17 +1,7 @@
 -- Texts of values: which text is that of which coefficients.
-use Rattle.std.proofs.Common.{◌≡◌, ℕ, zero, suc, ◌-◌, ◌<◌, ◌≤◌, ◌^◌, min, Bool, true, false, ◌&&◌, List, [], ◌∷◌, ◌++◌, length, take, drop, map, get_or, refl, ap, sym, subst, ◌∙◌, inl, inr, arith, eqb, ltb, replicate, length-append, take-append-drop, Some, None}
-use Rattle.std.specs.Prelude.{ℤ, pos, negsuc, neg_ℤ, nat_abs}
-use Rattle.std.specs.List.{list_all}
-use Rattle.std.proofs.lemmas.Bool.{cases_Bool, cases_lt, eqb-true, eqb-false, and_parts, lt-ltb, le-ltb, le-leb, lt-leb, ltb-true}
-use Rattle.std.proofs.lemmas.List.{map-append, drop-replicate, length-replicate}
-use Rattle.std.proofs.Math.Nat.{min-eq_left}
-use Rattle.std.proofs.Common.{length-take}
-use mathlib.Core.Path.{ap₂}
-use Rattle.cyclotomic.specs.Fit.{size_of}
-use Rattle.qd_ring.specs.CycArrays.{is_small}
-use Rattle.qd_ring.specs.ValueText.{term_text, terms_text, value_text, or_nought, Spells}
-use Rattle.qd_ring.specs.ValueReading.{coefficients_of, term_of, term_after_sign}
-use Rattle.qd_ring.proofs.ValueTextLaws.{terms_nil, terms_nought, terms_term, term_nonempty}
+use Rattle.qd_ring.proofs.Names.{◌≡◌, ℕ, zero, suc, ◌-◌, ◌<◌, ◌≤◌, ◌^◌, min, Bool, true, false, ◌&&◌, List, [], ◌∷◌, ◌++◌, length, take, drop, map, get_or, refl, ap, sym, subst, ◌∙◌, inl, inr, arith, eqb, ltb, replicate, length-append, take-append-drop, Some, None, ℤ, pos, negsuc, neg_ℤ, nat_abs, list_all, cases_Bool, cases_lt, eqb-false, and_parts, lt-ltb, le-ltb, le-leb, lt-leb, ltb-true, map-append, drop-replicate, length-replicate, min-eq_left, length-take, ap₂, size_of, is_small, term_text, terms_text, value_text, or_nought, Spells, coefficients_of, term_of, term_after_sign}
+use Rattle.std.proofs.Math.Seq.{drop-append_seam}
+use Rattle.qd_ring.proofs.ValueTextLaws.{number_nought, empty_list, or_nought_filled, terms_nil, terms_nought, terms_term, term_nonempty}
 use Rattle.qd_ring.proofs.TermLaws.{capped}
 use Rattle.qd_ring.proofs.CoefficientLaws.{coefficients_read, coefficients_written, no_term_missed}
 
@@ -26,15 +16,11 @@ terms_padded later p n (c ∷ cs) = elim (cases_Bool (eqb (nat_abs c) 0)) [
   | inr e ↦ terms_term later p c (cs ++ replicate n (pos 0)) e ∙ ap (λ t. term_text later p c ++ t) (terms_padded true (suc p) n cs) ∙ sym (terms_term later p c cs e)
 ]
 
-is_nought : (c : ℤ) → eqb (nat_abs c) 0 ≡ true → c ≡ pos 0
-is_nought (pos n) e = ap pos (eqb-true n 0 e)
-is_nought (negsuc n) e = absurd (omega (arith, eqb-true (suc n) 0 e))
-
 -- coefficients that write nothing are zeros
 all_nought : (later : Bool) (p : ℕ) (cs : List ℤ) → terms_text later p cs ≡ [] → cs ≡ replicate (length cs) (pos 0)
 all_nought later p [] h = refl
 all_nought later p (c ∷ cs) h = elim (cases_Bool (eqb (nat_abs c) 0)) [
-  | inl e ↦ ap (λ d. d ∷ cs) (is_nought c e) ∙ ap (λ ds. pos 0 ∷ ds) (all_nought later (suc p) cs (sym (terms_nought later p c cs e) ∙ h))
+  | inl e ↦ ap (λ d. d ∷ cs) (number_nought c e) ∙ ap (λ ds. pos 0 ∷ ds) (all_nought later (suc p) cs (sym (terms_nought later p c cs e) ∙ h))
   | inr e ↦ absurd (omega (arith, term_nonempty later p c (omega (arith, eqb-false (nat_abs c) 0 e)), length-append (term_text later p c) (terms_text true (suc p) cs), ap length (sym (terms_term later p c cs e) ∙ h)))
 ]
 
@@ -122,24 +108,16 @@ module _ (text : List ℕ) (phi : ℕ) (small : phi ≤ 42) (cs : List ℤ) (s :
   read_some : 0 < length (terms_text false 0 cs) → coefficients_of phi 0 false text ≡ Some (map capped (take phi cs))
   unfolding value_text
   read_some h =
-      let filled : or_nought (terms_text false 0 cs) ≡ terms_text false 0 cs = some (terms_text false 0 cs) h in
+      let filled : or_nought (terms_text false 0 cs) ≡ terms_text false 0 cs = or_nought_filled (terms_text false 0 cs) h in
       ap (coefficients_of phi 0 false) (sym s.spelled ∙ filled ∙ sym front_terms)
       ∙ coefficients_written phi 0 false (take phi cs) front_count (omega arith) (λ l. omega (arith, h, ap length front_terms))
-    where
-      some : (t : List ℕ) → 0 < length t → or_nought t ≡ t
-      some [] h = absurd (omega arith)
-      some (x ∷ t) h = refl
 
   -- a text with none is `0`
   none_some : length (terms_text false 0 cs) ≡ 0 → (text ≡ 48 ∷ []) × (cs ≡ replicate 42 (pos 0))
   unfolding value_text
   none_some h =
-      let none : terms_text false 0 cs ≡ [] = empty (terms_text false 0 cs) h in
+      let none : terms_text false 0 cs ≡ [] = empty_list (terms_text false 0 cs) h in
       (sym s.spelled ∙ ap or_nought none, all_nought false 0 cs none ∙ ap (λ n. replicate n (pos 0)) s.count)
-    where
-      empty : (t : List ℕ) → length t ≡ 0 → t ≡ []
-      empty [] h = refl
-      empty (x ∷ t) h = absurd (omega arith)
 
 -- the capped coefficients of a text are determined
 module _ (text : List ℕ) (phi : ℕ) (small : phi ≤ 42) where
@@ -194,19 +172,11 @@ module _ (text : List ℕ) (phi : ℕ) (small : phi ≤ 42) where
         cs,
         record {
           count = length-append r.coefficients (replicate (42 - phi) (pos 0)) ∙ omega (arith, r.count, length-replicate (42 - phi) (pos 0));
-          ends = ap (λ n. drop n cs) (sym r.count) ∙ front_dropped_z r.coefficients (replicate (42 - phi) (pos 0));
-          spelled = ap or_nought terms ∙ some text (r.begun refl);
+          ends = ap (λ n. drop n cs) (sym r.count) ∙ drop-append_seam r.coefficients (replicate (42 - phi) (pos 0));
+          spelled = ap or_nought terms ∙ or_nought_filled text (r.begun refl);
         },
         map-append capped r.coefficients (replicate (42 - phi) (pos 0)) ∙ ap₂ (λ xs ys. xs ++ ys) r.cut_is (map_zeros (42 - phi) ∙ sym zeros) ∙ take-append-drop phi ds,
       )
-    where
-      some : (t : List ℕ) → 0 < length t → or_nought t ≡ t
-      some [] k = absurd (omega arith)
-      some (x ∷ t) k = refl
-
-      front_dropped_z : (xs ys : List ℤ) → drop (length xs) (xs ++ ys) ≡ ys
-      front_dropped_z [] ys = refl
-      front_dropped_z (x ∷ xs) ys = front_dropped_z xs ys
 
   pub found_small : (ds : List ℤ) → length ds ≡ 42 → drop phi ds ≡ replicate (42 - phi) (pos 0) → coefficients_of phi 0 false text ≡ Some (take phi ds) → is_small ds ≡ true → Spells text phi ds
   found_small ds count zeros h few =

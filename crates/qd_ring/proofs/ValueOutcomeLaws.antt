@@ -1,13 +1,8 @@
 -- What a text is read as is determined.
-use Rattle.std.proofs.Math.Nat.{add-sub_cancel_left}
-use Rattle.std.proofs.Common.{◌≡◌, ℕ, ◌+◌, ◌-◌, take, drop, subst, ◌≤◌, true, false, List, Result, Ok, Err, refl, ap, sym, ◌∙◌}
-use Rattle.std.specs.Prelude.{ℤ, ◌↔◌}
-use Rattle.std.proofs.lemmas.Bool.{true≢false, false≢true}
+use Rattle.qd_ring.proofs.Names.{add-sub_cancel_left, ◌≡◌, ℕ, ◌+◌, ◌-◌, take, drop, subst, ◌≤◌, true, false, List, Result, Ok, Err, refl, ap, sym, ◌∙◌, ℤ, ◌↔◌, true≢false, false≢true, is_small, Spells}
 use Rattle.qd_ring.specs.declared.plain.Plain.{Plain}
 use Rattle.qd_ring.specs.declared.plain.ValueFault.{ValueFault}
 use Rattle.qd_ring.specs.declared.plain.ValueFault.TheVariants.{NotValue, Wide}
-use Rattle.qd_ring.specs.CycArrays.{is_small}
-use Rattle.qd_ring.specs.ValueText.{Spells}
 use Rattle.qd_ring.specs.ValueOutcome.{IsRead}
 use Rattle.qd_ring.proofs.ValueLaws.{agree_small, agree_equal}
 

@@ -1,17 +1,9 @@
 -- Laws of the texts of values.
-use Rattle.std.proofs.Common.{◌≡◌, ℕ, zero, suc, ◌+◌, Bool, true, false, List, [], ◌∷◌, ◌++◌, length, take, get_or, refl, sym, ◌∙◌, ap, ◌<◌, arith, eqb}
-use Rattle.std.specs.Prelude.{ℤ, pos, negsuc, nat_abs, codes, ◌||◌}
-use mathlib.Core.List.{append_assoc}
-use Rattle.std.proofs.Common.{ltb, length-append, append-nil, inl, inr}
-use Rattle.std.proofs.Math.Nat.{add-zero, add-suc, suc-add}
-use Rattle.std.proofs.lemmas.Bool.{eqb-false, lt-ltb, le-ltb, ne_eqb, cases_Bool, cases_lt}
-use Rattle.std.proofs.lemmas.List.{take_more}
-use Rattle.std.proofs.Common.{length-take}
+use Rattle.qd_ring.proofs.Names.{◌≡◌, ℕ, zero, suc, ◌+◌, Bool, true, false, List, [], ◌∷◌, ◌++◌, length, take, get_or, refl, sym, ◌∙◌, ap, ◌<◌, arith, eqb, ℤ, pos, negsuc, nat_abs, codes, ◌||◌, append_assoc, ltb, length-append, append-nil, inl, inr, add-zero, add-suc, suc-add, eqb-false, lt-ltb, le-ltb, ne_eqb, cases_Bool, cases_lt, take_more, length-take, to_z-of_z, SFits, numeral, term_text, terms_text, or_nought, value_text}
 use Rattle.std.proofs.Common.{to_z, of_z}
 use Rattle.std.specs.Int.{w128}
-use Rattle.std.proofs.lemmas.Int.{to_z-of_z}
-use mir.Val.{SFits}
-use Rattle.qd_ring.specs.ValueText.{numeral, term_text, terms_text, or_nought, value_text}
+use Rattle.std.proofs.Math.Bool.{or-true}
+use Rattle.std.proofs.lemmas.Bool.{eqb-true}
 use Rattle.qd_ring.proofs.Fronts.{numeral_step}
 
 -- -1 + x^2, 3 - 2 x^5 and 0
@@ -30,6 +22,19 @@ terms_nought later p c cs h = ap (λ b. elim b [ true ↦ terms_text later (suc 
 pub terms_term : (later : Bool) (p : ℕ) (c : ℤ) (cs : List ℤ) → eqb (nat_abs c) 0 ≡ false → terms_text later p (c ∷ cs) ≡ term_text later p c ++ terms_text true (suc p) cs
 unfolding terms_text
 terms_term later p c cs h = ap (λ b. elim b [ true ↦ terms_text later (suc p) cs | false ↦ term_text later p c ++ terms_text true (suc p) cs ]) h
+
+-- a number whose magnitude is 0
+pub number_nought : (c : ℤ) → eqb (nat_abs c) 0 ≡ true → c ≡ pos 0
+number_nought (pos n) e = ap pos (eqb-true n 0 e)
+number_nought (negsuc n) e = absurd (omega (arith, eqb-true (suc n) 0 e))
+
+pub empty_list : (xs : List ℕ) → length xs ≡ 0 → xs ≡ []
+empty_list [] h = refl
+empty_list (x ∷ xs) h = absurd (omega arith)
+
+pub or_nought_filled : (xs : List ℕ) → 0 < length xs → or_nought xs ≡ xs
+or_nought_filled [] h = absurd (omega arith)
+or_nought_filled (x ∷ xs) h = refl
 
 -- ---- printing from the front
 
@@ -58,10 +63,6 @@ terms_of_one later p c = by (eqb (nat_abs c) 0) refl
     by true h = terms_nought later p c [] h ∙ terms_nil later (suc p) ∙ sym (one_nought later p c h)
     by false h = terms_term later p c [] h ∙ ap (λ t. term_text later p c ++ t) (terms_nil true (suc p)) ∙ append-nil (term_text later p c) ∙ sym (one_is_term later p c h)
 
-or_true : (b : Bool) → (b || true) ≡ true
-or_true true = refl
-or_true false = refl
-
 -- one more coefficient
 terms_push : (later : Bool) (p : ℕ) (xs : List ℤ) (c : ℤ) → terms_text later p (xs ++ c ∷ []) ≡ terms_text later p xs ++ one_term (later || ltb 0 (length (terms_text later p xs))) (p + length xs) c
 terms_push later p [] c = simp (terms_nil, add-zero) (terms_of_one later p c ∙ ap (λ b. one_term b p c) (unlater later))
@@ -74,7 +75,7 @@ terms_push later p (x ∷ xs) c = elim (cases_Bool (eqb (nat_abs x) 0)) [
   | inr h ↦
       let positive : 0 < nat_abs x = omega (arith, eqb-false (nat_abs x) 0 h) in
       let some : ltb 0 (length (term_text later p x ++ terms_text true (suc p) xs)) ≡ true = lt-ltb 0 _ (simp length-append (omega (arith, numeral_nonempty (nat_abs x) positive))) in
-      simp (terms_term later p x (xs ++ c ∷ []) h, terms_term later p x xs h, terms_push true (suc p) xs c, some, or_true, add-suc, suc-add)
+      simp (terms_term later p x (xs ++ c ∷ []) h, terms_term later p x xs h, terms_push true (suc p) xs c, some, or-true, add-suc, suc-add)
       (sym (append_assoc (term_text later p x) (terms_text true (suc p) xs) (one_term true (suc (p + length xs)) c)))
 ]
 
@@ -109,12 +110,8 @@ terms_more old out cs i c h e some written =
 pub value_of_none : (old out : List ℕ) (cs : List ℤ) → out ≡ old ++ terms_text false 0 cs → length out ≡ length old → out ++ 48 ∷ [] ≡ old ++ value_text cs
 unfolding value_text
 value_of_none old out cs written same =
-    let nothing : terms_text false 0 cs ≡ [] = empty (terms_text false 0 cs) (omega (arith, simp length-append at (ap length written))) in
+    let nothing : terms_text false 0 cs ≡ [] = empty_list (terms_text false 0 cs) (omega (arith, simp length-append at (ap length written))) in
     ap (λ o. o ++ 48 ∷ []) written ∙ ap (λ t. (old ++ t) ++ 48 ∷ []) nothing ∙ ap (λ o. o ++ 48 ∷ []) (append-nil old) ∙ ap (λ t. old ++ or_nought t) (sym nothing)
-  where
-    empty : (xs : List ℕ) → length xs ≡ 0 → xs ≡ []
-    empty [] h = refl
-    empty (x ∷ xs) h = absurd (omega arith)
 
 pub value_of_some : (old out : List ℕ) (cs : List ℤ) → out ≡ old ++ terms_text false 0 cs → (length out ≡ length old → ⊥) → out ≡ old ++ value_text cs
 unfolding value_text

@@ -5,16 +5,15 @@ use Rattle.std.specs.List.{list_all}
 use Rattle.cyclotomic.specs.Conductors.{conductors, is_conductor, phi_of, reductions, reduction_of}
 use Rattle.cyclotomic.specs.Fit.{size_of}
 use Rattle.cyclotomic.proofs.Tests.{at_each_conductor}
-use Rattle.cyclotomic.proofs.Checks.{is_ternary}
-use Rattle.cyclotomic.proofs.Bounds.{ternary-size}
+use borrow.Author.Tests.{leb-true}
 
-all_reductions_ternary : list_all (λ (entry : ℕ × ℕ). is_ternary (reduction_of entry.0)) conductors ≡ true
-unfolding is_ternary conductors reductions reduction_of
+all_reductions_ternary : list_all (λ (entry : ℕ × ℕ). nat_le (size_of (reduction_of entry.0)) 1) conductors ≡ true
+unfolding size_of conductors reductions reduction_of
 all_reductions_ternary = refl
 
 pub reduction_ternary : (k : ℕ) → is_conductor k ≡ true → size_of (reduction_of k) ≤ 1
 reduction_ternary k entry =
-    ternary-size (reduction_of k) (at_each_conductor (λ j. is_ternary (reduction_of j)) all_reductions_ternary k entry)
+    leb-true (size_of (reduction_of k)) 1 (at_each_conductor (λ j. nat_le (size_of (reduction_of j)) 1) all_reductions_ternary k entry)
 
 -- ---- an entry is at most 120, and at least its phi
 is_within : ℕ → Bool

@@ -18,6 +18,7 @@ pub fn reduction(k: u32) -> &'static [i8]
 }
 
 // The same, for the conductors from 4 to 24.
+#[tactic(auto, unfolding(cyclotomic::specs::Conductors::is_conductor, cyclotomic::specs::Conductors::conductors, cyclotomic::specs::Conductors::reduction_of, cyclotomic::specs::Conductors::reductions))]
 fn first_reduction(k: u32) -> &'static [i8]
     requires entry { is_conductor k ≡ true }
     requires below { k < 25 }
@@ -51,6 +52,7 @@ fn first_reduction(k: u32) -> &'static [i8]
 }
 
 // The same, for the conductors from 25 to 49.
+#[tactic(auto, unfolding(cyclotomic::specs::Conductors::is_conductor, cyclotomic::specs::Conductors::conductors, cyclotomic::specs::Conductors::reduction_of, cyclotomic::specs::Conductors::reductions))]
 fn middle_reduction(k: u32) -> &'static [i8]
     requires entry { is_conductor k ≡ true }
     requires above { 25 ≤ k }
@@ -91,6 +93,7 @@ fn middle_reduction(k: u32) -> &'static [i8]
 }
 
 // The same, for the conductors from 54 to 120.
+#[tactic(auto, unfolding(cyclotomic::specs::Conductors::is_conductor, cyclotomic::specs::Conductors::conductors, cyclotomic::specs::Conductors::reduction_of, cyclotomic::specs::Conductors::reductions))]
 fn last_reduction(k: u32) -> &'static [i8]
     requires entry { is_conductor k ≡ true }
     requires above { 54 ≤ k }

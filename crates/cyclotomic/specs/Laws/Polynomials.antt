@@ -16,10 +16,6 @@ pub plus-cons : (a b : ℤ) (p q : List ℤ) → plus (a ∷ p) (b ∷ q) ≡ (a
 unfolding plus
 plus-cons a b p q = refl
 
-pub nil-plus : (q : List ℤ) → plus [] q ≡ q
-unfolding plus
-nil-plus q = refl
-
 pub plus_comm : (p q : List ℤ) → plus p q ≡ plus q p
 unfolding plus
 plus_comm [] q = sym (plus-nil q)

@@ -1,5 +1,4 @@
-use Rattle.cyclotomic.specs.Division.{remainder}
-use Rattle.cyclotomic.specs.Laws.Remainders.{length-remainder}
+use Rattle.cyclotomic.proofs.Names.{remainder, length-remainder}
 use Rattle.cyclotomic.proofs.LongDivision.{long_division}
 use Rattle.cyclotomic.proofs.laws.division_laws.Goals as goal
 

@@ -1,6 +1,5 @@
 -- No entry is a multiple of 0, and the search goes over the column of conductors.
-use Rattle.std.proofs.Common.{◌≡◌, None, refl, ap, sym, ◌∙◌}
-use Rattle.cyclotomic.specs.Conductors.{conductors, least_conductor}
+use Rattle.cyclotomic.proofs.Names.{◌≡◌, None, refl, ap, sym, ◌∙◌, conductors, least_conductor}
 use Rattle.cyclotomic.proofs.table.conductor.Goals as goal
 
 none_of_zero : least_conductor 0 ≡ None

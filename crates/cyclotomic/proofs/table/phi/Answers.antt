@@ -1,7 +1,6 @@
 -- The table of the code is the listed one.
-use Rattle.std.proofs.Common.{ℕ, ap}
+use Rattle.cyclotomic.proofs.Names.{ℕ, ap, conductors, phi_of}
 use Rattle.std.specs.Option.{option_map_or}
-use Rattle.cyclotomic.specs.Conductors.{conductors, phi_of}
 use Rattle.cyclotomic.proofs.table.phi.Goals as goal
 
 pub returns-in-Some : goal.returns-in-Some

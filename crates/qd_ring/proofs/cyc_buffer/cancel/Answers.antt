@@ -1,10 +1,5 @@
 -- Each number is changed as in a step of long division, and every number on the way fits.
-use Rattle.std.proofs.Common.{◌≡◌, ◌^◌, ◌<◌, ◌≤◌, length, take, ap, sym, subst, ◌∙◌, refl, arith, nat_abs}
-use Rattle.std.proofs.Math.Numerals.{add-one}
-use Rattle.std.proofs.Math.Seq.{take-length}
-use mir.Syntax.{w128}
-use mir.Val.{to_z}
-use Rattle.cyclotomic.specs.Polynomial.{leading}
+use Rattle.qd_ring.proofs.Names.{◌≡◌, ◌^◌, ◌<◌, ◌≤◌, length, take, ap, sym, subst, ◌∙◌, refl, arith, nat_abs, add-one, take-length, w128, to_z, leading}
 use Rattle.qd_ring.proofs.BufferLaws.{mixed, size_at, leading_small, cancel_last, cancel_read, cancel_sign, cancel_step, cancel_nothing, mixed-cancels}
 use Rattle.qd_ring.proofs.cyc_buffer.cancel.Goals as goal
 

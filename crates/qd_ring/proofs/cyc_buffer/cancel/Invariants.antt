@@ -1,6 +1,5 @@
 -- The first j numbers are those of the step.
-use Rattle.std.proofs.Common.{◌≡◌, take}
-use Rattle.cyclotomic.specs.Polynomial.{leading}
+use Rattle.qd_ring.proofs.Names.{◌≡◌, take, leading}
 use Rattle.qd_ring.proofs.BufferLaws.{mixed}
 use Rattle.qd_ring.proofs.cyc_buffer.cancel.Given as goal
 

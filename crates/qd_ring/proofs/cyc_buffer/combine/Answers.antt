@@ -1,10 +1,5 @@
 -- Each number is changed, and every number on the way fits.
-use Rattle.std.proofs.Common.{◌≡◌, ◌^◌, ◌<◌, ◌≤◌, length, take, ap, sym, subst, ◌∙◌, refl, arith, nat_abs, neg_ℤ}
-use Rattle.std.proofs.Math.Seq.{take-length}
-use Rattle.std.proofs.lemmas.Int.{to_z-of_z}
-use mir.Syntax.{w8}
-use mir.Val.{to_z, of_z}
-use Rattle.cyclotomic.specs.Polynomial.{plus, scaled}
+use Rattle.qd_ring.proofs.Names.{◌≡◌, ◌^◌, ◌<◌, ◌≤◌, length, take, ap, sym, subst, ◌∙◌, refl, arith, nat_abs, neg_ℤ, take-length, to_z-of_z, w8, to_z, of_z, plus, scaled}
 use Rattle.qd_ring.proofs.BufferLaws.{mixed, mixed-sum, size_at, combine_read, combine_other, combine_step}
 use Rattle.qd_ring.proofs.cyc_buffer.combine.Goals as goal
 

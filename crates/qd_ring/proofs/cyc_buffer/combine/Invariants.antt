@@ -1,5 +1,5 @@
 -- The first j numbers are changed.
-use Rattle.std.proofs.Common.{◌≡◌, take}
+use Rattle.qd_ring.proofs.Names.{◌≡◌, take}
 use Rattle.qd_ring.proofs.BufferLaws.{mixed}
 use Rattle.qd_ring.proofs.cyc_buffer.combine.Given as goal
 

@@ -1,12 +1,5 @@
 -- The image of the first phi(K) places.
-use Rattle.std.proofs.Common.{length, take, ap, ◌∙◌, arith}
-use Rattle.cyclotomic.specs.Polynomial.{at_power}
-use Rattle.cyclotomic.specs.Cyclotomic.{cyclotomic}
-use Rattle.cyclotomic.specs.Ring.{value_product}
-use Rattle.cyclotomic.specs.CyclotomicRing.{cyclotomic_value, root}
-use Rattle.cyclotomic.proofs.Checks.{reduction_length}
-use Rattle.qd_ring.specs.CycArrays.{array_of}
-use Rattle.qd_ring.specs.ReductionSigns.{conductor_bounds}
+use Rattle.qd_ring.proofs.Names.{length, take, ap, ◌∙◌, arith, at_power, cyclotomic, value_product, cyclotomic_value, root, reduction_length, array_of, conductor_bounds}
 use Rattle.qd_ring.proofs.SpreadLaws.{total-take}
 use Rattle.qd_ring.proofs.ProductLaws.{image-front, empty_front, empty_length}
 use Rattle.qd_ring.proofs.cyc_buffer.image.Goals as goal

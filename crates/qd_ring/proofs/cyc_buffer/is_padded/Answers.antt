@@ -1,9 +1,5 @@
 -- The array is 42 long, and its end is tested.
-use Rattle.std.proofs.Common.{length, drop, ap, ◌∙◌, arith}
-use Rattle.std.specs.List.{list_all}
-use Rattle.cyclotomic.proofs.Checks.{reduction_length}
-use Rattle.qd_ring.specs.CycArrays.{is_nought}
-use Rattle.qd_ring.specs.ReductionSigns.{conductor_bounds}
+use Rattle.qd_ring.proofs.Names.{length, drop, ap, ◌∙◌, arith, list_all, reduction_length, is_nought, conductor_bounds}
 use Rattle.qd_ring.proofs.CycSums.{array_test}
 use Rattle.qd_ring.proofs.cyc_buffer.is_padded.Goals as goal
 

@@ -1,15 +1,6 @@
 -- The window moves down, and ends at the first places.
-use Rattle.std.proofs.Common.{◌≡◌, ◌+◌, ◌-◌, ◌^◌, ◌<◌, ◌≤◌, suc, length, take, drop, ap, sym, subst, ◌∙◌, refl, arith}
-use Rattle.std.specs.Prelude.{ℕ, ◌++◌, [], ◌∷◌, pos}
-use mathlib.Core.Path.{ap₂}
-use Rattle.cyclotomic.specs.Polynomial.{leading}
+use Rattle.qd_ring.proofs.Names.{◌≡◌, ◌+◌, ◌-◌, ◌^◌, ◌<◌, ◌≤◌, suc, length, take, drop, ap, sym, subst, ◌∙◌, refl, arith, ℕ, ◌++◌, [], ◌∷◌, pos, ap₂, leading, phi_of, reduction_of, cancelled, remainder, cyclotomic, size_of, reduction_length, reduction_ternary}
 use borrow.Rule.Slice.PartMut.{put_mid, post_of, same_len_mid}
-use Rattle.cyclotomic.specs.Conductors.{phi_of, reduction_of}
-use Rattle.cyclotomic.specs.Division.{cancelled, remainder}
-use Rattle.cyclotomic.specs.Cyclotomic.{cyclotomic}
-use Rattle.cyclotomic.specs.Fit.{size_of}
-use Rattle.cyclotomic.proofs.Checks.{reduction_length}
-use Rattle.qd_ring.specs.ReductionSigns.{reduction_ternary}
 use Rattle.qd_ring.proofs.ReduceLaws.{window_size, window_start, step_below, step_window}
 use Rattle.qd_ring.proofs.cyc_buffer.reduce.Goals as goal
 

@@ -1,8 +1,5 @@
 -- The window at the place `at` has the remainder of what stood from there on, and what stands below is untouched.
-use Rattle.std.proofs.Common.{◌≡◌, ◌+◌, ◌≤◌, take, drop, length}
-use Rattle.cyclotomic.specs.Cyclotomic.{cyclotomic}
-use Rattle.cyclotomic.specs.Conductors.{phi_of}
-use Rattle.cyclotomic.specs.Division.{remainder}
+use Rattle.qd_ring.proofs.Names.{◌≡◌, ◌+◌, ◌≤◌, take, drop, length, cyclotomic, phi_of, remainder}
 use Rattle.qd_ring.proofs.cyc_buffer.reduce.Given as goal
 
 abbrev pub decreases-loop-at : goal.decreases-loop-at

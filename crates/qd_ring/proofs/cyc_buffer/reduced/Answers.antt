@@ -1,9 +1,5 @@
 -- The remainder is copied.
-use Rattle.std.proofs.Common.{◌-◌, ◌++◌, length, take, ap, ◌∙◌, arith}
-use Rattle.cyclotomic.specs.Polynomial.{zeros}
-use Rattle.cyclotomic.specs.Conductors.{phi_of}
-use Rattle.cyclotomic.proofs.Checks.{reduction_length}
-use Rattle.qd_ring.specs.ReductionSigns.{conductor_bounds}
+use Rattle.qd_ring.proofs.Names.{◌-◌, ◌++◌, length, take, ap, ◌∙◌, arith, zeros, phi_of, reduction_length, conductor_bounds}
 use Rattle.qd_ring.proofs.ProductLaws.{array_of_remainder}
 use Rattle.qd_ring.proofs.cyc_buffer.reduced.Goals as goal
 

@@ -1,13 +1,5 @@
 -- From an empty buffer the value is what is added.
-use Rattle.std.proofs.Common.{ap, ◌∙◌, arith, length}
-use Rattle.cyclotomic.specs.Polynomial.{at_power}
-use Rattle.cyclotomic.specs.Cyclotomic.{cyclotomic}
-use Rattle.cyclotomic.specs.Ring.{value_sum, value_product}
-use Rattle.cyclotomic.specs.CyclotomicRing.{cyclotomic_value, root}
-use Rattle.cyclotomic.specs.Laws.Polynomials.{length-zeros}
-use Rattle.cyclotomic.proofs.Sizes.{total_of}
-use Rattle.qd_ring.specs.ArrayLaws.{value_of-zeros}
-use Rattle.qd_ring.specs.CycArrays.{array_of}
+use Rattle.qd_ring.proofs.Names.{ap, ◌∙◌, arith, length, at_power, cyclotomic, value_sum, value_product, cyclotomic_value, root, length-zeros, total_of, value_of-zeros, array_of}
 use Rattle.qd_ring.proofs.ProductLaws.{total-zeros, nought_sum}
 use Rattle.qd_ring.proofs.cyc_buffer.reduced_image.Goals as goal
 

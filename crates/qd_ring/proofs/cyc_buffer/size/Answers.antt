@@ -1,8 +1,5 @@
 -- One more number.
-use Rattle.std.proofs.Common.{get_or, sym, pos, rules}
-use mir.Syntax.{w128}
-use mir.Val.{SFits}
-use Rattle.cyclotomic.proofs.Sizes.{size-nil}
+use Rattle.qd_ring.proofs.Names.{get_or, sym, pos, rules, w128, SFits, size-nil}
 use Rattle.qd_ring.proofs.BufferLaws.{size_step}
 use Rattle.qd_ring.proofs.cyc_buffer.size.Goals as goal
 

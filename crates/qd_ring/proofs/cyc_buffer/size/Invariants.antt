@@ -1,6 +1,5 @@
 -- The largest magnitude so far.
-use Rattle.std.proofs.Common.{◌≡◌, take}
-use Rattle.cyclotomic.specs.Fit.{size_of}
+use Rattle.qd_ring.proofs.Names.{◌≡◌, take, size_of}
 use Rattle.qd_ring.proofs.cyc_buffer.size.Given as goal
 
 abbrev pub invariant-loop-a : goal.invariant-loop-a

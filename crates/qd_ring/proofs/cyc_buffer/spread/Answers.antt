@@ -1,15 +1,6 @@
 -- Each coefficient adds its multiple of a power of x.
-use Rattle.std.proofs.Common.{◌≡◌, ◌+◌, ◌^◌, ◌<◌, suc, take, get_or, ap, sym, subst, ◌∙◌, arith, nat_abs, pos}
-use Rattle.std.proofs.Math.Numerals.{add-one}
-use Rattle.std.proofs.Math.Nat.{mod-lt}
-use Rattle.cyclotomic.specs.Cyclotomic.{cyclotomic}
-use Rattle.cyclotomic.specs.Ring.{value_sum, value_multiple}
-use Rattle.cyclotomic.specs.CyclotomicRing.{cyclotomic_value, root}
-use Rattle.cyclotomic.specs.Laws.Values.{sum_nought}
-use Rattle.cyclotomic.proofs.Checks.{conductor_positive}
-use Rattle.cyclotomic.proofs.Sizes.{total_of}
+use Rattle.qd_ring.proofs.Names.{◌≡◌, ◌+◌, ◌^◌, ◌<◌, suc, take, get_or, ap, sym, subst, ◌∙◌, arith, nat_abs, pos, add-one, mod-lt, cyclotomic, value_sum, value_multiple, cyclotomic_value, root, sum_nought, conductor_positive, total_of, conductor_bounds}
 use Rattle.qd_ring.proofs.BufferLaws.{read_128}
-use Rattle.qd_ring.specs.ReductionSigns.{conductor_bounds}
 use Rattle.qd_ring.proofs.SpreadLaws.{spread_none, spread_step, place_start, place_next, total-take, total-take_suc}
 use Rattle.qd_ring.proofs.cyc_buffer.spread.Goals as goal
 

@@ -1,10 +1,5 @@
 -- What the coefficients so far have added.
-use Rattle.std.proofs.Common.{◌≡◌, ◌+◌, ◌*◌, ◌%◌, ◌≤◌, ◌<◌, take}
-use Rattle.cyclotomic.specs.Polynomial.{at_power}
-use Rattle.cyclotomic.specs.Cyclotomic.{cyclotomic}
-use Rattle.cyclotomic.specs.Ring.{value_sum, value_product}
-use Rattle.cyclotomic.specs.CyclotomicRing.{cyclotomic_value, root}
-use Rattle.cyclotomic.proofs.Sizes.{total_of}
+use Rattle.qd_ring.proofs.Names.{◌≡◌, ◌+◌, ◌*◌, ◌%◌, ◌≤◌, ◌<◌, take, at_power, cyclotomic, value_sum, value_product, cyclotomic_value, root, total_of}
 use Rattle.qd_ring.proofs.cyc_buffer.spread.Given as goal
 
 abbrev pub invariant-loop-a : goal.invariant-loop-a

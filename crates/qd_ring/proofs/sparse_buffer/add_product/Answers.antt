@@ -1,15 +1,5 @@
 -- Each term adds its product.
-use Rattle.std.proofs.Common.{◌+◌, ◌*◌, ◌^◌, ◌<◌, ap, sym, subst, ◌∙◌, arith, nat_abs, pos, rules, get_or}
-use mathlib.Core.Path.{ap₂}
-use Rattle.std.proofs.lemmas.Int.{to_z-of_z}
-use mir.Syntax.{w128}
-use mir.Val.{SFits}
-use Rattle.cyclotomic.specs.Cyclotomic.{cyclotomic}
-use Rattle.cyclotomic.specs.Ring.{value_sum, value_multiple, value_product}
-use Rattle.cyclotomic.specs.CyclotomicRing.{cyclotomic_value, root}
-use Rattle.cyclotomic.proofs.Sizes.{total_of}
-use Rattle.qd_ring.specs.ReductionSigns.{conductor_bounds}
-use Rattle.qd_ring.specs.SparseValues.{value_of_terms, total_of_terms}
+use Rattle.qd_ring.proofs.Names.{◌+◌, ◌*◌, ◌^◌, ◌<◌, ap, sym, subst, ◌∙◌, arith, nat_abs, pos, rules, get_or, ap₂, to_z-of_z, w128, SFits, cyclotomic, value_sum, value_multiple, value_product, cyclotomic_value, root, total_of, conductor_bounds, value_of_terms, total_of_terms}
 use Rattle.qd_ring.proofs.SparseLaws.{product_none, product_step, total_times, total_times_within}
 use Rattle.qd_ring.proofs.sparse_buffer.add_product.Goals as goal
 

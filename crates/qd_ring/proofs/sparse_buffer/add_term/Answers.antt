@@ -1,11 +1,5 @@
 -- The number that is added stands for the multiple of the term.
-use Rattle.std.proofs.Common.{ap, ◌∙◌, arith, rules}
-use mir.Syntax.{w128}
-use mir.Val.{SFits}
-use Rattle.cyclotomic.specs.Cyclotomic.{cyclotomic}
-use Rattle.cyclotomic.specs.Ring.{value_sum, value_multiple}
-use Rattle.cyclotomic.specs.CyclotomicRing.{cyclotomic_value, root}
-use Rattle.qd_ring.specs.ReductionSigns.{conductor_bounds}
+use Rattle.qd_ring.proofs.Names.{ap, ◌∙◌, arith, rules, w128, SFits, cyclotomic, value_sum, value_multiple, cyclotomic_value, root, conductor_bounds}
 use Rattle.qd_ring.proofs.SparseLaws.{read_product, term_turned}
 use Rattle.qd_ring.proofs.sparse_buffer.add_term.Goals as goal
 

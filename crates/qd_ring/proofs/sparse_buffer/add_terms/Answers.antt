@@ -1,11 +1,5 @@
 -- Each term adds its multiple.
-use Rattle.std.proofs.Common.{◌+◌, ◌*◌, ◌^◌, ◌<◌, sym, subst, arith, nat_abs, pos}
-use Rattle.std.proofs.lemmas.Int.{to_z-of_z}
-use mir.Syntax.{w128}
-use mir.Val.{to_z, of_z}
-use Rattle.cyclotomic.specs.CyclotomicRing.{cyclotomic_value, root}
-use Rattle.cyclotomic.proofs.Sizes.{total_of}
-use Rattle.qd_ring.specs.SparseValues.{total_of_terms}
+use Rattle.qd_ring.proofs.Names.{◌+◌, ◌*◌, ◌^◌, ◌<◌, sym, subst, arith, nat_abs, pos, to_z-of_z, w128, to_z, of_z, cyclotomic_value, root, total_of, total_of_terms}
 use Rattle.qd_ring.proofs.SparseLaws.{scaled_none, scaled_step, total_scaled, total_scaled_within}
 use Rattle.qd_ring.proofs.sparse_buffer.add_terms.Goals as goal
 

@@ -1,10 +1,5 @@
 -- What the terms so far have added.
-use Rattle.std.proofs.Common.{◌≡◌, ◌+◌, ◌*◌, ◌≤◌, take, nat_abs}
-use Rattle.cyclotomic.specs.Cyclotomic.{cyclotomic}
-use Rattle.cyclotomic.specs.Ring.{value_sum, value_multiple, value_product}
-use Rattle.cyclotomic.specs.CyclotomicRing.{cyclotomic_value, root}
-use Rattle.cyclotomic.proofs.Sizes.{total_of}
-use Rattle.qd_ring.specs.SparseValues.{value_of_terms, total_of_terms}
+use Rattle.qd_ring.proofs.Names.{◌≡◌, ◌+◌, ◌*◌, ◌≤◌, take, nat_abs, cyclotomic, value_sum, value_multiple, value_product, cyclotomic_value, root, total_of, value_of_terms, total_of_terms}
 use Rattle.qd_ring.proofs.sparse_buffer.add_terms.Given as goal
 
 abbrev pub invariant-loop-term : goal.invariant-loop-term

@@ -1,5 +1,5 @@
 -- The first k places of the buffer are empty.
-use Rattle.qd_ring.specs.ReductionSigns.{conductor_bounds}
+use Rattle.qd_ring.proofs.Names.{conductor_bounds}
 use Rattle.qd_ring.proofs.ProductLaws.{empty_front, empty_length}
 use Rattle.qd_ring.proofs.sparse_buffer.product.Goals as goal
 

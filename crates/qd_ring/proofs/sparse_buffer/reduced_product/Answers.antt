@@ -1,16 +1,5 @@
 -- From an empty buffer the value is what is added.
-use Rattle.std.proofs.Common.{ap, ◌∙◌, arith, length}
-use Rattle.cyclotomic.specs.Cyclotomic.{cyclotomic}
-use Rattle.cyclotomic.specs.Ring.{value_sum, value_product}
-use Rattle.cyclotomic.specs.CyclotomicRing.{cyclotomic_value, cyclotomic_ring, root}
-use Rattle.cyclotomic.specs.Laws.Polynomials.{length-zeros}
-use Rattle.cyclotomic.proofs.Checks.{conductor_positive}
-use Rattle.cyclotomic.proofs.Images.{root-zero}
-use Rattle.cyclotomic.proofs.Sizes.{total_of}
-use Rattle.algebra.proofs.RingLaws.{one_mul}
-use Rattle.qd_ring.specs.ArrayLaws.{value_of-zeros}
-use Rattle.qd_ring.specs.CycArrays.{array_of}
-use Rattle.qd_ring.specs.SparseValues.{value_of_terms}
+use Rattle.qd_ring.proofs.Names.{ap, ◌∙◌, arith, length, cyclotomic, value_sum, value_product, cyclotomic_value, cyclotomic_ring, root, length-zeros, conductor_positive, root-zero, total_of, one_mul, value_of-zeros, array_of, value_of_terms}
 use Rattle.qd_ring.proofs.ProductLaws.{total-zeros, nought_sum}
 use Rattle.qd_ring.proofs.sparse_buffer.reduced_product.Goals as goal
 

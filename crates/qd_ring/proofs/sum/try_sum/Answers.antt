@@ -1,5 +1,4 @@
-use Rattle.std.proofs.Common.{◌∙◌, sym}
-use Rattle.algebra.proofs.SumLaws.{sum_list_nil}
+use Rattle.qd_ring.proofs.Names.{◌∙◌, sym, sum_list_nil}
 use Rattle.qd_ring.proofs.ListedSums.{sum_taken, overflow_shown}
 use Rattle.qd_ring.proofs.sum.try_sum.Goals as goal
 

@@ -1,5 +1,4 @@
-use Rattle.std.proofs.Common.{◌≡◌, map, take}
-use Rattle.algebra.specs.Sums.{sum_list}
+use Rattle.qd_ring.proofs.Names.{◌≡◌, map, take, sum_list}
 use Rattle.qd_ring.proofs.sum.try_sum.Given as goal
 
 abbrev pub invariant-loop-term : goal.invariant-loop-term

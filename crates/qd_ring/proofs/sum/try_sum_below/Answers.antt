@@ -1,6 +1,4 @@
-use Rattle.std.proofs.Common.{ap, ◌∙◌, sym, arith}
-use Rattle.algebra.specs.Sums.{sum_below}
-use Rattle.algebra.proofs.SumLaws.{sum_zero}
+use Rattle.qd_ring.proofs.Names.{ap, ◌∙◌, sym, arith, sum_below, sum_zero}
 use Rattle.qd_ring.proofs.ListedSums.{overflow_by_step, overflow_by_size, sum_below_more, term_stands, term_missing}
 use Rattle.qd_ring.proofs.sum.try_sum_below.Goals as goal
 

@@ -1,6 +1,4 @@
-use Rattle.std.proofs.Common.{◌≡◌, ◌<◌, ℕ, Bool, Option}
-use Rattle.algebra.specs.Sums.{sum_below}
-use Rattle.qd_ring.specs.Fit.{IsTerm}
+use Rattle.qd_ring.proofs.Names.{◌≡◌, ◌<◌, ℕ, Bool, Option, sum_below, IsTerm}
 use Rattle.qd_ring.proofs.sum.try_sum_below.Given as goal
 
 -- the sum of the terms before i

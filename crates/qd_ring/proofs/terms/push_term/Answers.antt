@@ -1,11 +1,5 @@
 -- A coefficient that is 0 adds nothing.
-use Rattle.std.proofs.Common.{◌+◌, ap, sym, ◌∙◌, nat_abs}
-use Rattle.std.proofs.lemmas.Int.{to_z-of_z}
-use mir.Syntax.{w128}
-use mir.Val.{to_z, of_z}
-use Rattle.cyclotomic.specs.Ring.{value_sum, value_multiple}
-use Rattle.cyclotomic.specs.CyclotomicRing.{root}
-use Rattle.qd_ring.specs.SparseValues.{value_of_terms, total_of_terms}
+use Rattle.qd_ring.proofs.Names.{◌+◌, ap, sym, ◌∙◌, nat_abs, to_z-of_z, w128, to_z, of_z, value_sum, value_multiple, root, value_of_terms, total_of_terms}
 use Rattle.qd_ring.proofs.SparseLaws.{total-push, value-push, value_unchanged}
 use Rattle.qd_ring.proofs.terms.push_term.Goals as goal
 

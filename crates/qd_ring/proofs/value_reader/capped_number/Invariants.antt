@@ -1,5 +1,4 @@
-use Rattle.std.proofs.Common.{◌≡◌, ◌≤◌, min, take}
-use Rattle.qd_ring.specs.ValueReading.{number}
+use Rattle.qd_ring.proofs.Names.{◌≡◌, ◌≤◌, min, take, number}
 use Rattle.qd_ring.proofs.value_reader.capped_number.Given as goal
 
 -- the number of the digits so far, capped

@@ -1,10 +1,8 @@
-use Rattle.std.proofs.Common.{rules, ◌<◌, arith, length}
+use Rattle.qd_ring.proofs.Names.{rules, ◌<◌, arith, length, to_z-of_z, SFits}
 use Rattle.std.specs.Int.{w128}
-use Rattle.std.proofs.lemmas.Int.{to_z-of_z}
-use mir.Val.{SFits}
 use Rattle.qd_ring.proofs.ReadingSteps.{rest_read, term_longer, read_term_more, read_low, read_high, read_no_term, read_all, read_empty, read_zeros}
-use Rattle.qd_ring.proofs.value_reader.read_coefficients.Goals as goal
 use Rattle.qd_ring.proofs.value_reader.read_coefficients.Goals.{then-term-next-via-then-term-next, then-term-next-via-else-term-next+then-phi-term}
+use Rattle.qd_ring.proofs.value_reader.read_coefficients.Goals as goal
 
 pub returns-in_default-clause-none : goal.returns-in_default-clause-none
 returns-in_default-clause-none c =

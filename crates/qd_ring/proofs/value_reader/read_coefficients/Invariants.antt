@@ -1,4 +1,4 @@
-use Rattle.std.proofs.Common.{◌-◌, length}
+use Rattle.qd_ring.proofs.Names.{◌-◌, length}
 use Rattle.qd_ring.proofs.ReadingSteps.{ReadSoFar}
 use Rattle.qd_ring.proofs.value_reader.read_coefficients.Given as goal
 

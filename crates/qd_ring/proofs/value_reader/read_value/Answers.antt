@@ -1,9 +1,7 @@
-use Rattle.std.proofs.Common.{sym, ◌∙◌, ap, subst, replicate, length, get_or}
-use Rattle.std.specs.Prelude.{pos}
-use Rattle.qd_ring.specs.ValueText.{Spells}
+use Rattle.qd_ring.proofs.Names.{sym, ◌∙◌, ap, subst, replicate, length, get_or, pos, Spells}
 use Rattle.qd_ring.proofs.ValueLaws.{one_byte, nought_spelled, nought_small, small_all, unread, found_small, found_wide}
-use Rattle.qd_ring.proofs.value_reader.read_value.Goals as goal
 use Rattle.qd_ring.proofs.value_reader.read_value.Goals.{else-text-eq1-via-then-text-eq1+else-text-eq48, else-text-eq1-via-else-text-eq1}
+use Rattle.qd_ring.proofs.value_reader.read_value.Goals as goal
 
 pub returns-then-text-eq48 : goal.returns-then-text-eq48
 returns-then-text-eq48 c =

@@ -1,4 +1,4 @@
-use Rattle.std.proofs.Common.{◌∙◌, ap, ◌++◌, arith}
+use Rattle.qd_ring.proofs.Names.{◌∙◌, ap, ◌++◌, arith}
 use Rattle.qd_ring.proofs.Fronts.{decimal_is_numeral}
 use Rattle.qd_ring.proofs.value_text.append_numeral.Goals as goal
 

@@ -1,8 +1,5 @@
-use Rattle.std.proofs.Common.{◌∙◌, ap, ◌++◌, refl}
+use Rattle.qd_ring.proofs.Names.{◌∙◌, ap, ◌++◌, refl, nat_abs, to_z-of_z, sign_text, numeral, power_text}
 use Rattle.std.specs.Int.{w128}
-use Rattle.std.specs.Prelude.{nat_abs}
-use Rattle.std.proofs.lemmas.Int.{to_z-of_z}
-use Rattle.qd_ring.specs.ValueText.{sign_text, numeral, power_text}
 use Rattle.qd_ring.proofs.ValueTextLaws.{term_joined}
 use Rattle.qd_ring.proofs.value_text.append_term.Goals as goal
 

@@ -1,21 +1,17 @@
-use Rattle.std.proofs.Common.{◌∙◌, ap, sym, ◌++◌, false, rules, ltb, [], take, length, get_or, to_z, of_z}
-use Rattle.std.specs.Prelude.{pos}
+use Rattle.qd_ring.proofs.Names.{◌∙◌, ap, sym, ◌++◌, false, rules, ltb, [], take, length, get_or, pos, to_z-of_z, SFits, ap₂, append-nil, term_text}
+use Rattle.std.proofs.Common.{to_z, of_z}
 use Rattle.std.specs.Int.{w128}
-use Rattle.std.proofs.lemmas.Int.{to_z-of_z}
-use mir.Val.{SFits}
-use mathlib.Core.Path.{ap₂}
-use Rattle.std.proofs.lemmas.List.{append-nil}
-use Rattle.qd_ring.specs.ValueText.{term_text}
-use Rattle.qd_ring.proofs.Fronts.{front_append, front_trans}
+use Rattle.std.proofs.Math.Seq.{take-append_seam}
+use Rattle.qd_ring.proofs.Fronts.{front_trans}
 use Rattle.qd_ring.proofs.ValueTextLaws.{terms_nil, terms_skip, terms_more, nonzero_from_bits, zero_from_bits}
-use Rattle.qd_ring.proofs.value_text.append_terms.Goals as goal
 use Rattle.qd_ring.proofs.value_text.append_terms.Goals.{then-coefficient-ne0+in_ok-append_term, else-coefficient-ne0}
+use Rattle.qd_ring.proofs.value_text.append_terms.Goals as goal
 
 pub loop-power-init : goal.loop-power-init
 loop-power-init c = record {
   start = c.len-start.ensures ∙ c.args.out.now.ok.0;
   written = sym (ap (λ t. c.args.out.now.items ++ t) (terms_nil false 0) ∙ append-nil c.args.out.now.items);
-  front = ap (take (length c.args.out.now.items)) (sym (append-nil c.args.out.now.items)) ∙ front_append c.args.out.now.items [];
+  front = ap (take (length c.args.out.now.items)) (sym (append-nil c.args.out.now.items)) ∙ take-append_seam c.args.out.now.items [];
 }
 
 pub loop-power-preserved : goal.loop-power-preserved

@@ -1,5 +1,4 @@
-use Rattle.std.proofs.Common.{◌≡◌, ◌++◌, length, take, false}
-use Rattle.qd_ring.specs.ValueText.{terms_text}
+use Rattle.qd_ring.proofs.Names.{◌≡◌, ◌++◌, length, take, false, terms_text}
 use Rattle.qd_ring.proofs.value_text.append_terms.Given as goal
 
 abbrev pub invariant-loop-power : goal.invariant-loop-power

@@ -1,4 +1,4 @@
-use Rattle.std.proofs.Common.{◌∙◌, arith}
+use Rattle.qd_ring.proofs.Names.{◌∙◌, arith}
 use Rattle.qd_ring.proofs.ValueTextLaws.{value_of_none, value_of_some}
 use Rattle.qd_ring.proofs.value_text.append_value.Goals as goal
 

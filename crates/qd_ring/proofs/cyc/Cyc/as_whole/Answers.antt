@@ -1,6 +1,5 @@
 -- A whole number is its array: the number, then zeros.
-use Rattle.std.proofs.Common.{◌∷◌, [], ap, sym, ◌∙◌, arith, get_or, pos}
-use Rattle.cyclotomic.specs.CyclotomicRing.{cyclotomic_value}
+use Rattle.qd_ring.proofs.Names.{◌∷◌, [], ap, sym, ◌∙◌, arith, get_or, pos, cyclotomic_value}
 use Rattle.qd_ring.proofs.BufferLaws.{read_128, size_at}
 use Rattle.qd_ring.proofs.CycLaws.{small_means}
 use Rattle.qd_ring.proofs.CycSums.{whole_value, not_whole}

@@ -1,5 +1,5 @@
 -- A place of the array is a coefficient, and there are none past its end.
-use Rattle.std.proofs.Common.{◌∙◌, arith, get_or, pos}
+use Rattle.qd_ring.proofs.Names.{◌∙◌, arith, get_or, pos}
 use Rattle.qd_ring.proofs.BufferLaws.{read_128, size_at}
 use Rattle.qd_ring.proofs.CycLaws.{small_means}
 use Rattle.qd_ring.proofs.CycSums.{coefficient_at, coefficient_beyond}

@@ -1,11 +1,5 @@
 -- The multiple of 1 by the root.
-use Rattle.std.proofs.Common.{ap, ◌∙◌, arith}
-use Rattle.cyclotomic.specs.Cyclotomic.{cyclotomic}
-use Rattle.cyclotomic.specs.Ring.{value_product}
-use Rattle.cyclotomic.specs.CyclotomicRing.{cyclotomic_value, root}
-use Rattle.cyclotomic.specs.Laws.Values.{product_one}
-use Rattle.qd_ring.specs.CycArrays.{array_of}
-use Rattle.qd_ring.specs.ReductionSigns.{conductor_bounds}
+use Rattle.qd_ring.proofs.Names.{ap, ◌∙◌, arith, cyclotomic, value_product, cyclotomic_value, root, product_one, array_of, conductor_bounds}
 use Rattle.qd_ring.proofs.ProductLaws.{value-array_of}
 use Rattle.qd_ring.proofs.CycLaws.{small_total, array-is, times_alone}
 use Rattle.qd_ring.proofs.CycSums.{root_array_small}

@@ -1,6 +1,5 @@
 -- The value has the size of its array.
-use Rattle.qd_ring.specs.ArrayLaws.{size-value}
-use Rattle.std.proofs.Common.{sym, ◌∙◌}
+use Rattle.qd_ring.proofs.Names.{size-value, sym, ◌∙◌}
 use Rattle.qd_ring.proofs.cyc.Cyc.size.Goals as goal
 
 pub returns : goal.returns

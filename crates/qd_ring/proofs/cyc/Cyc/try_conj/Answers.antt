@@ -1,10 +1,5 @@
 -- The image is formed, and fits where its size does.
-use Rattle.std.proofs.Common.{◌-◌, ap, ◌∙◌, arith, lit<}
-use Rattle.cyclotomic.specs.Cyclotomic.{cyclotomic}
-use Rattle.cyclotomic.specs.Ring.{value_product}
-use Rattle.cyclotomic.specs.CyclotomicRing.{cyclotomic_value, galois_image, conjugate, root}
-use Rattle.cyclotomic.proofs.Checks.{conductor_positive}
-use Rattle.qd_ring.specs.CycArrays.{array_of}
+use Rattle.qd_ring.proofs.Names.{◌-◌, ap, ◌∙◌, arith, lit<, cyclotomic_value, conductor_positive, array_of}
 use Rattle.qd_ring.proofs.CycLaws.{small_total, array-is, image_alone}
 use Rattle.qd_ring.proofs.cyc.Cyc.try_conj.Goals as goal
 
@@ -23,15 +18,11 @@ image-requires-clause-room g c =
 
 pub fitted-requires : goal.fitted-requires
 fitted-requires g c =
-    let u = cyclotomic_value g.row.K c.args.self.now.coefficients in
-    (lit< tt, (c.args.self.now.conductor, array-is g.row.K c.args.self.now.conductor (value_product (cyclotomic g.row.K) (root g.row.K 0) (galois_image g.row.K (g.row.K - 1) u)) c.image.result c.image.ensures))
+    let a = c.args.self.now in
+    (lit< tt, (a.conductor, array-is g.row.K a.conductor _ c.image.result c.image.ensures))
 
-pub returns-clause-fits : goal.returns-clause-fits
-returns-clause-fits g c =
-    let u = cyclotomic_value g.row.K c.args.self.now.coefficients in
-    c.fitted.ensures.fits (conjugate g.row.K u) (c.image.ensures ∙ ap array_of (image_alone g.row.K c.args.self.now.conductor (g.row.K - 1) u))
-
-pub returns-clause-value : goal.returns-clause-value
-returns-clause-value g c =
-    let u = cyclotomic_value g.row.K c.args.self.now.coefficients in
-    c.fitted.ensures.value (conjugate g.row.K u) (c.image.ensures ∙ ap array_of (image_alone g.row.K c.args.self.now.conductor (g.row.K - 1) u))
+pub returns : goal.returns
+returns g c =
+    let a = c.args.self.now in
+    let is = c.image.ensures ∙ ap array_of (image_alone g.row.K a.conductor (g.row.K - 1) (cyclotomic_value g.row.K a.coefficients)) in
+    record { fits = c.fitted.ensures.fits _ is; value = c.fitted.ensures.value _ is }

@@ -1,11 +1,5 @@
 -- The image is formed, and fits where its size does.
-use Rattle.std.proofs.Common.{◌%◌, ap, ◌∙◌, lit<}
-use Rattle.std.proofs.Math.Nat.{mod-lt}
-use Rattle.cyclotomic.specs.Cyclotomic.{cyclotomic}
-use Rattle.cyclotomic.specs.Ring.{value_product}
-use Rattle.cyclotomic.specs.CyclotomicRing.{cyclotomic_value, galois_image, root}
-use Rattle.cyclotomic.proofs.Checks.{conductor_positive}
-use Rattle.qd_ring.specs.CycArrays.{array_of}
+use Rattle.qd_ring.proofs.Names.{ap, ◌∙◌, lit<, mod-lt, cyclotomic_value, conductor_positive, array_of}
 use Rattle.qd_ring.proofs.CycLaws.{small_total, array-is, image_modulo}
 use Rattle.qd_ring.proofs.cyc.Cyc.try_galois.Goals as goal
 
@@ -24,15 +18,11 @@ image-requires-clause-room g c =
 
 pub fitted-requires : goal.fitted-requires
 fitted-requires g c =
-    let u = cyclotomic_value g.row.K c.args.self.now.coefficients in
-    (lit< tt, (c.args.self.now.conductor, array-is g.row.K c.args.self.now.conductor (value_product (cyclotomic g.row.K) (root g.row.K 0) (galois_image g.row.K (c.args.t % g.row.K) u)) c.image.result c.image.ensures))
+    let a = c.args.self.now in
+    (lit< tt, (a.conductor, array-is g.row.K a.conductor _ c.image.result c.image.ensures))
 
-pub returns-clause-fits : goal.returns-clause-fits
-returns-clause-fits g c =
-    let u = cyclotomic_value g.row.K c.args.self.now.coefficients in
-    c.fitted.ensures.fits (galois_image g.row.K c.args.t u) (c.image.ensures ∙ ap array_of (image_modulo g.row.K c.args.self.now.conductor c.args.t u))
-
-pub returns-clause-value : goal.returns-clause-value
-returns-clause-value g c =
-    let u = cyclotomic_value g.row.K c.args.self.now.coefficients in
-    c.fitted.ensures.value (galois_image g.row.K c.args.t u) (c.image.ensures ∙ ap array_of (image_modulo g.row.K c.args.self.now.conductor c.args.t u))
+pub returns : goal.returns
+returns g c =
+    let a = c.args.self.now in
+    let is = c.image.ensures ∙ ap array_of (image_modulo g.row.K a.conductor c.args.t (cyclotomic_value g.row.K a.coefficients)) in
+    record { fits = c.fitted.ensures.fits _ is; value = c.fitted.ensures.value _ is }

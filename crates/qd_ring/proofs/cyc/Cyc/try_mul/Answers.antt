@@ -1,11 +1,5 @@
 -- The product of the sparse forms.
-use Rattle.std.proofs.Common.{◌≡◌, subst, ◌∙◌}
-use mathlib.Core.Path.{ap₂}
-use Rattle.cyclotomic.specs.Cyclotomic.{cyclotomic}
-use Rattle.cyclotomic.specs.Fit.{product_fits}
-use Rattle.cyclotomic.specs.Ring.{value_product}
-use Rattle.cyclotomic.specs.CyclotomicRing.{cyclotomic_value}
-use Rattle.std.specs.Prelude.{IfSome}
+use Rattle.qd_ring.proofs.Names.{◌≡◌, subst, ◌∙◌, ap₂, cyclotomic, product_fits, value_product, cyclotomic_value, IfSome}
 use Rattle.qd_ring.proofs.cyc.Cyc.try_mul.Goals as goal
 
 pub returns-clause-fits : goal.returns-clause-fits

@@ -1,10 +1,5 @@
 -- The image is formed, and fits where its size does.
-use Rattle.std.proofs.Common.{ap, ◌∙◌, arith, lit<}
-use Rattle.cyclotomic.specs.Cyclotomic.{cyclotomic}
-use Rattle.cyclotomic.specs.Ring.{value_product}
-use Rattle.cyclotomic.specs.CyclotomicRing.{cyclotomic_value, galois_image, root}
-use Rattle.qd_ring.specs.CycArrays.{array_of}
-use Rattle.qd_ring.specs.ReductionSigns.{conductor_bounds}
+use Rattle.qd_ring.proofs.Names.{ap, ◌∙◌, arith, lit<, cyclotomic, value_product, cyclotomic_value, root, array_of, conductor_bounds}
 use Rattle.qd_ring.proofs.CycLaws.{small_total, array-is, times_alone}
 use Rattle.qd_ring.proofs.cyc.Cyc.try_times.Goals as goal
 
@@ -19,15 +14,13 @@ image-requires-clause-room g c =
 
 pub fitted-requires : goal.fitted-requires
 fitted-requires g c =
-    let u = cyclotomic_value g.row.K c.args.self.now.coefficients in
-    (lit< tt, (c.args.self.now.conductor, array-is g.row.K c.args.self.now.conductor (value_product (cyclotomic g.row.K) (root g.row.K c.exponent.result) (galois_image g.row.K 1 u)) c.image.result c.image.ensures))
+    let a = c.args.self.now in
+    (lit< tt, (a.conductor, array-is g.row.K a.conductor _ c.image.result c.image.ensures))
 
-pub returns-clause-fits : goal.returns-clause-fits
-returns-clause-fits g c =
-    let u = cyclotomic_value g.row.K c.args.self.now.coefficients in
-    c.fitted.ensures.fits (value_product (cyclotomic g.row.K) (root g.row.K c.args.r.exponent) u) (c.image.ensures ∙ ap array_of (times_alone g.row.K c.args.self.now.conductor c.exponent.result u ∙ ap (λ e. value_product (cyclotomic g.row.K) (root g.row.K e) u) c.exponent.ensures.exponent))
-
-pub returns-clause-value : goal.returns-clause-value
-returns-clause-value g c =
-    let u = cyclotomic_value g.row.K c.args.self.now.coefficients in
-    c.fitted.ensures.value (value_product (cyclotomic g.row.K) (root g.row.K c.args.r.exponent) u) (c.image.ensures ∙ ap array_of (times_alone g.row.K c.args.self.now.conductor c.exponent.result u ∙ ap (λ e. value_product (cyclotomic g.row.K) (root g.row.K e) u) c.exponent.ensures.exponent))
+pub returns : goal.returns
+returns g c =
+    let k = g.row.K in
+    let a = c.args.self.now in
+    let u = cyclotomic_value k a.coefficients in
+    let is = c.image.ensures ∙ ap array_of (times_alone k a.conductor c.exponent.result u ∙ ap (λ e. value_product (cyclotomic k) (root k e) u) c.exponent.ensures.exponent) in
+    record { fits = c.fitted.ensures.fits _ is; value = c.fitted.ensures.value _ is }

@@ -1,10 +1,5 @@
 -- One number, then zeros.
-use Rattle.std.proofs.Common.{◌∷◌, ap, ◌∙◌}
-use Rattle.cyclotomic.specs.CyclotomicRing.{cyclotomic_value}
-use Rattle.std.proofs.lemmas.Int.{to_z-of_z}
-use Rattle.cyclotomic.specs.Polynomial.{zeros}
-use Rattle.qd_ring.specs.CycArrays.{is_array, is_small}
-use mir.Syntax.{w128}
+use Rattle.qd_ring.proofs.Names.{◌∷◌, ap, ◌∙◌, cyclotomic_value, to_z-of_z, zeros, is_array, is_small, w128}
 use Rattle.qd_ring.proofs.CycSums.{constant_array, constant_small, constant_value}
 use Rattle.qd_ring.proofs.cyc.Cyc.whole.Goals as goal
 

@@ -1,5 +1,5 @@
 -- The array of zeros.
-use Rattle.std.proofs.Common.{arith, pos}
+use Rattle.qd_ring.proofs.Names.{arith, pos}
 use Rattle.qd_ring.proofs.CycSums.{constant_array, constant_small, zero_value}
 use Rattle.qd_ring.proofs.cyc.Cyc.zero.Goals as goal
 

@@ -1,9 +1,5 @@
 -- A negative has the size of the value, so it fits.
-use Rattle.std.proofs.Common.{◌≡◌, true, ap, ◌∙◌, rules}
-use Rattle.cyclotomic.specs.Cyclotomic.{cyclotomic}
-use Rattle.cyclotomic.specs.Ring.{value_sum, value_negative}
-use Rattle.cyclotomic.specs.CyclotomicRing.{cyclotomic_value}
-use Rattle.cyclotomic.specs.Fit.{value_fits}
+use Rattle.qd_ring.proofs.Names.{◌≡◌, true, ap, ◌∙◌, rules, cyclotomic, value_sum, value_negative, cyclotomic_value, value_fits}
 use Rattle.qd_ring.proofs.ProductLaws.{nought_sum}
 use Rattle.qd_ring.proofs.CycSums.{negative_fits}
 use Rattle.qd_ring.proofs.cyc_ops.CycNeg.neg.Goals as goal

@@ -1,7 +1,6 @@
 -- Arrays that stand for one value are one.
-use Rattle.std.proofs.Common.{◌≡◌, ap, sym, ◌∙◌}
+use Rattle.qd_ring.proofs.Names.{◌≡◌, ap, sym, ◌∙◌, cyclotomic_value}
 use Rattle.std.specs.Cmp.Rules.{signed_items}
-use Rattle.cyclotomic.specs.CyclotomicRing.{cyclotomic_value}
 use Rattle.qd_ring.proofs.CycSums.{arrays_same}
 use Rattle.qd_ring.proofs.cyc_ring_laws.CycRingRing.same.Goals as goal
 

@@ -1,9 +1,5 @@
 -- The root with exponent e modulo K is the power of x.
-use Rattle.std.proofs.Common.{◌≡◌, ap, subst, ◌∙◌, IfSome}
-use Rattle.cyclotomic.specs.Cyclotomic.{cyclotomic}
-use Rattle.cyclotomic.specs.Ring.{value_product}
-use Rattle.cyclotomic.specs.CyclotomicRing.{cyclotomic_value, root}
-use Rattle.cyclotomic.specs.Fit.{value_fits}
+use Rattle.qd_ring.proofs.Names.{◌≡◌, ap, subst, ◌∙◌, IfSome, cyclotomic, value_product, cyclotomic_value, root, value_fits}
 use Rattle.qd_ring.proofs.CycSums.{scaled_by_power}
 use Rattle.qd_ring.proofs.cyc_ring_laws.CycRingRing.try_scale.Goals as goal
 

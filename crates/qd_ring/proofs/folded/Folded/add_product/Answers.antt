@@ -1,11 +1,5 @@
 -- What is added is the product times the root, and the bound grows by the product of the totals.
-use Rattle.std.proofs.Common.{◌≡◌, ◌+◌, ◌*◌, ap, sym, ◌∙◌, arith, length}
-use mathlib.Core.Path.{ap₂}
-use Rattle.cyclotomic.specs.CyclotomicRing.{cyclotomic_value}
-use Rattle.cyclotomic.specs.Ring.{value_sum}
-use Rattle.qd_ring.specs.ReductionSigns.{conductor_bounds}
-use Rattle.qd_ring.specs.SparseValues.{value_of_terms, total_of_terms}
-use Rattle.qd_ring.specs.Folding.{turned_product, folded_value}
+use Rattle.qd_ring.proofs.Names.{◌≡◌, ◌+◌, ◌*◌, ap, sym, ◌∙◌, arith, length, ap₂, cyclotomic_value, value_sum, conductor_bounds, value_of_terms, total_of_terms, turned_product, folded_value}
 use Rattle.qd_ring.proofs.FoldingLaws.{folded_more, folded_same, buffer_front, buffer_value}
 use Rattle.qd_ring.proofs.folded.Folded.add_product.Goals as goal
 

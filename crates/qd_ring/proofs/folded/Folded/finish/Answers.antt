@@ -1,7 +1,5 @@
 -- The remainder of the buffer, which is within the bound.
-use Rattle.std.proofs.Common.{ap, ◌∙◌, ◌<◌, ◌^◌, subst, sym, arith, take}
-use Rattle.cyclotomic.specs.CyclotomicRing.{cyclotomic_value}
-use Rattle.qd_ring.specs.ReductionSigns.{conductor_bounds}
+use Rattle.qd_ring.proofs.Names.{ap, ◌∙◌, ◌<◌, ◌^◌, subst, sym, arith, take, cyclotomic_value, conductor_bounds}
 use Rattle.qd_ring.proofs.ProductLaws.{value-array_of}
 use Rattle.qd_ring.proofs.CycLaws.{array-is}
 use Rattle.qd_ring.proofs.FoldingLaws.{folded_all, buffer_front, reduced_small}
@@ -27,18 +25,15 @@ invariant_of-result g c =
       small = reduced_small k entry (take k c.self.inside.coefficients) c.reduced.result c.reduced.ensures (omega (arith, c.self.invariant.within, c.self.invariant.small));
     }
 
-pub returns-clause-value : goal.returns-clause-value
-returns-clause-value g c =
+pub returns : goal.returns
+returns g c =
     let k = g.row.K in
-    ap (cyclotomic_value k) c.reduced.ensures
+    let value = ap (cyclotomic_value k) c.reduced.ensures
     ∙ value-array_of k c.self.invariant.conductor (cyclotomic_value k (take k c.self.inside.coefficients))
-    ∙ ap (λ f. cyclotomic_value k (take k f.coefficients)) c.self.view_is
-
-pub returns-clause-listed : goal.returns-clause-listed
-returns-clause-listed g c = λ term n folded.
-    let k = g.row.K in
-    folded_all k term n (cyclotomic_value k (take k c.args.self.now.coefficients)) c.args.self.now.bound _
-    (subst (λ f. f.bound < 2 ^ 108) c.self.view_is c.self.invariant.small) folded
-    (ap (cyclotomic_value k) c.reduced.ensures
-    ∙ value-array_of k c.self.invariant.conductor (cyclotomic_value k (take k c.self.inside.coefficients))
-    ∙ ap (λ f. cyclotomic_value k (take k f.coefficients)) c.self.view_is)
+    ∙ ap (λ f. cyclotomic_value k (take k f.coefficients)) c.self.view_is in
+    record {
+      value = value;
+      listed = λ term n folded.
+          folded_all k term n (cyclotomic_value k (take k c.args.self.now.coefficients)) c.args.self.now.bound _
+          (subst (λ f. f.bound < 2 ^ 108) c.self.view_is c.self.invariant.small) folded value;
+    }

@@ -1,11 +1,5 @@
 -- A buffer of zeros.
-use Rattle.std.proofs.Common.{ap, ◌∙◌, subst, sym, arith}
-use Rattle.cyclotomic.specs.Cyclotomic.{cyclotomic}
-use Rattle.cyclotomic.specs.CyclotomicRing.{cyclotomic_value}
-use Rattle.cyclotomic.proofs.Sizes.{total_of}
-use Rattle.cyclotomic.specs.Laws.Polynomials.{length-zeros}
-use Rattle.qd_ring.specs.ArrayLaws.{value_of-zeros}
-use Rattle.qd_ring.specs.Folding.{IsFolded}
+use Rattle.qd_ring.proofs.Names.{ap, ◌∙◌, subst, sym, arith, cyclotomic, cyclotomic_value, total_of, length-zeros, value_of-zeros, IsFolded}
 use Rattle.qd_ring.proofs.ProductLaws.{empty_front, total-zeros}
 use Rattle.qd_ring.proofs.FoldingLaws.{folded_none}
 use Rattle.qd_ring.proofs.folded.Folded.zero.Goals as goal

@@ -1,5 +1,4 @@
-use Rattle.std.proofs.Math.Nat.{mod-lt}
-use Rattle.cyclotomic.proofs.Checks.{conductor_positive}
+use Rattle.qd_ring.proofs.Names.{mod-lt, conductor_positive}
 use Rattle.qd_ring.proofs.root.Root.new.Goals as goal
 
 pub nonzero_rem-result : goal.nonzero_rem-result

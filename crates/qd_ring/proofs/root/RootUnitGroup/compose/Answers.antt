@@ -1,4 +1,4 @@
-use Rattle.algebra.specs.Below.{below_equal}
+use Rattle.qd_ring.proofs.Names.{below_equal}
 use Rattle.qd_ring.proofs.root.RootUnitGroup.compose.Goals as goal
 
 pub returns : goal.returns

@@ -1,5 +1,4 @@
-use Rattle.std.proofs.Common.{refl}
-use Rattle.algebra.specs.Below.{below_equal}
+use Rattle.qd_ring.proofs.Names.{refl, below_equal}
 use Rattle.qd_ring.proofs.root.RootUnitGroup.inverse.Goals as goal
 
 pub returns : goal.returns

@@ -1,7 +1,4 @@
-use Rattle.std.proofs.Common.{sym}
-use Rattle.std.proofs.Math.Nat.{zero-mod}
-use Rattle.algebra.specs.Below.{below_equal}
-use Rattle.cyclotomic.proofs.Checks.{conductor_positive}
+use Rattle.qd_ring.proofs.Names.{sym, zero-mod, below_equal, conductor_positive}
 use Rattle.qd_ring.proofs.root.RootUnitGroup.one.Goals as goal
 
 pub invariant_of-result : goal.invariant_of-result

@@ -1,5 +1,4 @@
-use Rattle.std.proofs.Common.{◌-◌, ◌∙◌, ap, sym, subst, ◌+◌, ◌<◌, ◌^◌, length, map, arith, length-set}
-use Rattle.qd_ring.specs.RowLists.{row_at, with_value}
+use Rattle.qd_ring.proofs.Names.{◌-◌, ◌∙◌, ap, sym, subst, ◌+◌, ◌<◌, ◌^◌, length, map, arith, length-set, row_at, with_value}
 use Rattle.qd_ring.proofs.RowSteps.{view_kept, view_pushed, widths_pushed, on_error, last_row}
 use Rattle.qd_ring.proofs.rows.Rows.push_value.Goals as goal
 

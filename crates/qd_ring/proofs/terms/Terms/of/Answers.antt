@@ -1,20 +1,7 @@
 -- The coefficients that aren't 0 stand for the value.
-use Rattle.std.proofs.Common.{◌≡◌, ◌+◌, ◌<◌, suc, length, take, get_or, ap, sym, ◌∙◌, arith, nat_abs, pos}
-use mathlib.Core.Path.{ap₂}
-use Rattle.std.proofs.Math.Numerals.{add-one}
-use Rattle.cyclotomic.specs.Cyclotomic.{cyclotomic}
-use Rattle.cyclotomic.specs.Conductors.{phi_of}
-use Rattle.cyclotomic.specs.Ring.{value_sum, value_multiple}
-use Rattle.cyclotomic.specs.CyclotomicRing.{cyclotomic_value, root}
-use Rattle.cyclotomic.specs.Fit.{value_size}
-use Rattle.cyclotomic.proofs.Checks.{reduction_length}
-use Rattle.cyclotomic.proofs.Sizes.{total_of}
-use Rattle.qd_ring.specs.ArrayLaws.{array_length, value-front, size-value}
-use Rattle.qd_ring.specs.ReductionSigns.{conductor_bounds}
-use Rattle.qd_ring.specs.SparseValues.{value_of_terms, total_of_terms}
+use Rattle.qd_ring.proofs.Names.{◌≡◌, ◌+◌, ◌<◌, suc, length, take, get_or, ap, sym, ◌∙◌, arith, nat_abs, pos, ap₂, add-one, cyclotomic, phi_of, value_sum, value_multiple, cyclotomic_value, root, value_size, reduction_length, total_of, array_length, value-front, size-value, conductor_bounds, value_of_terms, total_of_terms, value_of-nil}
 use Rattle.qd_ring.proofs.BufferLaws.{read_128, size_at, value-take_suc}
 use Rattle.qd_ring.proofs.SpreadLaws.{total-take, total-take_suc}
-use Rattle.cyclotomic.specs.Laws.Values.{value_of-nil}
 use Rattle.qd_ring.proofs.ProductLaws.{total-zeros}
 use Rattle.qd_ring.proofs.CycLaws.{small_means, small_total, total_bound}
 use Rattle.qd_ring.proofs.SparseLaws.{total-none, value-none}

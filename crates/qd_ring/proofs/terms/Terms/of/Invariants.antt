@@ -1,8 +1,5 @@
 -- The coefficients so far.
-use Rattle.std.proofs.Common.{◌≡◌, ◌≤◌, ◌<◌, All, take, length}
-use Rattle.cyclotomic.specs.CyclotomicRing.{cyclotomic_value}
-use Rattle.cyclotomic.proofs.Sizes.{total_of}
-use Rattle.qd_ring.specs.SparseValues.{value_of_terms, total_of_terms}
+use Rattle.qd_ring.proofs.Names.{◌≡◌, ◌≤◌, ◌<◌, All, take, length, cyclotomic_value, total_of, value_of_terms, total_of_terms}
 use Rattle.qd_ring.proofs.terms.Terms.of.Given as goal
 
 abbrev pub invariant-loop-power : goal.invariant-loop-power

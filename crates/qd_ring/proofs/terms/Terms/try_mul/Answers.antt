@@ -1,12 +1,5 @@
 -- The sizes decide, and what they let through fits.
-use Rattle.std.proofs.Common.{◌≡◌, ◌*◌, ap, sym, ◌∙◌, arith}
-use mathlib.Core.Path.{ap₂}
-use Rattle.cyclotomic.specs.Cyclotomic.{cyclotomic}
-use Rattle.cyclotomic.specs.Ring.{value_product}
-use Rattle.cyclotomic.specs.Fit.{product_fits}
-use Rattle.cyclotomic.specs.CyclotomicRing.{cyclotomic_value}
-use Rattle.qd_ring.specs.CycArrays.{array_of}
-use Rattle.qd_ring.specs.SparseValues.{value_of_terms, total_of_terms}
+use Rattle.qd_ring.proofs.Names.{◌≡◌, ◌*◌, ap, sym, ◌∙◌, arith, ap₂, cyclotomic, value_product, product_fits, cyclotomic_value, array_of, value_of_terms, total_of_terms}
 use Rattle.qd_ring.proofs.ProductLaws.{value-array_of}
 use Rattle.qd_ring.proofs.CycLaws.{array-is, fits-product, fits_by_sizes, unfit_by_sizes}
 use Rattle.qd_ring.proofs.SparseLaws.{sparse_room}

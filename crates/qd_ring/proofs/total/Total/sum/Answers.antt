@@ -1,5 +1,4 @@
-use Rattle.std.proofs.Common.{refl}
-use Rattle.cyclotomic.specs.CyclotomicRing.{cyclotomic_value}
+use Rattle.qd_ring.proofs.Names.{refl, cyclotomic_value}
 use Rattle.qd_ring.proofs.TotalLaws.{total_all}
 use Rattle.qd_ring.proofs.total.Total.sum.Goals as goal
 

@@ -1,9 +1,4 @@
-use Rattle.std.proofs.Common.{ap, sym, ◌∙◌, subst, arith, ◌+◌, ◌<◌, ◌≤◌, ◌≡◌}
-use Rattle.cyclotomic.specs.Fit.{value_size, greatest_magnitude}
-use Rattle.cyclotomic.specs.Ring.{value_sum}
-use Rattle.cyclotomic.specs.CyclotomicRing.{cyclotomic_value}
-use Rattle.qd_ring.specs.Formed.{Forms}
-use Rattle.qd_ring.specs.Totals.{IsTotal}
+use Rattle.qd_ring.proofs.Names.{ap, sym, ◌∙◌, subst, arith, ◌+◌, ◌<◌, ◌≤◌, ◌≡◌, value_size, greatest_magnitude, value_sum, cyclotomic_value, Forms, IsTotal}
 use Rattle.qd_ring.proofs.TotalLaws.{total_more, total_misses, total_unfit, total_great}
 use Rattle.qd_ring.proofs.total.Total.with.Goals as goal
 

@@ -1,5 +1,4 @@
-use Rattle.std.proofs.Common.{subst, sym}
-use Rattle.qd_ring.specs.Totals.{IsTotal}
+use Rattle.qd_ring.proofs.Names.{subst, sym, IsTotal}
 use Rattle.qd_ring.proofs.TotalLaws.{total_none}
 use Rattle.qd_ring.proofs.total.Total.zero.Goals as goal
 

@@ -1,8 +1,4 @@
-use Rattle.std.proofs.Common.{sym, ◌∙◌, ap}
-use Rattle.std.proofs.Math.Nat.{mod-eq_of_lt}
-use Rattle.std.proofs.lemmas.Bool.{eq-eqb, eqb-true}
-use Rattle.qd_ring.specs.Thirds.{three}
-use Rattle.algebra.specs.Residues.{residue}
+use Rattle.qd_ring.proofs.Names.{sym, ◌∙◌, ap, mod-eq_of_lt, eq-eqb, eqb-true, three, residue}
 use Rattle.qd_ring.proofs.sum.tests.ThirdsRing.same.Goals as goal
 
 pub returns : goal.returns
