@@ -55,3 +55,10 @@ empty_front k entry = take-replicate k 120 (pos 0) (conductor_bounds k entry).0
 
 pub empty_length : (k : ℕ) → is_conductor k ≡ true → k ≡ length (take k (zeros 120))
 empty_length k entry = sym (ap length (empty_front k entry) ∙ length-zeros k)
+
+-- an empty buffer has k places, and their magnitudes are 0
+pub empty_size : (k : ℕ) (xs : List ℤ) → xs ≡ zeros k → length xs ≡ k
+empty_size k xs e = ap length e ∙ length-zeros k
+
+pub empty_total : (k : ℕ) (xs : List ℤ) → xs ≡ zeros k → total_of xs ≡ 0
+empty_total k xs e = ap total_of e ∙ total-zeros k

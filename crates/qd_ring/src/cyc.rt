@@ -62,6 +62,7 @@ impl<const K: u32> Cyc<K> {
     }
 
     /// The root of unity, as a value.
+    #[tactic(auto, using(crate::proofs::CycLaws::small_total))]
     pub fn from_root(r: Root<K>) -> Cyc<K>
         ensures { cyclotomic_value K result.coefficients ≡ root K r.entry.exponent }
     {
@@ -140,6 +141,7 @@ impl<const K: u32> Cyc<K> {
     }
 
     /// The sum; `None` exactly where it doesn't fit.
+    #[tactic(auto, using(crate::proofs::CycLaws::small_means))]
     pub fn try_add(&self, b: &Cyc<K>) -> Option<Cyc<K>>
         ensures fits { is_some result ≡ value_fits (value_sum (cyclotomic_value K self.now.coefficients) (cyclotomic_value K b.now.coefficients)) }
         ensures value { IfSome result (λ value. cyclotomic_value K value.coefficients ≡ value_sum (cyclotomic_value K self.now.coefficients) (cyclotomic_value K b.now.coefficients)) }
@@ -150,6 +152,7 @@ impl<const K: u32> Cyc<K> {
     }
 
     /// The difference; `None` exactly where it doesn't fit.
+    #[tactic(auto, using(crate::proofs::CycLaws::small_means))]
     pub fn try_sub(&self, b: &Cyc<K>) -> Option<Cyc<K>>
         ensures fits { is_some result ≡ value_fits (value_sum (cyclotomic_value K self.now.coefficients) (value_negative (cyclotomic_value K b.now.coefficients))) }
         ensures value { IfSome result (λ value. cyclotomic_value K value.coefficients ≡ value_sum (cyclotomic_value K self.now.coefficients) (value_negative (cyclotomic_value K b.now.coefficients))) }
@@ -160,6 +163,7 @@ impl<const K: u32> Cyc<K> {
     }
 
     /// The conjugate; `None` exactly where it doesn't fit.
+    #[tactic(auto, using(cyclotomic::proofs::Checks::conductor_positive, crate::specs::ReductionSigns::conductor_bounds, crate::proofs::CycLaws::small_total))]
     pub fn try_conj(&self) -> Option<Cyc<K>>
         ensures fits { is_some result ≡ value_fits (conjugate K (cyclotomic_value K self.now.coefficients)) }
         ensures value { IfSome result (λ value. cyclotomic_value K value.coefficients ≡ conjugate K (cyclotomic_value K self.now.coefficients)) }
@@ -168,6 +172,7 @@ impl<const K: u32> Cyc<K> {
     }
 
     /// The multiple by a root; `None` exactly where it doesn't fit.
+    #[tactic(auto, using(crate::proofs::CycLaws::small_total))]
     pub fn try_times(&self, r: Root<K>) -> Option<Cyc<K>>
         ensures fits { is_some result ≡ value_fits (value_product (cyclotomic K) (root K r.entry.exponent) (cyclotomic_value K self.now.coefficients)) }
         ensures value { IfSome result (λ value. cyclotomic_value K value.coefficients ≡ value_product (cyclotomic K) (root K r.entry.exponent) (cyclotomic_value K self.now.coefficients)) }
@@ -176,6 +181,7 @@ impl<const K: u32> Cyc<K> {
     }
 
     /// The Galois image under t, which is prime to K; `None` exactly where it doesn't fit.
+    #[tactic(auto, using(cyclotomic::proofs::Checks::conductor_positive, crate::specs::ReductionSigns::conductor_bounds, crate::proofs::CycLaws::small_total))]
     pub fn try_galois(&self, t: u32) -> Option<Cyc<K>>
         requires { IsGcd t K 1 }
         ensures fits { is_some result ≡ value_fits (galois_image K t (cyclotomic_value K self.now.coefficients)) }

@@ -58,6 +58,7 @@ fn cancel(window: &mut [i128], low: &[i8])
 }
 
 // The remainder by the cyclotomic polynomial of conductor k, in the first phi(k) places; what stands behind is left over.
+#[tactic(auto, using(cyclotomic::proofs::Checks::reduction_length, crate::specs::ReductionSigns::conductor_bounds))]
 fn reduce(k: u32, buffer: &mut [i128])
     requires conductor { is_conductor k ≡ true }
     requires size { phi_of k ≤ length buffer.old }
@@ -112,6 +113,7 @@ pub(crate) fn size(coefficients: &[i128]) -> u128
 }
 
 /// The value of the buffer, as an array; the buffer is used up.
+#[tactic(auto, using(cyclotomic::proofs::Checks::reduction_length, crate::specs::ReductionSigns::conductor_bounds))]
 pub(crate) fn reduced(k: u32, buffer: &mut [i128]) -> [i128; 42]
     requires conductor { is_conductor k ≡ true }
     requires size { length buffer.old ≡ k }
@@ -123,6 +125,7 @@ pub(crate) fn reduced(k: u32, buffer: &mut [i128]) -> [i128; 42]
 }
 
 // The polynomial at x^stride, times x^start, reduced; the buffer is used up.
+#[tactic(auto, using(crate::proofs::ProductLaws::empty_size, crate::proofs::ProductLaws::empty_total))]
 fn reduced_image(k: u32, buffer: &mut [i128], a: &[i128], start: u32, stride: u32) -> [i128; 42]
     requires conductor { is_conductor k ≡ true }
     requires empty { buffer.old ≡ zeros k }
@@ -136,6 +139,7 @@ fn reduced_image(k: u32, buffer: &mut [i128], a: &[i128], start: u32, stride: u3
 }
 
 /// The image of a value under x to x^stride, times x^start.
+#[tactic(auto, using(cyclotomic::proofs::Checks::reduction_length, crate::specs::ReductionSigns::conductor_bounds, crate::proofs::ProductLaws::empty_front, crate::proofs::ProductLaws::empty_length))]
 pub(crate) fn image(k: u32, a: &[i128; 42], start: u32, stride: u32) -> [i128; 42]
     requires conductor { is_conductor k ≡ true }
     requires array { is_array k a.now ≡ true }
@@ -178,6 +182,7 @@ fn rest_is_zero(numbers: &[i128], from: usize) -> bool
 }
 
 /// Whether the places from phi(k) on are 0, of 42.
+#[tactic(auto, using(cyclotomic::proofs::Checks::reduction_length, crate::specs::ReductionSigns::conductor_bounds))]
 pub(crate) fn is_padded(k: u32, numbers: &[i128]) -> bool
     requires conductor { is_conductor k ≡ true }
     requires size { length numbers.now ≡ 42 }

@@ -23,6 +23,7 @@ pub struct Root<const K: u32> {
 
 impl<const K: u32> Root<K> {
     /// The root with exponent `e`, taken modulo K.
+    #[tactic(auto, using(cyclotomic::proofs::Checks::conductor_positive))]
     pub fn new(e: u32) -> Root<K>
         requires { is_conductor K ≡ true }
         ensures { result.exponent ≡ e % K }

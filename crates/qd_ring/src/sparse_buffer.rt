@@ -74,6 +74,7 @@ pub(crate) fn add_product(k: u32, buffer: &mut [i128], a: &[Monomial], b: &[Mono
 }
 
 // The product of two sparse values, reduced; the buffer is used up.
+#[tactic(auto, using(cyclotomic::proofs::Checks::conductor_positive, crate::proofs::ProductLaws::empty_size, crate::proofs::ProductLaws::empty_total))]
 fn reduced_product(k: u32, buffer: &mut [i128], a: &[Monomial], b: &[Monomial]) -> [i128; 42]
     requires conductor { is_conductor k ≡ true }
     requires empty { buffer.old ≡ zeros k }
@@ -87,6 +88,7 @@ fn reduced_product(k: u32, buffer: &mut [i128], a: &[Monomial], b: &[Monomial]) 
 }
 
 /// The product of two sparse values.
+#[tactic(auto, using(crate::specs::ReductionSigns::conductor_bounds, crate::proofs::ProductLaws::empty_front, crate::proofs::ProductLaws::empty_length))]
 pub(crate) fn product(k: u32, a: &[Monomial], b: &[Monomial]) -> [i128; 42]
     requires conductor { is_conductor k ≡ true }
     requires a_powers { All (λ term. term.power < k) a.now }

@@ -58,6 +58,7 @@ fn push_term(terms: &mut ArrayVec<Monomial, 42>, power: u32, coefficient: i128)
 
 impl<const K: u32> Terms<K> {
     /// The sparse form of a value.
+    #[tactic(auto, using(cyclotomic::proofs::Checks::reduction_length, crate::specs::ReductionSigns::conductor_bounds))]
     pub fn of(v: &Cyc<K>) -> Terms<K>
         ensures { value_of_terms K result ≡ cyclotomic_value K v.now.coefficients }
     {

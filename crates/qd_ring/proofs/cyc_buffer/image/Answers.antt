@@ -1,22 +1,8 @@
 -- The image of the first phi(K) places.
-use Rattle.qd_ring.proofs.Names.{length, take, ap, ◌∙◌, arith, at_power, cyclotomic, value_product, cyclotomic_value, root, reduction_length, array_of, conductor_bounds}
+use Rattle.qd_ring.proofs.Names.{length, take, ap, ◌∙◌, arith, at_power, cyclotomic, value_product, cyclotomic_value, root, reduction_length, array_of}
 use Rattle.qd_ring.proofs.SpreadLaws.{total-take}
-use Rattle.qd_ring.proofs.ProductLaws.{image-front, empty_front, empty_length}
+use Rattle.qd_ring.proofs.ProductLaws.{image-front}
 use Rattle.qd_ring.proofs.cyc_buffer.image.Goals as goal
-
-pub slice_bounds-buffer-end : goal.slice_bounds-buffer-end
-slice_bounds-buffer-end c = (conductor_bounds c.args.k c.requires.conductor).0
-
-pub slice_bounds-reduced_image-end : goal.slice_bounds-reduced_image-end
-slice_bounds-reduced_image-end c = empty_length c.args.k c.requires.conductor
-
-pub shared_ref_as_front-reduced_image : goal.shared_ref_as_front-reduced_image
-shared_ref_as_front-reduced_image c =
-    omega
-    (arith, (conductor_bounds c.args.k c.requires.conductor).2, ap length c.reduction-phi.ensures, reduction_length c.args.k c.requires.conductor)
-
-pub reduced_image-requires-clause-empty : goal.reduced_image-requires-clause-empty
-reduced_image-requires-clause-empty c = empty_front c.args.k c.requires.conductor
 
 pub reduced_image-requires-clause-room : goal.reduced_image-requires-clause-room
 reduced_image-requires-clause-room c =

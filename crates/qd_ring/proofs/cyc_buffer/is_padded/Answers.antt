@@ -1,12 +1,7 @@
 -- The array is 42 long, and its end is tested.
-use Rattle.qd_ring.proofs.Names.{length, drop, ap, ◌∙◌, arith, list_all, reduction_length, is_nought, conductor_bounds}
+use Rattle.qd_ring.proofs.Names.{length, drop, ap, ◌∙◌, list_all, reduction_length, is_nought}
 use Rattle.qd_ring.proofs.CycSums.{array_test}
 use Rattle.qd_ring.proofs.cyc_buffer.is_padded.Goals as goal
-
-pub rest_is_zero-requires : goal.rest_is_zero-requires
-rest_is_zero-requires c =
-    omega
-    (arith, ap length c.reduction.ensures, reduction_length c.args.k c.requires.conductor, c.requires.size, (conductor_bounds c.args.k c.requires.conductor).2)
 
 pub returns : goal.returns
 returns c =

@@ -4,10 +4,6 @@ use borrow.Rule.Slice.PartMut.{put_mid, post_of, same_len_mid}
 use Rattle.qd_ring.proofs.ReduceLaws.{window_size, window_start, step_below, step_window}
 use Rattle.qd_ring.proofs.cyc_buffer.reduce.Goals as goal
 
-pub overflow_sub-at : goal.overflow_sub-at
-overflow_sub-at c =
-    omega (arith, ap length c.reduction-low.ensures, reduction_length c.args.k c.requires.conductor, c.requires.size)
-
 pub loop-at-init : goal.loop-at-init
 loop-at-init c =
     let low_is = ap length c.reduction-low.ensures ∙ reduction_length c.args.k c.requires.conductor in
@@ -69,8 +65,3 @@ pub returns : goal.returns
 returns c =
     let ended : c.loop-at.at ≡ 0 = omega (arith, c.loop-at-test.false) in
     subst (λ n. take (phi_of c.args.k) (drop n c.loop-at.buffer) ≡ remainder (cyclotomic c.args.k) (drop n c.args.buffer.now)) ended c.loop-at.invariant.window
-
-pub slice_bounds-cancel-end : goal.slice_bounds-cancel-end
-slice_bounds-cancel-end c =
-    let low_is = ap length c.reduction-low.ensures ∙ reduction_length c.args.k c.requires.conductor in
-    omega (arith, low_is, c.loop-at-test.true, c.loop-at.invariant.inside)

@@ -1,7 +1,7 @@
 -- The multiple of 1 by the root.
 use Rattle.qd_ring.proofs.Names.{ap, ◌∙◌, arith, cyclotomic, value_product, cyclotomic_value, root, product_one, array_of, conductor_bounds}
 use Rattle.qd_ring.proofs.ProductLaws.{value-array_of}
-use Rattle.qd_ring.proofs.CycLaws.{small_total, array-is, times_alone}
+use Rattle.qd_ring.proofs.CycLaws.{array-is, times_alone}
 use Rattle.qd_ring.proofs.CycSums.{root_array_small}
 use Rattle.qd_ring.proofs.cyc.Cyc.from_root.Goals as goal
 
@@ -9,10 +9,6 @@ pub image-requires-clause-stride : goal.image-requires-clause-stride
 image-requires-clause-stride g c =
     let bounds = conductor_bounds g.row.K c.args.r.conductor in
     omega (arith, bounds.1, bounds.3)
-
-pub image-requires-clause-room : goal.image-requires-clause-room
-image-requires-clause-room g c =
-    small_total g.row.K c.args.r.conductor c.one-one.result.coefficients c.one-one.result.array c.one-one.result.small
 
 pub invariant_of-result : goal.invariant_of-result
 invariant_of-result g c =

@@ -1,14 +1,8 @@
 -- The array is that of the value, and fits where its size does.
-use Rattle.qd_ring.proofs.Names.{◌∙◌, arith, lit<}
-use Rattle.qd_ring.proofs.CycLaws.{small_means, array-is}
+use Rattle.qd_ring.proofs.Names.{◌∙◌, lit<}
+use Rattle.qd_ring.proofs.CycLaws.{array-is}
 use Rattle.qd_ring.proofs.CycSums.{sum_array}
 use Rattle.qd_ring.proofs.cyc.Cyc.try_add.Goals as goal
-
-pub combine-requires-clause-a_room : goal.combine-requires-clause-a_room
-combine-requires-clause-a_room g c = omega (arith, small_means c.args.self.now.coefficients c.args.self.now.small)
-
-pub combine-requires-clause-b_room : goal.combine-requires-clause-b_room
-combine-requires-clause-b_room g c = omega (arith, small_means c.args.b.now.coefficients c.args.b.now.small)
 
 pub fitted-requires : goal.fitted-requires
 fitted-requires g c =

@@ -1,20 +1,7 @@
 -- The image is formed, and fits where its size does.
-use Rattle.qd_ring.proofs.Names.{◌-◌, ap, ◌∙◌, arith, lit<, cyclotomic_value, conductor_positive, array_of}
-use Rattle.qd_ring.proofs.CycLaws.{small_total, array-is, image_alone}
+use Rattle.qd_ring.proofs.Names.{◌-◌, ap, ◌∙◌, lit<, cyclotomic_value, array_of}
+use Rattle.qd_ring.proofs.CycLaws.{array-is, image_alone}
 use Rattle.qd_ring.proofs.cyc.Cyc.try_conj.Goals as goal
-
-pub overflow_sub-image : goal.overflow_sub-image
-overflow_sub-image g c = conductor_positive g.row.K c.args.self.now.conductor
-
-pub image-requires-clause-start : goal.image-requires-clause-start
-image-requires-clause-start g c = conductor_positive g.row.K c.args.self.now.conductor
-
-pub image-requires-clause-stride : goal.image-requires-clause-stride
-image-requires-clause-stride g c = omega (arith, conductor_positive g.row.K c.args.self.now.conductor)
-
-pub image-requires-clause-room : goal.image-requires-clause-room
-image-requires-clause-room g c =
-    small_total g.row.K c.args.self.now.conductor c.args.self.now.coefficients c.args.self.now.array c.args.self.now.small
 
 pub fitted-requires : goal.fitted-requires
 fitted-requires g c =

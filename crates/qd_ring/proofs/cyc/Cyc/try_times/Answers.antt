@@ -1,16 +1,12 @@
 -- The image is formed, and fits where its size does.
 use Rattle.qd_ring.proofs.Names.{ap, ◌∙◌, arith, lit<, cyclotomic, value_product, cyclotomic_value, root, array_of, conductor_bounds}
-use Rattle.qd_ring.proofs.CycLaws.{small_total, array-is, times_alone}
+use Rattle.qd_ring.proofs.CycLaws.{array-is, times_alone}
 use Rattle.qd_ring.proofs.cyc.Cyc.try_times.Goals as goal
 
 pub image-requires-clause-stride : goal.image-requires-clause-stride
 image-requires-clause-stride g c =
     let bounds = conductor_bounds g.row.K c.args.self.now.conductor in
     omega (arith, bounds.1, bounds.3)
-
-pub image-requires-clause-room : goal.image-requires-clause-room
-image-requires-clause-room g c =
-    small_total g.row.K c.args.self.now.conductor c.args.self.now.coefficients c.args.self.now.array c.args.self.now.small
 
 pub fitted-requires : goal.fitted-requires
 fitted-requires g c =

@@ -7,11 +7,6 @@ use Rattle.qd_ring.proofs.CycLaws.{small_means, small_total, total_bound}
 use Rattle.qd_ring.proofs.SparseLaws.{total-none, value-none}
 use Rattle.qd_ring.proofs.terms.Terms.of.Goals as goal
 
-pub overflow_cast-phi : goal.overflow_cast-phi
-overflow_cast-phi g c =
-    let a = c.args.v.now in
-    record { fits = omega (arith, ap length c.reduction.ensures, reduction_length g.row.K a.conductor, (conductor_bounds g.row.K a.conductor).2) }
-
 pub loop-power-init : goal.loop-power-init
 loop-power-init g c =
     let empty = c.new-terms.ensures in
@@ -22,16 +17,6 @@ loop-power-init g c =
       total = ap total_of_terms empty ∙ total-none ∙ sym (total-zeros 0);
       sum = sym (total-zeros 0);
     }
-
-pub bounds-v-power : goal.bounds-v-power
-bounds-v-power g c =
-    let a = c.args.v.now in
-    omega (arith, c.loop-power-test.true, ap length c.reduction.ensures, reduction_length g.row.K a.conductor, (conductor_bounds g.row.K a.conductor).2)
-
-pub push_term-requires : goal.push_term-requires
-push_term-requires g c =
-    let a = c.args.v.now in
-    omega (arith, c.loop-power.invariant.few, c.loop-power-test.true, ap length c.reduction.ensures, reduction_length g.row.K a.conductor, (conductor_bounds g.row.K a.conductor).2)
 
 pub overflow_add-total : goal.overflow_add-total
 overflow_add-total g c =
