@@ -200,43 +200,65 @@ module _ (heads : List Head) (starts : List ℕ) (values : List (List ℤ)) (blo
       (omega (arith, row_width row inside, listed))
       ∙ get_or-drop (slice_index starts row) values place []
 
--- what a caller knows of blocks that are seen, said of how they are stored
-module _ (heads : List Head) (starts : List ℕ) (values : List (List ℤ)) (now : List Block) (is : stored_blocks heads starts values ≡ now) (blocks : AreBlocks heads starts values) (b : ℕ) (inside : b < length now) where
+-- what a caller knows of blocks that are seen
+pub record IsSeen (heads : List Head) (starts : List ℕ) (values : List (List ℤ)) (now : List Block) (b : ℕ) : Type 0 where
+  pub blocks : AreBlocks heads starts values
+  pub is : stored_blocks heads starts values ≡ now
+  pub inside : b < length now
+
+pub seen_by : {heads : List Head} {starts : List ℕ} {values : List (List ℤ)} {now : List Block} {b : ℕ}
+    → AreBlocks heads starts values → stored_blocks heads starts values ≡ now → b < length now → IsSeen heads starts values now b
+seen_by blocks is inside = record { blocks = blocks; is = is; inside = inside }
+
+module _ {heads : List Head} {starts : List ℕ} {values : List (List ℤ)} {now : List Block} {b : ℕ} (seen : IsSeen heads starts values now b) where
   pub listed : b < length heads
-  listed = omega (arith, blocks_count heads starts values blocks, ap length is)
+  listed = omega (arith, blocks_count heads starts values seen.blocks, ap length seen.is, seen.inside)
 
   pub number_seen : (head_at heads b).representative ≡ (block_at now b).representative
-  number_seen = sym (number_is heads starts values blocks b listed) ∙ ap (λ bs. (block_at bs b).representative) is
+  number_seen = sym (number_is heads starts values seen.blocks b listed) ∙ ap (λ bs. (block_at bs b).representative) seen.is
 
   pub rows_seen : length (block_at now b).rows + (head_at heads b).start ≡ rows_end heads b (length starts)
-  rows_seen = ap (λ bs. length (block_at bs b).rows + (head_at heads b).start) (sym is) ∙ rows_are heads starts values blocks b listed
+  rows_seen =
+      ap (λ bs. length (block_at bs b).rows + (head_at heads b).start) (sym seen.is)
+      ∙ rows_are heads starts values seen.blocks b listed
+
+  rows_inside : rows_end heads b (length starts) ≤ length starts
+  rows_inside = (block_inside heads b (length starts) seen.blocks.blocks listed).1
 
   pub rows_few : length (block_at now b).rows < 2 ^ 32
-  rows_few = omega (arith, rows_seen, block_inside heads b (length starts) blocks.blocks listed, blocks.few_rows)
+  rows_few = omega (arith, rows_seen, rows_inside, seen.blocks.few_rows)
 
   module _ (r : ℕ) (row : r < length (block_at now b).rows) where
     pub row_listed : (head_at heads b).start + r < rows_end heads b (length starts)
     row_listed = omega (arith, rows_seen, row)
 
     place_listed : (head_at heads b).start + r < length starts
-    place_listed = omega (arith, row_listed, block_inside heads b (length starts) blocks.blocks listed)
+    place_listed = omega (arith, row_listed, rows_inside)
 
     row_seen : row_at (block_at now b).rows r ≡ item_stretch starts values ((head_at heads b).start + r)
-    row_seen = ap (λ bs. row_at (block_at bs b).rows r) (sym is) ∙ row_is heads starts values blocks b listed r row_listed
+    row_seen =
+        ap (λ bs. row_at (block_at bs b).rows r) (sym seen.is) ∙ row_is heads starts values seen.blocks b listed r row_listed
 
-    pub width_seen : (place : ℕ) → place ≡ (head_at heads b).start + r → length (row_at (block_at now b).rows r) + slice_index starts place ≡ first_start (λ start. start) (drop (place + 1) starts) (length values)
-    width_seen place e =
-        rw e (ap (λ row. length row + slice_index starts ((head_at heads b).start + r)) row_seen ∙ row_width heads starts values blocks ((head_at heads b).start + r) place_listed)
+    module _ (place : ℕ) (at : place ≡ (head_at heads b).start + r) where
+      pub width_seen : length (row_at (block_at now b).rows r) + slice_index starts place
+          ≡ first_start (λ start. start) (drop (place + 1) starts) (length values)
+      width_seen =
+          rw at (ap (λ row. length row + slice_index starts ((head_at heads b).start + r)) row_seen
+          ∙ row_width heads starts values seen.blocks ((head_at heads b).start + r) place_listed)
 
-    pub value_seen : (place p : ℕ) → place ≡ (head_at heads b).start + r → p < length (row_at (block_at now b).rows r)
-        → (slice_index starts place + p < length values) × (get_or values (slice_index starts place + p) [] ≡ get_or (row_at (block_at now b).rows r) p [])
-    value_seen place p e within =
-        let here : p < length (item_stretch starts values ((head_at heads b).start + r)) = subst (λ row. p < length row) row_seen within in
-        let end : (slice_index starts place ≤ first_start at_start (drop (place + 1) starts) (length values)) × (first_start at_start (drop (place + 1) starts) (length values) ≤ length values) =
-        rw (add-one place) (stretch_inside at_start starts (length values) place 0 blocks.rows (omega (arith, place_listed))) in (
-          omega (arith, width_seen place e, end.1, within),
-          rw e (sym (ap (λ row. get_or row p []) row_seen ∙ value_is heads starts values blocks ((head_at heads b).start + r) p place_listed here)),
-        )
+      pub value_inside : (p : ℕ) → p < length (row_at (block_at now b).rows r) → slice_index starts place + p < length values
+      value_inside p within =
+          let end : (slice_index starts place ≤ first_start at_start (drop (place + 1) starts) (length values))
+          × (first_start at_start (drop (place + 1) starts) (length values) ≤ length values) =
+          rw (add-one place) (stretch_inside at_start starts (length values) place 0 seen.blocks.rows (omega (arith, place_listed))) in
+          omega (arith, width_seen, end.1, within)
+
+      pub value_seen : (p : ℕ) → p < length (row_at (block_at now b).rows r)
+          → get_or values (slice_index starts place + p) [] ≡ get_or (row_at (block_at now b).rows r) p []
+      value_seen p within =
+          let here : p < length (item_stretch starts values ((head_at heads b).start + r)) = rw row_seen at within in
+          rw at (sym (ap (λ row. get_or row p []) row_seen
+          ∙ value_is heads starts values seen.blocks ((head_at heads b).start + r) p place_listed here))
 
 -- what holds after a step, whatever it answered
 pub after : {T E P Q : Type 0} (r : Result T E) (R : Type 0) → (P → R) → (Q → R) → OnOk r P → OnErr r Q → R

@@ -1,6 +1,7 @@
 pub mod Examples
 pub mod Loops
-pub mod Kinds_at
+pub mod Ranges
+pub mod Runs
 pub mod Sparse
 pub mod Places
 pub mod Lines

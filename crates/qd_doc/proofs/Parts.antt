@@ -15,7 +15,7 @@ use Rattle.qd_text.specs.declared.expected.Expected.TheVariants.{End}
 use Rattle.qd_doc.specs.Kinds.{Natural, ClassOrEnd, RowClassOrEnd, ValueRowClassOrEnd, NoToken, is_word, is_class_or_end, is_row_class_or_end, fault_refusal, refusal, number_refusal}
 use Rattle.qd_doc.specs.Grammar.{what_after}
 use Rattle.qd_doc.specs.Contents.{words_before, pieces, block_of, blocks_of}
-use Rattle.qd_doc.specs.Section.{unless, kind_after, row_or_end, value_or_row, word_part, part_of, stage_of, is_end, with_part, HasRoom}
+use Rattle.qd_doc.specs.Section.{unless, kind_after, row_or_end, value_or_row, word_part, part_of, stage_of, is_end, with_part, HasPlace}
 use Rattle.qd_doc.specs.declared.part.Stage.{Stage}
 use Rattle.qd_doc.specs.declared.part.Stage.TheVariants as stages
 use Rattle.qd_doc.specs.declared.part.Part.{Part}
@@ -196,13 +196,6 @@ whole phi (Named front) words = front ++ block_of phi (inner words) ∷ blocks_o
 whole phi (InBlock front number rows) words = front ++ block number (rows ++ rows_of phi words) ∷ blocks_of phi words
 whole phi (InRow front number rows values) words = front ++ block number (rows ++ (values ++ values_of phi words) ∷ rows_of phi words) ∷ blocks_of phi words
 
--- none of its lists is longer than m
-abbrev pub AreShort : State → ℕ → Type 0
-AreShort (Between front) m = length front ≤ m
-AreShort (Named front) m = length front ≤ m
-AreShort (InBlock front number rows) m = (length front + 1 ≤ m) × (length rows ≤ m)
-AreShort (InRow front number rows values) m = (length front + 1 ≤ m) × (length rows + 1 ≤ m) × (length values ≤ m)
-
 -- a token that ends the section
 pub record Ends (phi : ℕ) (s : State) (text : List ℕ) : Type 0 where
   pub end : is_end (part_of phi (stage_in s) text) ≡ true
@@ -219,8 +212,7 @@ pub record Goes (phi : ℕ) (s : State) (text : List ℕ) : Type 0 where
   pub blocks : with_part part (blocks_in s) ≡ blocks_in next
   pub kind : what_after phi (kind_after phi (stage_in s)) text ≡ kind_after phi (stage_in next)
   pub same : (words : List (List ℕ)) → whole phi s (text ∷ words) ≡ whole phi next words
-  pub room : (m : ℕ) → AreShort s m → m + 1 < 2 ^ 32 → HasRoom part (blocks_in s)
-  pub short : (m : ℕ) → AreShort s m → AreShort next (m + 1)
+  pub place : HasPlace part (blocks_in s)
 
 -- ---- what a word says
 
@@ -318,8 +310,7 @@ module _ (phi : ℕ) where
     blocks = refl;
     kind = refl;
     same = λ words. ap (λ more. front ++ more) (blocks_of-class phi words);
-    room = λ m short few. tt;
-    short = λ m short. omega arith;
+    place = tt;
   }
 
   between_end : (front : List Block) → Ends phi (Between front) (codes "end")
@@ -344,8 +335,7 @@ module _ (phi : ℕ) where
         kind = refl;
         same = λ words. ap (λ ws. front ++ block_of phi ws ∷ blocks_of phi (text ∷ words)) (inner-other text words no_class no_end)
             ∙ ap (λ more. front ++ block_of phi (text ∷ inner words) ∷ more) (blocks_of-other phi text words no_class no_end);
-        room = λ m short few. omega arith;
-        short = λ m short. (omega arith, omega arith);
+        place = tt;
       }
 
   block_class : (front : List Block) (number : ℕ) (rows : List (List (List ℤ))) → Goes phi (InBlock front number rows) (codes "class")
@@ -361,8 +351,7 @@ module _ (phi : ℕ) where
         ∙ ap (λ rows. front ++ block number rows ∷ blocks_of phi (codes "class" ∷ words)) (append-nil rows)
         ∙ ap (λ more. front ++ block number rows ∷ more) (blocks_of-class phi words)
         ∙ sym (append_assoc front (block number rows ∷ []) (block_of phi (inner words) ∷ blocks_of phi words));
-    room = λ m short few. tt;
-    short = λ m short. omega (arith, short.0, length-append front (block number rows ∷ []));
+    place = tt;
   }
 
   block_end : (front : List Block) (number : ℕ) (rows : List (List (List ℤ))) → Ends phi (InBlock front number rows) (codes "end")
@@ -385,8 +374,7 @@ module _ (phi : ℕ) where
     kind = refl;
     same = λ words. ap (λ more. front ++ block number (rows ++ more) ∷ blocks_of phi (codes "row" ∷ words)) (rows_of-row phi words)
         ∙ ap (λ more. front ++ block number (rows ++ values_of phi words ∷ rows_of phi words) ∷ more) (blocks_of-other phi (codes "row") words refl refl);
-    room = λ m short few. (omega (arith, length-append front (block number rows ∷ [])), omega (arith, short.1, ap length (last_rows_are front (block number rows))));
-    short = λ m short. (omega (arith, short.0), omega (arith, short.1), omega arith);
+    place = omega (arith, length-append front (block number rows ∷ []));
   }
 
   row_class : (front : List Block) (number : ℕ) (rows : List (List (List ℤ))) (values : List (List ℤ)) → Goes phi (InRow front number rows values) (codes "class")
@@ -403,8 +391,7 @@ module _ (phi : ℕ) where
         ∙ ap (λ more. front ++ block number (rows ++ values ∷ more) ∷ blocks_of phi (codes "class" ∷ words)) (rows_of-none phi (codes "class" ∷ words) (inner-class words))
         ∙ ap (λ more. front ++ block number (rows ++ values ∷ []) ∷ more) (blocks_of-class phi words)
         ∙ sym (append_assoc front (block number (rows ++ values ∷ []) ∷ []) (block_of phi (inner words) ∷ blocks_of phi words));
-    room = λ m short few. tt;
-    short = λ m short. omega (arith, short.0, length-append front (block number (rows ++ values ∷ []) ∷ []));
+    place = tt;
   }
 
   row_end : (front : List Block) (number : ℕ) (rows : List (List (List ℤ))) (values : List (List ℤ)) → Ends phi (InRow front number rows values) (codes "end")
@@ -431,11 +418,7 @@ module _ (phi : ℕ) where
         ∙ ap (λ more. front ++ block number (rows ++ values ∷ more) ∷ blocks_of phi (codes "row" ∷ words)) (rows_of-row phi words)
         ∙ ap (λ rows. front ++ block number rows ∷ blocks_of phi (codes "row" ∷ words)) (sym (append_assoc rows (values ∷ []) (values_of phi words ∷ rows_of phi words)))
         ∙ ap (λ more. front ++ block number ((rows ++ values ∷ []) ++ values_of phi words ∷ rows_of phi words) ∷ more) (blocks_of-other phi (codes "row") words refl refl);
-    room = λ m short few. (
-      omega (arith, length-append front (block number (rows ++ values ∷ []) ∷ [])),
-      omega (arith, short.1, length-append rows (values ∷ []), ap length (last_rows_are front (block number (rows ++ values ∷ [])))),
-    );
-    short = λ m short. (omega (arith, short.0), omega (arith, short.1, length-append rows (values ∷ [])), omega arith);
+    place = omega (arith, length-append front (block number (rows ++ values ∷ []) ∷ []));
   }
 
   row_value : (front : List Block) (number : ℕ) (rows : List (List (List ℤ))) (values : List (List ℤ)) (text : List ℕ) → begins_value text ≡ true → Goes phi (InRow front number rows values) text
@@ -444,7 +427,6 @@ module _ (phi : ℕ) where
       let no_end : is_word text (codes "end") ≡ false = value_no_word text 101 (codes "nd") begins refl in
       let no_row : is_word text (codes "row") ≡ false = value_no_word text 114 (codes "ow") begins refl in
       let v = coefficients phi text in
-      let open_rows = last_rows_are front (block number (rows ++ values ∷ [])) in
       record {
         part = parts.Value (plain v);
         next = InRow front number rows (values ++ v ∷ []);
@@ -457,12 +439,10 @@ module _ (phi : ℕ) where
             ∙ ap (λ values. front ++ block number (rows ++ values ∷ rows_of phi (text ∷ words)) ∷ blocks_of phi (text ∷ words)) (sym (append_assoc values (v ∷ []) (values_of phi words)))
             ∙ ap (λ more. front ++ block number (rows ++ ((values ++ v ∷ []) ++ values_of phi words) ∷ more) ∷ blocks_of phi (text ∷ words)) (rows_of-other phi text words no_class no_end no_row)
             ∙ ap (λ more. front ++ block number (rows ++ ((values ++ v ∷ []) ++ values_of phi words) ∷ rows_of phi words) ∷ more) (blocks_of-other phi text words no_class no_end);
-        room = λ m short few. (
+        place = (
           omega (arith, length-append front (block number (rows ++ values ∷ []) ∷ [])),
-          omega (arith, length-append rows (values ∷ []), ap length open_rows),
-          rw open_rows (omega (arith, short.2, ap length (at_last rows values []))),
+          omega (arith, length-append rows (values ∷ []), ap length (last_rows_are front (block number (rows ++ values ∷ [])))),
         );
-        short = λ m short. (omega (arith, short.0), omega (arith, short.1), omega (arith, short.2, length-append values (v ∷ [])));
       }
 
   module _ (start : ℕ) where
@@ -490,45 +470,25 @@ module _ (phi : ℕ) where
 
 -- ---- what holds while parts are put into blocks
 
--- longer lists are allowed
-short_more : (s : State) (m k : ℕ) → m ≤ k → AreShort s m → AreShort s k
-short_more (Between front) m k le short = omega arith
-short_more (Named front) m k le short = omega arith
-short_more (InBlock front number rows) m k le short = (omega (arith, short.0), omega (arith, short.1))
-short_more (InRow front number rows values) m k le short = (omega (arith, short.0), omega (arith, short.1), omega (arith, short.2))
-
 -- blocks that were read up to what was read last
-pub record IsOpen (stage : Stage) (blocks : List Block) (m : ℕ) : Type 0 where
+pub record IsOpen (stage : Stage) (blocks : List Block) : Type 0 where
   pub state : State
   pub stage_is : stage ≡ stage_in state
   pub blocks_are : blocks ≡ blocks_in state
-  pub short : AreShort state m
 
-pub none_open : (m : ℕ) → IsOpen stages.Conductor [] m
-none_open m = record { state = Between []; stage_is = refl; blocks_are = refl; short = omega arith }
+pub none_open : IsOpen stages.Conductor []
+none_open = record { state = Between []; stage_is = refl; blocks_are = refl }
 
-ends_or_not : (b : Bool) → b ≡ true → b ≡ false → ⊥
-ends_or_not b e f = true≢false (sym e ∙ f)
+module _ (phi start : ℕ) (text : List ℕ) (part : Part) where
+  go_by : (s : State) → part_of phi (stage_in s) text ≡ part → is_end part ≡ false → Ends phi s text ⊎ Goes phi s text
+      → HasPlace part (blocks_in s) × IsOpen (stage_of part) (with_part part (blocks_in s))
+  go_by s said no_end (inl ends) = absurd (true≢false (sym ends.end ∙ ap is_end said ∙ no_end))
+  go_by s said no_end (inr goes) =
+      subst (λ (p : Part). HasPlace p (blocks_in s) × IsOpen (stage_of p) (with_part p (blocks_in s))) (sym goes.said ∙ said)
+      (goes.place, record { state = goes.next; stage_is = goes.stage; blocks_are = goes.blocks })
 
-module _ (phi start m after : ℕ) (text : List ℕ) (part : Part) (later : m < after) (few : after < 2 ^ 32) where
-  go_by : (s : State) → part_of phi (stage_in s) text ≡ part → is_end part ≡ false → AreShort s m → Ends phi s text ⊎ Goes phi s text
-      → HasRoom part (blocks_in s) × IsOpen (stage_of part) (with_part part (blocks_in s)) after
-  go_by s said no_end short (inl ends) = absurd (ends_or_not (is_end part) (ap is_end (sym said) ∙ ends.end) no_end)
-  go_by s said no_end short (inr goes) =
-      let same : goes.part ≡ part = sym goes.said ∙ said in (
-        subst (λ (p : Part). HasRoom p (blocks_in s)) same (goes.room m short (omega arith)),
-        record {
-          state = goes.next;
-          stage_is = ap stage_of (sym same) ∙ goes.stage;
-          blocks_are = ap (λ (p : Part). with_part p (blocks_in s)) (sym same) ∙ goes.blocks;
-          short = short_more goes.next (m + 1) after (omega arith) (goes.short m short);
-        },
-      )
-
-  pub go : (stage : Stage) (blocks : List Block) → IsOpen stage blocks m → refusal (kind_after phi stage) (record { start = start; text = text }) ≡ None → part_of phi stage text ≡ part → is_end part ≡ false
-      → HasRoom part blocks × IsOpen (stage_of part) (with_part part blocks) after
+  pub go : (stage : Stage) (blocks : List Block) → IsOpen stage blocks → refusal (kind_after phi stage) (record { start = start; text = text }) ≡ None
+      → part_of phi stage text ≡ part → is_end part ≡ false → HasPlace part blocks × IsOpen (stage_of part) (with_part part blocks)
   go stage blocks opened fits said no_end =
-      let s = opened.state in
-      let here : HasRoom part (blocks_in s) × IsOpen (stage_of part) (with_part part (blocks_in s)) after =
-      go_by s (rw opened.stage_is at said) no_end opened.short (move phi start s text (rw opened.stage_is at fits)) in
-      rw (← opened.blocks_are) at here
+      rw (← opened.blocks_are) at
+      (go_by opened.state (rw opened.stage_is at said) no_end (move phi start opened.state text (rw opened.stage_is at fits)))

@@ -1,6 +1,8 @@
 -- Reading token after token finds the first refusal, and the contents by their places.
 use Rattle.std.proofs.Common.{◌≡◌, ℕ, zero, suc, ◌+◌, ◌*◌, ◌≤◌, ◌<◌, Bool, true, false, cond, List, [], ◌∷◌, length, take, drop, get_or, codes, Option, Some, None, Result, Ok, Err, refl, sym, ap, ◌∙◌, subst, ◌⊎◌, inl, inr, arith, add-zero, add-one, drop-cons}
 use Rattle.std.specs.Prelude.{slice_get}
+use Rattle.std.proofs.lemmas.List.Sums.{sum_by-cons}
+use Rattle.std.proofs.Math.ListN.{length-replicate}
 use Rattle.std.proofs.lemmas.List.{drop_all}
 use Rattle.std.proofs.lemmas.Option.{slice_get-get_or, slice_get_past}
 use Rattle.scan.specs.First.{first}
@@ -12,13 +14,14 @@ use Rattle.qd_text.specs.declared.expected.Expected.{Expected}
 use Rattle.qd_doc.specs.declared.document.Form.{Form}
 use Rattle.qd_doc.specs.declared.refusal.DocRefusal.{DocRefusal}
 use Rattle.qd_doc.specs.declared.refusal.DocRefusal.TheVariants.{Syntax}
-use Rattle.qd_doc.specs.Kinds.{What, Word, Natural, OrderNumber, RootsNumber, FormWord, ElementBelow, EndWord, NoToken, is_word, refusal, missing, judgement}
-use Rattle.qd_doc.specs.Grammar.{text_at, number_at, expected, ending, refusal_at, first_refusal}
+use Rattle.qd_doc.specs.Kinds.{What, Word, Natural, OrderNumber, RootsNumber, FormWord, ElementBelow, EndWord, NoToken, is_word, refusal, wanted, missing, judgement}
+use Rattle.qd_doc.specs.Grammar.{Run, times, once, text_at, number_at, front_runs, entry_runs, exponent_runs, runs_after, kind_at, expected, ending, refusal_at, first_refusal}
 use Rattle.qd_doc.specs.Contents.{numbers_at, sparse_exponents, exponents_of, exponents_end}
 use Rattle.qd_doc.specs.Reading.{◌>>=◌, unless, read, skip, read_number, read_numbers, read_entry, read_entries, read_sparse, read_listing, read_exponents, listing_of, read_order, read_roots}
 use Rattle.qd_doc.specs.declared.listing.Listing.TheVariants.{Trivial, Dense, Sparse}
 use Rattle.qd_doc.proofs.Sparse.{place_of, sparse_exponents-suc, sparse_exponents-zero}
-use Rattle.qd_doc.proofs.Kinds_at.{expected-0, expected-1, expected-2, expected-3, expected-4, expected-table, expected-roots, expected-roots_number, expected-omega, expected-form, expected-trivial, expected-dense, expected_after_dense, expected-sparse, expected_in_entries, kind_at-element, kind_at-exponent, kind_at-after_entries, end-trivial, end-dense, end-sparse}
+use Rattle.qd_doc.proofs.Ranges.{IsBetween, order_in_range, roots_in_range, length-numbers_at, length-sparse_exponents}
+use Rattle.qd_doc.proofs.Runs.{total, kind_at-nil, kind_at-within, past_by, kind_at-next, expected_is}
 
 abbrev pub no_lexeme : Lexeme
 no_lexeme = record { start = 0; text = [] }
@@ -40,10 +43,6 @@ module _ (form : Form) (offset : ℕ) (all : List Lexeme) where
   pub reads_bind : {A B : Type 0} (m : Result A DocRefusal) (f : A → Result B DocRefusal) (Q : B → Type 0) → Reads m (λ x. Reads (f x) Q) → Reads (m >>= f) Q
   reads_bind (Ok x) f Q h = h
   reads_bind (Err r) f Q h = h
-
-  pub reads_weaker : {A : Type 0} (m : Result A DocRefusal) (P Q : A → Type 0) → ((x : A) → P x → Q x) → Reads m P → Reads m Q
-  reads_weaker (Ok x) P Q h p = h x p
-  reads_weaker (Err r) P Q h p = p
 
   pub reached_none : Reached 0
   unfolding first
@@ -103,6 +102,14 @@ module _ (form : Form) (offset : ℕ) (all : List Lexeme) where
   step_end kind x Q place r e reached stands past =
       rw e (refused place r reached (refusal_at-end place kind stands past ∙ e))
 
+  pub refused_nothing : (place : ℕ) → Reached place → (k : ℕ) → k < place → refusal_at form offset all k ≡ None
+  refused_nothing place reached k before = first_none-at place k (refusal_at form offset all) reached.clear before
+
+  -- the token before a place that was reached fits
+  pub reached_fits : (place : ℕ) (kind : What) → Reached (place + 1) → expected form (take place all) ≡ kind → refusal kind (lexeme_at place) ≡ None
+  reached_fits place kind reached stands =
+      sym (refusal_at-within place kind stands (omega (arith, reached.within))) ∙ refused_nothing (place + 1) reached place (omega arith)
+
   -- a token that has to stand at a place
   pub step : {A : Type 0} (view : List ℕ → A) (kind : What) (place next : ℕ) (r : DocRefusal) (Q : (A × List Lexeme) → Type 0) → missing kind offset ≡ Some r
       → place + 1 ≡ next → Reached place → expected form (take place all) ≡ kind
@@ -119,22 +126,6 @@ module _ (form : Form) (offset : ℕ) (all : List Lexeme) where
             let nothing_left : drop place all ≡ [] = drop_all place all (omega arith) in
             rw (nothing_left, read-nil view kind) (step_end kind (view [], []) Q place r e reached stands (omega arith))
       ]
-
-  -- a word that has to stand at a place
-  pub skip_step : (kind : What) (place next : ℕ) (r : DocRefusal) (Q : List Lexeme → Type 0) → missing kind offset ≡ Some r
-      → place + 1 ≡ next → Reached place → expected form (take place all) ≡ kind
-      → (Reached next → Q (drop next all))
-      → Reads (skip offset kind (drop place all)) Q
-  skip_step kind place next r Q e after reached stands on =
-      reads_bind (read (λ text. text) offset kind (drop place all)) (λ x. Ok x.1) Q
-      (step (λ text. text) kind place next r (λ x. Q x.1) e after reached stands on)
-
-  -- a number that has to stand at a place
-  pub number_step : (kind : What) (place next : ℕ) (r : DocRefusal) (Q : (ℕ × List Lexeme) → Type 0) → missing kind offset ≡ Some r
-      → place + 1 ≡ next → Reached place → expected form (take place all) ≡ kind
-      → (Reached next → Q (number_at all place, drop next all))
-      → Reads (read_number offset kind (drop place all)) Q
-  number_step kind place next r Q e after reached stands on = step value kind place next r Q e after reached stands on
 
   -- that nothing stands at a place
   pub end_step : (place : ℕ) (Q : List Lexeme → Type 0) → Reached place → expected form (take place all) ≡ NoToken
@@ -155,231 +146,181 @@ module _ (form : Form) (offset : ℕ) (all : List Lexeme) where
             rw (nothing_left, read-nil (λ text. text) NoToken) (on whole)
       ]
 
-  missing-word : (expected : Expected) → missing (Word expected) offset ≡ Some (Syntax offset expected)
-  unfolding missing
-  missing-word expected = refl
+  -- a word that has to stand at a place
+  pub skip_step : (kind : What) (place next : ℕ) (r : DocRefusal) (Q : List Lexeme → Type 0) → missing kind offset ≡ Some r
+      → place + 1 ≡ next → Reached place → expected form (take place all) ≡ kind → (Reached next → Q (drop next all))
+      → Reads (skip offset kind (drop place all)) Q
+  skip_step kind place next r Q e after reached stands on =
+      reads_bind (read (λ text. text) offset kind (drop place all)) (λ x. Ok x.1) Q
+      (step (λ text. text) kind place next r (λ x. Q x.1) e after reached stands on)
 
-  pub missing-natural : missing Natural offset ≡ Some (Syntax offset Number)
-  unfolding missing
-  missing-natural = refl
+  -- ---- run after run
 
-  missing-order : missing OrderNumber offset ≡ Some (Syntax offset Number)
-  unfolding missing
-  missing-order = refl
+  -- reading came to a place, and these runs are left before the end of the exponents
+  pub record At (place : ℕ) (runs : List Run) : Type 0 where
+    pub reached : Reached place
+    pub rest : (other k : ℕ) → other ≡ place + k → other ≤ length all → expected form (take other all) ≡ kind_at runs (ending form (take other all)) k
+    pub is_end : place + total runs ≡ exponents_end all
 
-  missing-roots : missing RootsNumber offset ≡ Some (Syntax offset Number)
-  unfolding missing
-  missing-roots = refl
+  pub at_start : At 0 (runs_after all)
+  unfolding exponents_end
+  at_start =
+      let count : total (runs_after all) ≡ exponents_end all = refl in
+      record {
+        reached = reached_none;
+        rest = λ other k e within. let same : k ≡ other = omega arith in rw same (expected_is form all other within);
+        is_end = omega (arith, count);
+      }
 
-  pub missing-element : (n : ℕ) → missing (ElementBelow n) offset ≡ Some (Syntax offset Number)
-  unfolding missing
-  missing-element n = refl
+  stands : (place count : ℕ) (kind : What) (runs : List Run) → At place (times (suc count) kind ∷ runs) → expected form (take place all) ≡ kind
+  stands place count kind runs at =
+      at.rest place 0 (omega arith) at.reached.within ∙ kind_at-within (suc count) kind runs (ending form (take place all)) 0 (omega arith)
 
-  missing-form : missing FormWord offset ≡ Some (Syntax offset A_form)
-  unfolding missing
-  missing-form = refl
+  -- the token of the first run, where reading came past it
+  pub fits : (place : ℕ) (kind : What) (runs : List Run) → At place (once kind ∷ runs) → Reached (place + 1) → refusal kind (lexeme_at place) ≡ None
+  fits place kind runs at reached = reached_fits place kind reached (stands place 0 kind runs at)
 
-  pub missing-end : missing EndWord offset ≡ Some (Syntax offset End)
-  unfolding missing
-  missing-end = refl
+  at_next : (place next count : ℕ) (kind : What) (runs : List Run) → place + 1 ≡ next → At place (times (suc count) kind ∷ runs) → Reached next → At next (times count kind ∷ runs)
+  at_next place next count kind runs after at reached = record {
+    reached = reached;
+    rest = λ other k e within. at.rest other (suc k) (omega arith) within ∙ kind_at-next count k kind runs (ending form (take other all));
+    is_end = omega (arith, at.is_end, sum_by-cons (λ (run : Run). run.count) (times (suc count) kind) runs, sum_by-cons (λ (run : Run). run.count) (times count kind) runs);
+  }
 
-  pub word_step : (expected_word : Expected) (place next : ℕ) (Q : List Lexeme → Type 0)
-      → place + 1 ≡ next → Reached place → expected form (take place all) ≡ Word expected_word
-      → (Reached next → Q (drop next all))
-      → Reads (skip offset (Word expected_word) (drop place all)) Q
-  word_step expected_word place next Q after reached stands on =
-      skip_step (Word expected_word) place next (Syntax offset expected_word) Q (missing-word expected_word) after reached stands on
+  at_past : (place : ℕ) (kind : What) (runs : List Run) → At place (times 0 kind ∷ runs) → At place runs
+  at_past place kind runs at = record {
+    reached = at.reached;
+    rest = λ other k e within. at.rest other k e within ∙ past_by k 0 k kind runs (ending form (take other all)) (omega arith);
+    is_end = omega (arith, at.is_end, sum_by-cons (λ (run : Run). run.count) (times 0 kind) runs);
+  }
+
+  -- where the exponents end
+  pub later : (place other k : ℕ) → At place [] → other ≡ place + k → other ≤ length all → expected form (take other all) ≡ ending form (take other all) k
+  later place other k at e inside = at.rest other k e inside ∙ kind_at-nil (ending form (take other all)) k
+
+  at_place : (place other : ℕ) (runs : List Run) → place ≡ other → At place runs → At other runs
+  at_place place other runs e at = subst (λ n. At n runs) e at
+
+  -- a token of the first run, which is missed where the text ends
+  abbrev IsMissed : What → Type 0
+  IsMissed kind = missing kind offset ≡ Some (Syntax offset (wanted kind))
+
+  run_step : {A : Type 0} (view : List ℕ → A) (kind : What) (place next count : ℕ) (runs : List Run) (Q : (A × List Lexeme) → Type 0) → IsMissed kind
+      → place + 1 ≡ next → At place (times (suc count) kind ∷ runs)
+      → (At next (times count kind ∷ runs) → Q (view (text_at all place), drop next all))
+      → Reads (read view offset kind (drop place all)) Q
+  run_step view kind place next count runs Q missed after at on =
+      step view kind place next (Syntax offset (wanted kind)) Q missed after at.reached
+      (stands place count kind runs at)
+      (λ reached. on (at_next place next count kind runs after at reached))
+
+  -- the one token of the first run
+  pub once_step : {A : Type 0} (view : List ℕ → A) (kind : What) (place next : ℕ) (runs : List Run) (Q : (A × List Lexeme) → Type 0) → IsMissed kind
+      → place + 1 ≡ next → At place (once kind ∷ runs) → (At next runs → Q (view (text_at all place), drop next all))
+      → Reads (read view offset kind (drop place all)) Q
+  once_step view kind place next runs Q missed after at on =
+      run_step view kind place next 0 runs Q missed after at (λ empty. on (at_past next kind runs empty))
+
+  -- the one word of the first run
+  pub word_step : (word : Expected) (place next : ℕ) (runs : List Run) (Q : List Lexeme → Type 0)
+      → place + 1 ≡ next → At place (once (Word word) ∷ runs) → (At next runs → Q (drop next all)) → Reads (skip offset (Word word) (drop place all)) Q
+  unfolding missing
+  word_step word place next runs Q after at on =
+      reads_bind (read (λ text. text) offset (Word word) (drop place all)) (λ x. Ok x.1) Q
+      (once_step (λ text. text) (Word word) place next runs (λ x. Q x.1) refl after at on)
 
   -- the order
-  pub order_step : (Q : (ℕ × List Lexeme) → Type 0) → (Reached 5 → Q (number_at all 3, drop 5 all)) → Reads (read_order offset all) Q
-  unfolding read_order
-  order_step Q on =
-      reads_bind (skip offset (Word Qdouble) all) _ Q
-      (word_step Qdouble 0 1 _ refl reached_none (expected-0 form all reached_none.within) (λ r1.
-      reads_bind (skip offset (Word One) (drop 1 all)) _ Q
-      (word_step One 1 2 _ refl r1 (expected-1 form all r1.within) (λ r2.
-      reads_bind (skip offset (Word Order) (drop 2 all)) _ Q
-      (word_step Order 2 3 _ refl r2 (expected-2 form all r2.within) (λ r3.
-      reads_bind (read_number offset OrderNumber (drop 3 all)) _ Q
-      (number_step OrderNumber 3 4 (Syntax offset Number) _ missing-order refl r3 (expected-3 form all r3.within) (λ r4.
-      reads_bind (skip offset (Word Table) (drop 4 all)) _ Q
-      (word_step Table 4 5 _ refl r4 (expected-4 form all r4.within) on)))))))))
+  pub order_step : (runs : List Run) (Q : (ℕ × List Lexeme) → Type 0)
+      → At 0 (once (Word Qdouble) ∷ once (Word One) ∷ once (Word Order) ∷ once OrderNumber ∷ once (Word Table) ∷ runs)
+      → (At 5 runs → IsBetween 1 60 (number_at all 3) → Q (number_at all 3, drop 5 all)) → Reads (read_order offset all) Q
+  unfolding read_order missing
+  order_step runs Q at on =
+      reads_bind (skip offset (Word Qdouble) all) _ Q (word_step Qdouble 0 1 _ _ refl at (λ at1.
+      reads_bind (skip offset (Word One) (drop 1 all)) _ Q (word_step One 1 2 _ _ refl at1 (λ at2.
+      reads_bind (skip offset (Word Order) (drop 2 all)) _ Q (word_step Order 2 3 _ _ refl at2 (λ at3.
+      reads_bind (read_number offset OrderNumber (drop 3 all)) _ Q (once_step value OrderNumber 3 4 _ _ refl refl at3 (λ at4.
+      reads_bind (skip offset (Word Table) (drop 4 all)) _ Q (word_step Table 4 5 runs _ refl at4 (λ at5.
+      on at5 (order_in_range (lexeme_at 3) (fits 3 OrderNumber _ at3 at4.reached))))))))))))
 
-  -- so many natural numbers from a place on
-  numbers_step : (count place next : ℕ) (Q : (List ℕ × List Lexeme) → Type 0) → place + count ≡ next → Reached place
-      → ((j : ℕ) → j < count → place + j ≤ length all → expected form (take (place + j) all) ≡ Natural)
-      → (Reached next → Q (numbers_at all place count, drop next all))
-      → Reads (read_numbers offset count (drop place all)) Q
-  unfolding read_numbers
-  numbers_step zero place next Q after reached stand on =
-      let e : place ≡ next = sym (add-zero place) ∙ after in
-      rw e (on (reached_at place next e reached))
-  numbers_step (suc count) place next Q after reached stand on =
-      reads_bind (read_number offset Natural (drop place all)) _ Q
-      (number_step Natural place (place + 1) (Syntax offset Number) _ missing-natural refl reached
-      (let e : place + 0 ≡ place = omega arith in
-      let here : expected form (take (place + 0) all) ≡ Natural = stand 0 (omega arith) (omega (arith, reached.within)) in
-      rw e at here)
-      (λ r1.
+  -- so many natural numbers
+  pub numbers_step : (count place next : ℕ) (runs : List Run) (Q : (List ℕ × List Lexeme) → Type 0) → place + count ≡ next → At place (times count Natural ∷ runs)
+      → (At next runs → Q (numbers_at all place count, drop next all)) → Reads (read_numbers offset count (drop place all)) Q
+  unfolding read_numbers missing
+  numbers_step zero place next runs Q after at on =
+      let e : place ≡ next = omega arith in
+      rw e (on (at_place place next runs e (at_past place Natural runs at)))
+  numbers_step (suc count) place next runs Q after at on =
+      reads_bind (read_number offset Natural (drop place all)) _ Q (run_step value Natural place (place + 1) count runs _ refl refl at (λ at1.
       reads_bind (read_numbers offset count (drop (place + 1) all)) _ Q
-      (numbers_step count (place + 1) next (λ more. Q (number_at all place ∷ more.0, more.1)) (omega arith) r1
-      (λ j within inside.
-      let e : place + (j + 1) ≡ place + 1 + j = omega arith in
-      let there : expected form (take (place + (j + 1)) all) ≡ Natural = stand (j + 1) (omega arith) (omega arith) in
-      rw e at there)
-      (λ r2.
-      let within : place < length all = omega (arith, r1.within) in
+      (numbers_step count (place + 1) next runs (λ more. Q (number_at all place ∷ more.0, more.1)) (omega arith) at1 (λ at2.
+      let within : place < length all = omega (arith, at1.reached.within) in
       let one : numbers_at all place (suc count) ≡ number_at all place ∷ numbers_at all (place + 1) count = rw (drop_here place within) refl in
-      rw one at (on r2)))))
+      rw one at (on at2)))))
 
   -- an entry of a sparse list
-  entry_step : (n place next : ℕ) (Q : ((ℕ × ℕ) × List Lexeme) → Type 0) → place + 4 ≡ next → Reached place
-      → ((r : ℕ) → r < 3 → place + r ≤ length all → expected form (take (place + r) all) ≡ ElementBelow n)
-      → (place + 3 ≤ length all → expected form (take (place + 3) all) ≡ Natural)
-      → (Reached next → Q ((place_of all n place, number_at all (place + 3)), drop next all))
-      → Reads (read_entry offset n (drop place all)) Q
-  unfolding read_entry
-  entry_step n place next Q after reached elements natural on =
-      let here : expected form (take place all) ≡ ElementBelow n =
-      (let e : place + 0 ≡ place = omega arith in
-      let at : expected form (take (place + 0) all) ≡ ElementBelow n = elements 0 (omega arith) (omega (arith, reached.within)) in
-      rw e at at) in
-      reads_bind (read_number offset (ElementBelow n) (drop place all)) _ Q
-      (number_step (ElementBelow n) place (place + 1) (Syntax offset Number) _ (missing-element n) refl reached here (λ r1.
-      reads_bind (read_number offset (ElementBelow n) (drop (place + 1) all)) _ Q
-      (number_step (ElementBelow n) (place + 1) (place + 2) (Syntax offset Number) _ (missing-element n) (omega arith) r1 (elements 1 (omega arith) r1.within) (λ r2.
-      reads_bind (read_number offset (ElementBelow n) (drop (place + 2) all)) _ Q
-      (number_step (ElementBelow n) (place + 2) (place + 3) (Syntax offset Number) _ (missing-element n) (omega arith) r2 (elements 2 (omega arith) r2.within) (λ r3.
-      reads_bind (read_number offset Natural (drop (place + 3) all)) _ Q
-      (number_step Natural (place + 3) next (Syntax offset Number) _ missing-natural (omega arith) r3 (natural r3.within) on)))))))
+  entry_step : (n place next : ℕ) (runs : List Run) (Q : ((ℕ × ℕ) × List Lexeme) → Type 0) → place + 4 ≡ next
+      → At place (times 3 (ElementBelow n) ∷ once Natural ∷ runs)
+      → (At next runs → Q ((place_of all n place, number_at all (place + 3)), drop next all)) → Reads (read_entry offset n (drop place all)) Q
+  unfolding read_entry missing
+  entry_step n place next runs Q after at on =
+      let element = ElementBelow n in
+      reads_bind (read_number offset element (drop place all)) _ Q (run_step value element place (place + 1) 2 _ _ refl refl at (λ at1.
+      reads_bind (read_number offset element (drop (place + 1) all)) _ Q (run_step value element (place + 1) (place + 2) 1 _ _ refl (omega arith) at1 (λ at2.
+      reads_bind (read_number offset element (drop (place + 2) all)) _ Q (once_step value element (place + 2) (place + 3) _ _ refl (omega arith) at2 (λ at3.
+      reads_bind (read_number offset Natural (drop (place + 3) all)) _ Q (once_step value Natural (place + 3) next runs _ refl (omega arith) at3 on)))))))
 
   -- the entries from number i on
   entries_step : (n start count next left i : ℕ) (Q : (List ℕ × List Lexeme) → Type 0) → i + left ≡ count → start + 4 * count ≡ next
-      → Reached (start + 4 * i)
-      → ((j r : ℕ) → j < count → r < 3 → start + 4 * j + r ≤ length all → expected form (take (start + 4 * j + r) all) ≡ ElementBelow n)
-      → ((j : ℕ) → j < count → start + 4 * j + 3 ≤ length all → expected form (take (start + 4 * j + 3) all) ≡ Natural)
-      → (Reached next → Q (sparse_exponents all n start count, drop next all))
+      → At (start + 4 * i) (entry_runs n left) → (At next [] → Q (sparse_exponents all n start count, drop next all))
       → Reads (read_entries offset n left (sparse_exponents all n start i) (drop (start + 4 * i) all)) Q
-  unfolding read_entries
-  entries_step n start count next zero i Q total after reached elements naturals on =
+  unfolding read_entries entry_runs
+  entries_step n start count next zero i Q all_listed after at on =
       let e : i ≡ count = omega arith in
       let f : start + 4 * i ≡ next = omega arith in
-      rw (f, e) (on (reached_at (start + 4 * i) next f reached))
-  entries_step n start count next (suc left) i Q total after reached elements naturals on =
-      let listed : i < count = omega arith in
-      let later : start + 4 * i + 4 ≡ start + 4 * suc i = omega arith in
-      reads_bind (read_entry offset n (drop (start + 4 * i) all)) _ Q
-      (entry_step n (start + 4 * i) (start + 4 * suc i) _ later reached
-      (λ r third inside. elements i r listed third inside)
-      (λ inside. naturals i listed inside)
-      (λ r4.
-      rw (sparse_exponents-suc all n start i)
-      (entries_step n start count next left (suc i) Q (omega arith) after r4 elements naturals on)))
+      rw (f, e) (on (at_place (start + 4 * i) next [] f at))
+  entries_step n start count next (suc left) i Q all_listed after at on =
+      reads_bind (read_entry offset n (drop (start + 4 * i) all)) _ Q (entry_step n (start + 4 * i) (start + 4 * suc i) (entry_runs n left) _ (omega arith) at (λ at4.
+      rw (sparse_exponents-suc all n start i) (entries_step n start count next left (suc i) Q (omega arith) after at4 on)))
 
-  -- the exponents end before this place
-  pub record Ends (place : ℕ) : Type 0 where
-    pub reached : Reached place
-    pub is_end : exponents_end all ≡ place
-    pub later : (other k : ℕ) → other ≡ place + k → other ≤ length all → expected form (take other all) ≡ ending form (take other all) k
+  -- the exponents, by whether their form is `dense` or `sparse`
+  listing_by : (n : ℕ) (dense sparse : Bool) (Q : (List ℕ × List Lexeme) → Type 0)
+      → is_word (text_at all (n * n + 8)) (codes "dense") ≡ dense → is_word (text_at all (n * n + 8)) (codes "sparse") ≡ sparse
+      → At (n * n + 9) (cond dense (times (n * n * n) Natural ∷ []) (cond sparse (once Natural ∷ entry_runs n (number_at all (n * n + 9))) []))
+      → ((place : ℕ) → At place [] → length (exponents_of all n) ≡ n * n * n → Q (exponents_of all n, drop place all))
+      → Reads (read_listing offset n (cond dense Dense (cond sparse Sparse Trivial)) (drop (n * n + 9) all)) Q
+  unfolding exponents_of read_sparse missing
+  listing_by n true sparse Q d s at on =
+      numbers_step (n * n * n) (n * n + 9) (n * n + 9 + n * n * n) [] Q refl at (λ end.
+      (rw d at (on (n * n + 9 + n * n * n) end)) (length-numbers_at all (n * n + 9) (n * n * n) end.reached.within))
+  listing_by n false false Q d s at on = (rw (d, s) at (on (n * n + 9) at)) (length-replicate (n * n * n) 0)
+  listing_by n false true Q d s at on =
+      let count = number_at all (n * n + 9) in
+      let start = n * n + 9 + 1 in
+      let none : start + 4 * 0 ≡ start = omega arith in
+      reads_bind (read_number offset Natural (drop (n * n + 9) all)) _ Q (once_step value Natural (n * n + 9) start _ _ refl refl at (λ at1.
+      let entries = entries_step n start count (start + 4 * count) count 0 Q (omega arith) refl (at_place start (start + 4 * 0) _ (sym none) at1)
+      (λ end. (rw (d, s) at (on (start + 4 * count) end)) (length-sparse_exponents all n start count)) in
+      rw (sparse_exponents-zero all n start) (rw none at entries)))
 
-  module _ (n : ℕ) (is_order : number_at all 3 ≡ n) where
-    trivial_step : (Q : (List ℕ × List Lexeme) → Type 0) → Reached (n * n + 9)
-        → is_word (text_at all (n * n + 8)) (codes "dense") ≡ false → is_word (text_at all (n * n + 8)) (codes "sparse") ≡ false
-        → ((place : ℕ) → Ends place → Q (exponents_of all n, drop place all))
-        → Reads (read_listing offset n Trivial (drop (n * n + 9) all)) Q
-    unfolding exponents_of
-    trivial_step Q reached dense sparse on =
-        let ends : Ends (n * n + 9) = record {
-          reached = reached;
-          is_end = end-trivial form all n is_order dense sparse;
-          later = λ other k e inside. expected-trivial form all n is_order other k e inside dense sparse;
-        } in
-        rw (dense, sparse) at (on (n * n + 9) ends)
+  -- all exponents
+  pub exponents_step : (n : ℕ) (Q : (List ℕ × List Lexeme) → Type 0)
+      → At (n * n + 8) (once FormWord ∷ exponent_runs (text_at all (n * n + 8)) n (number_at all (n * n + 9)))
+      → ((place : ℕ) → At place [] → length (exponents_of all n) ≡ n * n * n → Q (exponents_of all n, drop place all))
+      → Reads (read_exponents offset n (drop (n * n + 8) all)) Q
+  unfolding read_exponents exponent_runs missing
+  exponents_step n Q at on =
+      let text = text_at all (n * n + 8) in
+      reads_bind (read listing_of offset FormWord (drop (n * n + 8) all)) _ Q (once_step listing_of FormWord (n * n + 8) (n * n + 9) _ _ refl (omega arith) at (λ at9.
+      listing_by n (is_word text (codes "dense")) (is_word text (codes "sparse")) Q refl refl at9 on))
 
-    dense_step : (Q : (List ℕ × List Lexeme) → Type 0) → Reached (n * n + 9)
-        → is_word (text_at all (n * n + 8)) (codes "dense") ≡ true
-        → ((place : ℕ) → Ends place → Q (exponents_of all n, drop place all))
-        → Reads (read_listing offset n Dense (drop (n * n + 9) all)) Q
-    unfolding exponents_of
-    dense_step Q reached dense on =
-        let end = n * n + 9 + n * n * n in
-        numbers_step (n * n * n) (n * n + 9) end Q refl reached
-        (λ j within inside. expected-dense form all n is_order (n * n + 9 + j) j refl inside dense within)
-        (λ reached_end.
-        let ends : Ends end = record {
-          reached = reached_end;
-          is_end = end-dense form all n is_order dense;
-          later = λ other k e inside. expected_after_dense form all n is_order other k (omega (arith, e)) inside dense;
-        } in
-        rw dense at (on end ends))
-
-    sparse_step : (Q : (List ℕ × List Lexeme) → Type 0) → Reached (n * n + 9)
-        → is_word (text_at all (n * n + 8)) (codes "dense") ≡ false → is_word (text_at all (n * n + 8)) (codes "sparse") ≡ true
-        → ((place : ℕ) → Ends place → Q (exponents_of all n, drop place all))
-        → Reads (read_listing offset n Sparse (drop (n * n + 9) all)) Q
-    unfolding exponents_of read_sparse
-    sparse_step Q reached dense sparse on =
-        let count = number_at all (n * n + 9) in
-        let start = n * n + 9 + 1 in
-        let end = start + 4 * count in
-        let zero_entries : start + 4 * 0 ≡ start = omega arith in
-        reads_bind (read_number offset Natural (drop (n * n + 9) all)) _ Q
-        (number_step Natural (n * n + 9) start (Syntax offset Number) _ missing-natural refl reached (expected-sparse form all n is_order (n * n + 9) refl reached.within dense sparse) (λ r1.
-        let entries = entries_step n start count end count 0 Q (omega arith) refl (reached_at start (start + 4 * 0) (sym zero_entries) r1)
-        (λ j r listed third inside.
-        expected_in_entries form all n is_order (start + 4 * j + r) (4 * j + r) (omega arith) inside dense sparse
-        ∙ kind_at-element n count j r (ending form (take (start + 4 * j + r) all)) listed third)
-        (λ j listed inside.
-        expected_in_entries form all n is_order (start + 4 * j + 3) (4 * j + 3) (omega arith) inside dense sparse
-        ∙ kind_at-exponent n count j (ending form (take (start + 4 * j + 3) all)) listed)
-        (λ reached_end.
-        let ends : Ends end = record {
-          reached = reached_end;
-          is_end = end-sparse form all n is_order dense sparse;
-          later = λ other k e inside. expected_in_entries form all n is_order other (4 * count + k) (omega (arith, e)) inside dense sparse ∙ kind_at-after_entries n count k (ending form (take other all));
-        } in
-        rw (dense, sparse) at (on end ends)) in
-        rw (sparse_exponents-zero all n start) (rw zero_entries at entries)))
-
-    listing_by : (dense sparse : Bool) (Q : (List ℕ × List Lexeme) → Type 0) → Reached (n * n + 9)
-        → is_word (text_at all (n * n + 8)) (codes "dense") ≡ dense → is_word (text_at all (n * n + 8)) (codes "sparse") ≡ sparse
-        → ((place : ℕ) → Ends place → Q (exponents_of all n, drop place all))
-        → Reads (read_listing offset n (cond dense Dense (cond sparse Sparse Trivial)) (drop (n * n + 9) all)) Q
-    listing_by true sparse Q reached d s on = dense_step Q reached d on
-    listing_by false true Q reached d s on = sparse_step Q reached d s on
-    listing_by false false Q reached d s on = trivial_step Q reached d s on
-
-    pub exponents_step : (Q : (List ℕ × List Lexeme) → Type 0) → Reached (n * n + 8)
-        → ((place : ℕ) → Ends place → Q (exponents_of all n, drop place all))
-        → Reads (read_exponents offset n (drop (n * n + 8) all)) Q
-    unfolding read_exponents
-    exponents_step Q reached on =
-        let text = text_at all (n * n + 8) in
-        reads_bind (read listing_of offset FormWord (drop (n * n + 8) all)) _ Q
-        (step listing_of FormWord (n * n + 8) (n * n + 9) (Syntax offset A_form) _ missing-form (omega arith) reached (expected-form form all n is_order (n * n + 8) refl reached.within)
-        (λ r9. listing_by (is_word text (codes "dense")) (is_word text (codes "sparse")) Q r9 refl refl on))
-
-    pub table_step : (Q : (List ℕ × List Lexeme) → Type 0) → Reached 5 → (Reached (n * n + 5) → Q (numbers_at all 5 (n * n), drop (n * n + 5) all))
-        → Reads (read_numbers offset (n * n) (drop 5 all)) Q
-    table_step Q reached on =
-        numbers_step (n * n) 5 (n * n + 5) Q (omega arith) reached (λ j within inside. expected-table form all n is_order j within inside) on
-
-    pub roots_step : (Q : (ℕ × List Lexeme) → Type 0) → Reached (n * n + 5) → (Reached (n * n + 8) → Q (number_at all (n * n + 6), drop (n * n + 8) all))
-        → Reads (read_roots offset (drop (n * n + 5) all)) Q
-    unfolding read_roots
-    roots_step Q reached on =
-        reads_bind (skip offset (Word Roots) (drop (n * n + 5) all)) _ Q
-        (word_step Roots (n * n + 5) (n * n + 6) _ (omega arith) reached (expected-roots form all n is_order (n * n + 5) refl reached.within) (λ r6.
-        reads_bind (read_number offset RootsNumber (drop (n * n + 6) all)) _ Q
-        (number_step RootsNumber (n * n + 6) (n * n + 7) (Syntax offset Number) _ missing-roots (omega arith) r6 (expected-roots_number form all n is_order (n * n + 6) refl r6.within) (λ r7.
-        reads_bind (skip offset (Word Omega) (drop (n * n + 7) all)) _ Q
-        (word_step Omega (n * n + 7) (n * n + 8) _ (omega arith) r7 (expected-omega form all n is_order (n * n + 7) refl r7.within) on)))))
-
-  -- the kinds that follow the exponents
-  pub refused_nothing : (place : ℕ) → Reached place → (k : ℕ) → k < place → refusal_at form offset all k ≡ None
-  refused_nothing place reached k before = first_none-at place k (refusal_at form offset all) reached.clear before
-
-  -- the token before a place that was reached fits
-  pub reached_fits : (place : ℕ) (kind : What) → Reached (place + 1) → expected form (take place all) ≡ kind → refusal kind (lexeme_at place) ≡ None
-  reached_fits place kind reached stands =
-      sym (refusal_at-within place kind stands (omega (arith, reached.within))) ∙ refused_nothing (place + 1) reached place (omega arith)
+  -- the number of roots
+  pub roots_step : (place number next : ℕ) (runs : List Run) (Q : (ℕ × List Lexeme) → Type 0) → place + 1 ≡ number → number + 2 ≡ next
+      → At place (once (Word Roots) ∷ once RootsNumber ∷ once (Word Omega) ∷ runs)
+      → (At next runs → IsBetween 1 64 (number_at all number) → Q (number_at all number, drop next all))
+      → Reads (read_roots offset (drop place all)) Q
+  unfolding read_roots missing
+  roots_step place number next runs Q before after at on =
+      reads_bind (skip offset (Word Roots) (drop place all)) _ Q (word_step Roots place number _ _ before at (λ at1.
+      reads_bind (read_number offset RootsNumber (drop number all)) _ Q (once_step value RootsNumber number (number + 1) _ _ refl refl at1 (λ at2.
+      reads_bind (skip offset (Word Omega) (drop (number + 1) all)) _ Q (word_step Omega (number + 1) next runs _ (omega arith) at2 (λ at3.
+      on at3 (roots_in_range (lexeme_at number) (fits number RootsNumber _ at1 at2.reached))))))))

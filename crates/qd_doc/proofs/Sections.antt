@@ -1,10 +1,10 @@
 -- Reading what follows the exponents, and so a whole document, finds the first refusal, and the contents by
 -- their places.
 use Rattle.std.proofs.Common.{◌≡◌, ℕ, zero, suc, ◌-◌, ◌+◌, ◌*◌, ◌≤◌, ◌<◌, cond, List, [], ◌∷◌, ◌++◌, length, take, drop, map, get_or, Option, Some, None, Ok, refl, sym, ap, ◌∙◌, ◌⊎◌, inl, inr, arith, add-one, length-drop}
-use Rattle.std.specs.Prelude.{fold}
+use Rattle.std.specs.Prelude.{fold, IfSome, true}
 use Rattle.std.proofs.lemmas.List.{length-take-le, drop-take, take_more, get_or-drop}
 use Rattle.std.proofs.lemmas.List.Sums.{fold-append}
-use Rattle.cyclotomic.specs.Conductors.{phi_of}
+use Rattle.cyclotomic.specs.Conductors.{is_conductor, phi_of}
 use Rattle.qd_text.specs.Tokens.{Lexeme}
 use Rattle.qd_text.specs.declared.expected.Expected.TheVariants.{Characters, Number, End}
 use Rattle.qd_doc.specs.declared.document.Form.{Form}
@@ -14,32 +14,42 @@ use Rattle.qd_doc.specs.declared.document.Given.{Given}
 use Rattle.qd_doc.specs.declared.refusal.DocRefusal.TheVariants.{Syntax}
 use Rattle.qd_doc.specs.Blocks.{Block}
 use Rattle.qd_doc.specs.Kinds.{What, Word, ConductorNumber, ClassOrEnd, EndWord, NoToken, missing}
-use Rattle.qd_doc.specs.Grammar.{text_at, number_at, what_after, after_characters, ending, expected, first_refusal}
-use Rattle.qd_doc.specs.Contents.{blocks_of, characters_of, document_of}
+use Rattle.qd_text.specs.Numbers.{value}
+use Rattle.qd_doc.specs.Grammar.{text_at, number_at, front_runs, runs_after, what_after, after_characters, ending, expected, first_refusal}
+use Rattle.qd_doc.specs.Contents.{exponents_end, blocks_of, characters_of, document_of}
 use Rattle.qd_doc.specs.Section.{kind_after, part_of, stage_of, is_end, with_part}
 use Rattle.qd_doc.specs.Reading.{read, skip, read_number, read_numbers, read_order, read_roots, read_exponents, read_end, read_blocks, read_given, read_characters, read_document}
 use Rattle.qd_doc.proofs.Loops.{missing_end, blocks_step}
 use Rattle.qd_doc.proofs.Parts.{State, Between, stage_in, blocks_in, whole, Ends as Section_ends, Goes, move}
-use Rattle.qd_doc.proofs.Places.{no_lexeme, Reads, Reached, Ends, reads_bind, reached_fits, drop_here, step, skip_step, word_step, number_step, end_step, missing-end, order_step, table_step, roots_step, exponents_step}
+use Rattle.qd_doc.proofs.Ranges.{conductor_in_table, length-numbers_at}
+use Rattle.qd_doc.proofs.Places.{no_lexeme, Reads, Reached, At, reads_bind, reached_fits, drop_here, step, skip_step, end_step, at_start, later, order_step, numbers_step, roots_step, exponents_step}
 
 -- the words of tokens
 abbrev pub texts : List Lexeme → List (List ℕ)
 texts tokens = map (λ (token : Lexeme). token.text) tokens
 
-missing-conductor : (offset : ℕ) → missing ConductorNumber offset ≡ Some (Syntax offset Number)
-unfolding missing
-missing-conductor offset = refl
+-- the conductor of what a document gives is in the table
+abbrev pub HasConductor : Option Given → Type 0
+HasConductor characters = IfSome characters (λ given. is_conductor given.conductor ≡ true)
+
+-- what reading says of a document by itself
+pub record HasShape (document : Document) : Type 0 where
+  pub order : (1 ≤ document.order) × (document.order ≤ 60)
+  pub table : length document.table ≡ document.order * document.order
+  pub roots : (1 ≤ document.roots) × (document.roots ≤ 64)
+  pub exponents : length document.exponents ≡ document.order * document.order * document.order
+  pub conductor : HasConductor document.characters
 
 module _ (offset : ℕ) (all : List Lexeme) where
   -- a bare document ends
-  bare_step : (place : ℕ) (Q : Option Given → Type 0) → Ends Bare offset all place → (first_refusal Bare offset all ≡ None → Q None)
+  bare_step : (place : ℕ) (Q : Option Given → Type 0) → At Bare offset all place [] → (first_refusal Bare offset all ≡ None → Q None)
       → Reads Bare offset all (read_characters offset Bare (drop place all)) Q
-  unfolding read_characters read_end
+  unfolding read_characters read_end missing
   bare_step place Q ends on =
       reads_bind Bare offset all (read_end offset (drop place all)) (λ rest. Ok None) Q
       (reads_bind Bare offset all (skip offset EndWord (drop place all)) _ (λ rest. Q None)
-      (skip_step Bare offset all EndWord place (place + 1) (Syntax offset End) _ (missing-end Bare offset all) refl ends.reached (ends.later place 0 (omega arith) ends.reached.within) (λ r1.
-      end_step Bare offset all (place + 1) (λ rest. Q None) r1 (ends.later (place + 1) 1 refl r1.within) on)))
+      (skip_step Bare offset all EndWord place (place + 1) (Syntax offset End) _ refl refl ends.reached (later Bare offset all place place 0 ends (omega arith) ends.reached.within) (λ r1.
+      end_step Bare offset all (place + 1) (λ rest. Q None) r1 (later Bare offset all place (place + 1) 1 ends refl r1.within) on)))
 
   -- ---- the section of characters
 
@@ -51,9 +61,9 @@ module _ (offset : ℕ) (all : List Lexeme) where
       ∙ ap (λ n. after_characters (drop place (take n all))) e
       ∙ ap after_characters (drop-take place k all)
 
-  module _ (place : ℕ) (ends : Ends WithCharacters offset all place) where
+  module _ (place : ℕ) (ends : At WithCharacters offset all place []) where
     kind_of : (other k : ℕ) → other ≡ place + k → other ≤ length all → expected WithCharacters (take other all) ≡ after_characters (take k (drop place all))
-    kind_of other k e inside = ends.later other k e inside ∙ section_before place other k e inside
+    kind_of other k e inside = later WithCharacters offset all place other k ends e inside ∙ section_before place other k e inside
 
     here : (other : ℕ) → other < length all → drop other all ≡ get_or all other no_lexeme ∷ drop (other + 1) all
     here other within = drop_here WithCharacters offset all other within
@@ -143,41 +153,59 @@ module _ (offset : ℕ) (all : List Lexeme) where
 
     characters_step : (Q : (Given × List Lexeme) → Type 0)
         → ((end : ℕ) → Reached WithCharacters offset all end → (end ≤ length all → expected WithCharacters (take end all) ≡ NoToken)
+        → is_conductor (number_at all (place + 1)) ≡ true
         → Q (record { conductor = number_at all (place + 1); blocks = blocks_of phi (texts (drop (place + 2) all)) }, drop end all))
         → Reads WithCharacters offset all (read_given offset (drop place all)) Q
-    unfolding read_given Found folded phi
+    unfolding read_given Found folded phi missing
     characters_step Q on =
         reads_bind WithCharacters offset all (skip offset (Word Characters) (drop place all)) _ Q
-        (word_step WithCharacters offset all Characters place (place + 1) _ refl ends.reached stands-word (λ r1.
+        (skip_step WithCharacters offset all (Word Characters) place (place + 1) (Syntax offset Characters) _ refl refl ends.reached stands-word (λ r1.
         reads_bind WithCharacters offset all (read_number offset ConductorNumber (drop (place + 1) all)) _ Q
-        (number_step WithCharacters offset all ConductorNumber (place + 1) (place + 2) (Syntax offset Number) _ (missing-conductor offset) (omega arith) r1 (stands-conductor r1.within) (λ r2.
+        (step WithCharacters offset all value ConductorNumber (place + 1) (place + 2) (Syntax offset Number) _ refl (omega arith) r1 (stands-conductor r1.within) (λ r2.
         reads_bind WithCharacters offset all (read_blocks offset phi (stage_in (Between [])) [] (drop (place + 2) all)) _ Q
-        (walk (length all) (place + 2) 0 (Between []) _ (omega arith) (omega arith) r2 refl (λ end reached nothing. on end reached nothing))))))
+        (walk (length all) (place + 2) 0 (Between []) _ (omega arith) (omega arith) r2 refl (λ end reached nothing.
+        let two : place + 2 ≡ place + 1 + 1 = omega arith in
+        on end reached nothing (conductor_in_table (get_or all (place + 1) no_lexeme)
+        (reached_fits WithCharacters offset all (place + 1) ConductorNumber (rw two at r2) (stands-conductor r1.within)))))))))
 
   -- what follows the exponents of a document with characters
-  given_step : (place : ℕ) (Q : Option Given → Type 0) → Ends WithCharacters offset all place → (first_refusal WithCharacters offset all ≡ None → Q (characters_of WithCharacters all))
+  given_step : (place : ℕ) (Q : Option Given → Type 0) → At WithCharacters offset all place []
+      → (first_refusal WithCharacters offset all ≡ None → HasConductor (characters_of WithCharacters all) → Q (characters_of WithCharacters all))
       → Reads WithCharacters offset all (read_characters offset WithCharacters (drop place all)) Q
   unfolding read_characters characters_of phi
   given_step place Q ends on =
       reads_bind WithCharacters offset all (read_given offset (drop place all)) _ Q
-      (characters_step place ends _ (λ end reached nothing.
+      (characters_step place ends _ (λ end reached nothing entry.
+      let is_end : exponents_end all ≡ place = omega (arith, ends.is_end) in
       reads_bind WithCharacters offset all (skip offset NoToken (drop end all)) _ Q
-      (end_step WithCharacters offset all end _ reached (nothing reached.within) (λ none. rw ends.is_end at (on none)))))
+      (end_step WithCharacters offset all end _ reached (nothing reached.within) (λ none. (rw is_end at (on none)) entry))))
 
-  last_step : (form : Form) (place : ℕ) (Q : Option Given → Type 0) → Ends form offset all place → (first_refusal form offset all ≡ None → Q (characters_of form all))
+  last_step : (form : Form) (place : ℕ) (Q : Option Given → Type 0) → At form offset all place []
+      → (first_refusal form offset all ≡ None → HasConductor (characters_of form all) → Q (characters_of form all))
       → Reads form offset all (read_characters offset form (drop place all)) Q
   unfolding characters_of
-  last_step Bare place Q ends on = bare_step place Q ends on
+  last_step Bare place Q ends on = bare_step place Q ends (λ none. on none tt)
   last_step WithCharacters place Q ends on = given_step place Q ends on
 
+  -- what reading a whole document gives
+  pub record IsWhole (form : Form) (document : Document) : Type 0 where
+    pub lawful : first_refusal form offset all ≡ None
+    pub contents : document ≡ document_of form all
+    pub shape : HasShape document
+
   -- reading a whole document finds the first refusal, or the document that its tokens spell
-  pub reads_document : (form : Form) → Reads form offset all (read_document offset form all) (λ document. (first_refusal form offset all ≡ None) × (document ≡ document_of form all))
-  unfolding read_document document_of
+  pub reads_document : (form : Form) → Reads form offset all (read_document offset form all) (IsWhole form)
+  unfolding read_document document_of runs_after front_runs
   reads_document form =
-      let Q : Document → Type 0 = λ document. (first_refusal form offset all ≡ None) × (document ≡ document_of form all) in
+      let Q : Document → Type 0 = IsWhole form in
       let n = number_at all 3 in
-      reads_bind form offset all (read_order offset all) _ Q (order_step form offset all _ (λ r5.
-      reads_bind form offset all (read_numbers offset (n * n) (drop 5 all)) _ Q (table_step form offset all n refl _ r5 (λ after_table.
-      reads_bind form offset all (read_roots offset (drop (n * n + 5) all)) _ Q (roots_step form offset all n refl _ after_table (λ after_omega.
-      reads_bind form offset all (read_exponents offset n (drop (n * n + 8) all)) _ Q (exponents_step form offset all n refl _ after_omega (λ place ends.
-      reads_bind form offset all (read_characters offset form (drop place all)) _ Q (last_step form place _ ends (λ none. (none, refl)))))))))))
+      reads_bind form offset all (read_order offset all) _ Q (order_step form offset all _ _ (at_start form offset all) (λ at_table order.
+      reads_bind form offset all (read_numbers offset (n * n) (drop 5 all)) _ Q (numbers_step form offset all (n * n) 5 (n * n + 5) _ _ (omega arith) at_table (λ at_roots.
+      reads_bind form offset all (read_roots offset (drop (n * n + 5) all)) _ Q (roots_step form offset all (n * n + 5) (n * n + 6) (n * n + 8) _ _ (omega arith) (omega arith) at_roots (λ at_form roots.
+      reads_bind form offset all (read_exponents offset n (drop (n * n + 8) all)) _ Q (exponents_step form offset all n _ at_form (λ place ends cube.
+      reads_bind form offset all (read_characters offset form (drop place all)) _ Q (last_step form place _ ends (λ none conductor.
+      record {
+        lawful = none;
+        contents = refl;
+        shape = record { order = order; table = length-numbers_at all 5 (n * n) (omega (arith, at_roots.reached.within)); roots = roots; exponents = cube; conductor = conductor };
+      }))))))))))

@@ -1,11 +1,10 @@
 -- The parts that a reader takes the section of characters apart into, for the contracts of the private
 -- steps. What the section is stands in Grammar and Contents.
-use Rattle.std.specs.Prelude.{ℕ, ◌+◌, ◌-◌, ◌<◌, ◌^◌, Bool, true, false, if◌then◌else◌, List, [], ◌∷◌, ◌++◌, length, codes, Option, Some, None, Result, Ok, Err}
+use Rattle.std.specs.Prelude.{ℕ, ◌<◌, Bool, true, false, if◌then◌else◌, List, [], ◌∷◌, ◌++◌, length, codes, Option, Some, None, Result, Ok, Err}
 use Rattle.qd_text.specs.Tokens.{Lexeme}
 use Rattle.qd_text.specs.declared.expected.Expected.TheVariants.{End}
 use Rattle.qd_doc.specs.declared.refusal.DocRefusal.{DocRefusal}
 use Rattle.qd_doc.specs.declared.refusal.DocRefusal.TheVariants.{Syntax}
-use Rattle.qd_ring.specs.RowLists.{row_at}
 use Rattle.qd_text.specs.Numbers.{value}
 use Rattle.qd_doc.specs.Blocks.{Block, block, last_rows, with_row, with_value}
 use Rattle.qd_doc.specs.Values.{begins_value, plain, coefficients, value_of}
@@ -73,10 +72,8 @@ with_part parts.Row blocks = with_row blocks
 with_part (parts.Value v) blocks = with_value blocks v.coefficients
 with_part parts.End blocks = blocks
 
--- there is room for what a part says
-abbrev pub HasRoom : Part → List Block → Type 0
-HasRoom parts.Class blocks = Unit {0}
-HasRoom (parts.Number n) blocks = length blocks + 1 < 2 ^ 32
-HasRoom parts.Row blocks = (0 < length blocks) × (length (last_rows blocks) + 1 < 2 ^ 32)
-HasRoom (parts.Value v) blocks = (0 < length blocks) × (0 < length (last_rows blocks)) × (length (row_at (last_rows blocks) (length (last_rows blocks) - 1)) + 1 < 2 ^ 32)
-HasRoom parts.End blocks = Unit {0}
+-- there is a block for a row, and a row for a value
+abbrev pub HasPlace : Part → List Block → Type 0
+HasPlace parts.Row blocks = 0 < length blocks
+HasPlace (parts.Value v) blocks = (0 < length blocks) × (0 < length (last_rows blocks))
+HasPlace part blocks = Unit {0}

@@ -49,7 +49,6 @@ impl Blocks {
 
     /// Adds a block with this number and no row. After `Memory` the blocks are as before.
     pub fn push_block(&mut self, representative: u32) -> Result<(), Memory>
-        requires room { length self.old + 1 < 2 ^ 32 }
         ensures added { OnOk result (self.new ≡ self.old ++ block representative [] ∷ []) }
         ensures unchanged { OnErr result (self.new ≡ self.old) }
     {
@@ -65,7 +64,6 @@ impl Blocks {
     /// Adds a row with no value at the end of the last block. After `Memory` the blocks are as before.
     pub fn push_row(&mut self) -> Result<(), Memory>
         requires listed { 0 < length self.old }
-        requires room { length (last_rows self.old) + 1 < 2 ^ 32 }
         ensures added { OnOk result (self.new ≡ with_row self.old) }
         ensures unchanged { OnErr result (self.new ≡ self.old) }
     {
@@ -79,7 +77,6 @@ impl Blocks {
     pub fn push_value(&mut self, v: Plain) -> Result<(), Memory>
         requires listed { 0 < length self.old }
         requires row { 0 < length (last_rows self.old) }
-        requires room { length (row_at (last_rows self.old) (length (last_rows self.old) - 1)) + 1 < 2 ^ 32 }
         ensures added { OnOk result (self.new ≡ with_value self.old v.coefficients) }
         ensures unchanged { OnErr result (self.new ≡ self.old) }
     {

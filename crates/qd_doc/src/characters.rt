@@ -6,7 +6,7 @@ ghost use Rattle.qd_text.specs.Tokens.{tokens_from, lexeme_of, text_of, IsWithin
 ghost use Rattle.qd_doc.specs.Values.{begins_value, value_of, coefficients, plain, ValuesAreSpelled};
 ghost use Rattle.qd_text.specs.Numbers.{value};
 ghost use Rattle.qd_doc.specs.Kinds.{Natural, fault_refusal, refusal};
-ghost use Rattle.qd_doc.specs.Section.{kind_after, part_of, row_or_end, value_or_row, word_part, is_end, stage_of, with_part, HasRoom};
+ghost use Rattle.qd_doc.specs.Section.{kind_after, part_of, row_or_end, value_or_row, word_part, is_end, stage_of, with_part, HasPlace};
 ghost use Rattle.qd_doc.specs.Reading.{Gives, IsOffset, read, read_blocks, read_given, unless};
 
 use crate::blocks::Blocks;
@@ -153,7 +153,7 @@ fn part(bytes: &Vec<u8>, at: u32, phi: u32, stage: Stage) -> Result<(Part, u32),
 
 /// Puts what a part says into the blocks.
 fn add(blocks: &mut Blocks, part: &Part) -> Result<(), Memory>
-    requires room { HasRoom part.now blocks.old }
+    requires place { HasPlace part.now blocks.old }
     ensures added { OnOk result (blocks.new ≡ with_part part.now blocks.old) }
 {
     match part {

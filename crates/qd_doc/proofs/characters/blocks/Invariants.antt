@@ -9,7 +9,7 @@ use Rattle.qd_doc.proofs.characters.blocks.Given as goal
 abbrev pub invariant-loop-blocks : goal.invariant-loop-blocks
 invariant-loop-blocks l = record {
   offset : IsOffset l.bytes.items l.next;
-  opened : IsOpen l.stage l.blocks l.next;
+  opened : IsOpen l.stage l.blocks;
   left : read_blocks (length l.bytes.items) l.phi l.stage l.blocks (tokens_from l.next l.bytes.items)
       ≡ read_blocks (length l.bytes.items) l.phi stages.Conductor [] (tokens_from l.at l.bytes.items);
 }

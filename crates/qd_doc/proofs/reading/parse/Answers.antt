@@ -5,22 +5,22 @@ use Rattle.qd_doc.specs.declared.document.Document.{Document}
 use Rattle.qd_doc.specs.declared.document.Form.{Form}
 use Rattle.qd_doc.specs.declared.refusal.DocRefusal.{DocRefusal}
 use Rattle.qd_doc.specs.declared.refusal.DocRefusal.TheVariants.{Syntax, Wide, Section, Order, Roots, Memory}
-use Rattle.qd_doc.specs.Grammar.{first_refusal, stop_of}
+use Rattle.qd_doc.specs.Grammar.{stop_of}
 use Rattle.qd_doc.specs.Contents.{Parses, document_of, IsInRange}
 use Rattle.qd_doc.specs.Reading.{Gives, read_document}
 use Rattle.qd_doc.proofs.Places.{Reads}
-use Rattle.qd_doc.proofs.Sections.{reads_document}
+use Rattle.qd_doc.proofs.Sections.{IsWhole, reads_document}
 use Rattle.qd_doc.proofs.Shapes.{document_in_range}
 use Rattle.qd_doc.proofs.reading.parse.Goals as goal
 
 -- what reading says of a text, at an equation
 reads_at : (bytes : List ℕ) (form : Form) (r : Result Document DocRefusal) → read_document (length bytes) form (tokens bytes) ≡ r
-    → Reads form (length bytes) (tokens bytes) r (λ document. (first_refusal form (length bytes) (tokens bytes) ≡ None) × (document ≡ document_of form (tokens bytes)))
+    → Reads form (length bytes) (tokens bytes) r (IsWhole (length bytes) (tokens bytes) form)
 reads_at bytes form r e = rw e at (reads_document (length bytes) (tokens bytes) form)
 
 parses : (bytes : List ℕ) (form : Form) (r : Result Document DocRefusal) → Gives (λ document. document) r (read_document (length bytes) form (tokens bytes)) → Parses form bytes r
 unfolding stop_of
-parses bytes form (Ok document) gives = reads_at bytes form (Ok document) gives
+parses bytes form (Ok document) gives = let read = reads_at bytes form (Ok document) gives in (read.lawful, read.contents)
 parses bytes form (Err (Syntax offset expected)) gives = reads_at bytes form (Err (Syntax offset expected)) gives
 parses bytes form (Err (Wide offset)) gives = reads_at bytes form (Err (Wide offset)) gives
 parses bytes form (Err (Section offset)) gives = reads_at bytes form (Err (Section offset)) gives

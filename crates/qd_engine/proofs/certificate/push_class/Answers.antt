@@ -9,9 +9,6 @@ use Rattle.qd_engine.specs.Certificate.{certified_block}
 use Rattle.qd_engine.proofs.Certificates.{last_of_front, with_last_front, members_below, on_ok}
 use Rattle.qd_engine.proofs.certificate.push_class.Goals as goal
 
-pub push_block-requires : goal.push_block-requires
-push_block-requires g c = let few = c.requires.few in record { room = omega arith }
-
 pub push_rows_of-requires : goal.push_rows_of-requires
 push_rows_of-requires g c =
     let front = c.args.blocks.now in

@@ -1,25 +1,11 @@
-use Rattle.std.proofs.Common.{◌≡◌, ◌-◌, List, ◌∷◌, [], ◌++◌, length, ap, sym, subst, ◌∙◌, arith}
-use Rattle.std.proofs.lemmas.List.FromFn.{length-map-range_with_len}
-use Rattle.std.specs.Prelude.{ℤ}
+use Rattle.std.proofs.Common.{◌≡◌, ◌∷◌, [], ◌++◌, ap, sym, subst, ◌∙◌}
 use Rattle.qd_ring.specs.CycArrays.{array_of}
-use Rattle.qd_ring.specs.RowLists.{row_at}
 use Rattle.qd_ring.proofs.CycSums.{array-of_value}
 use Rattle.transport.specs.Simples.{value_at}
 use Rattle.qd_doc.specs.Blocks.{last_rows, with_last_rows, with_value}
 use Rattle.qd_doc.specs.Contents.{IsValueOf}
-use Rattle.qd_steps.proofs.TableRows.{last_row}
 use Rattle.qd_engine.proofs.Certificates.{front_of_row, front_more, all_more, last_of_with, value_put}
 use Rattle.qd_engine.proofs.certificate.push_row_of.Goals as goal
-
-pub push_value-requires-clause-room : goal.push_value-requires-clause-room
-push_value-requires-clause-room g c =
-    let old = c.args.blocks.now in
-    let row = front_of_row g.row.K c.args.simples.now c.args.i c.loop-p.p in
-    let rows : last_rows c.loop-p.blocks ≡ last_rows old ++ row ∷ [] = ap last_rows c.loop-p.invariant.added ∙ last_of_with old c.requires.begun _ in
-    let last : row_at (last_rows c.loop-p.blocks) (length (last_rows c.loop-p.blocks) - 1) ≡ row =
-    ap (λ (r : List (List (List ℤ))). row_at r (length r - 1)) rows ∙ last_row (last_rows old) row in
-    let width : length row ≡ c.loop-p.p = length-map-range_with_len _ 0 c.loop-p.p in
-    rw last (rw width (omega arith))
 
 pub loop-p-preserved : goal.loop-p-preserved
 loop-p-preserved g c =
