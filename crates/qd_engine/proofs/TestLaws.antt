@@ -25,7 +25,7 @@ use Rattle.qd_doc.specs.declared.document.Given.{Given}
 use Rattle.qd_doc.specs.declared.refusal.DocRefusal.{DocRefusal}
 use Rattle.qd_doc.specs.declared.refusal.DocRefusal.TheVariants as stops
 use Rattle.table_check.specs.Characters.{Characters}
-use Rattle.table_check.specs.Answers.{fit_at}
+use Rattle.table_check.specs.Answers.{fit_at, site_of}
 use Rattle.table_check.specs.Check.{table_miss}
 use Rattle.table_check.specs.Good.{IsGood}
 use Rattle.table_check.proofs.Good.{nothing_missed}
@@ -34,7 +34,7 @@ use Rattle.table_check.specs.declared.miss.Clause.TheVariants as clauses
 use Rattle.table_check.specs.declared.miss.Miss.{Miss}
 use Rattle.data_print.specs.declared.cause.Cause.{Cause}
 use Rattle.data_print.specs.declared.cause.Cause.TheVariants as causes
-use Rattle.qd_steps.specs.Tables.{failure, site_of, cause_of_miss, table_cause, class_twist, class_table, tables_cause, simples_over}
+use Rattle.qd_steps.specs.Tables.{failure, cause_of_miss, table_cause, class_twist, class_table, tables_cause, simples_over}
 use Rattle.qd_steps.specs.ByModulus.{cause_of_lift, lift_cause, lifts_cause, lifted_blocks, modulus_cause}
 use Rattle.qd_steps.proofs.LiftedRows.{lifted_matched}
 use Rattle.twist_lift.specs.TwistRows.{twist_fault}

@@ -8,16 +8,13 @@ use Rattle.classes.specs.Conjugacy.{representatives, representative_at}
 use Rattle.cyclotomic.specs.CyclotomicRing.{CyclotomicValue}
 use Rattle.qd_ring.specs.CycArrays.{array_of}
 use Rattle.qd_ring.specs.declared.plain.Plain.{Plain}
-use Rattle.qd_ring.specs.declared.site.Site.{Site}
-use Rattle.qd_ring.specs.declared.site.Part.{Part}
-use Rattle.qd_ring.specs.declared.site.Part.TheVariants as parts
 use Rattle.twisted.specs.Twist.{TwistedSubgroup}
 use Rattle.twisted.specs.Regular.{rank}
 use Rattle.slant.specs.Twists.{twist_of}
 use Rattle.qd_doc.specs.Blocks.{Block, block_at}
 use Rattle.table_check.specs.Characters.{Characters, RowsOver, characters_of}
 use Rattle.table_check.specs.Check.{table_miss}
-use Rattle.table_check.specs.Answers.{second_of, third_of, left_of, right_of, fit_at}
+use Rattle.table_check.specs.Answers.{second_of, third_of, site_of, left_of, right_of, fit_at}
 use Rattle.table_check.specs.Sides.{twist_left}
 use Rattle.table_check.specs.declared.identity_name.IdentityName.{IdentityName}
 use Rattle.table_check.specs.declared.identity_name.IdentityName.TheVariants as names
@@ -31,28 +28,6 @@ use Rattle.data_print.specs.declared.cause.Cause.TheVariants.{Count, Identity, N
 -- a value without its conductor
 abbrev pub plain_of : (k : ℕ) → CyclotomicValue k → Plain
 plain_of k u = record { coefficients = array_of u }
-
--- the kind of the sides of a clause. The last three have none that could overflow, so their line is never met
-abbrev pub part_of : Clause → Part
-part_of clauses.Unitary = parts.Unitary
-part_of clauses.Twist = parts.Twist
-part_of clauses.Central = parts.Central
-part_of clauses.Product = parts.Product
-part_of clauses.Sum = parts.Sum
-part_of clauses.Column = parts.Column
-part_of clauses.Count = parts.Full
-part_of clauses.Degree = parts.Full
-part_of clauses.Vacuum = parts.Full
-
--- the site of the sides of a clause at a place
-abbrev pub site_of : TwistedSubgroup → Miss → Site
-site_of s miss = record {
-  part = part_of miss.clause;
-  at = s.at;
-  i = miss.i;
-  j = second_of s miss.clause miss.j;
-  x = third_of s miss.clause miss.x;
-}
 
 module _ {k : ℕ} (s : TwistedSubgroup) (table : Characters k) where
   -- the equation that fails there, with its two sides

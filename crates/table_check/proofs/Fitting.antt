@@ -1,6 +1,6 @@
 -- A good table whose sides fit misses nothing.
 use Rattle.std.proofs.Common.{◌≡◌, ◌<◌, ◌*◌, ◌&&◌, ◌==◌, ℕ, suc, Bool, true, false, Option, Some, None, refl, ap, sym, ◌∙◌, subst, nat_le, eqb-true, eq-eqb, arith, if◌then◌else◌}
-use Rattle.std.specs.Prelude.{is_some}
+use Rattle.std.specs.Prelude.{is_some, IfSome}
 use Rattle.std.proofs.lemmas.Bool.{le-leb, false≢true}
 use Rattle.std.proofs.Math.Nat.{le-mul_of_pos_right}
 use Rattle.scan.specs.First.{first, option_or}
@@ -19,6 +19,7 @@ use Rattle.table_check.specs.Fitting.{both_fit, SidesFit, GoodTablesMissNothing}
 use Rattle.table_check.specs.Check.{is_same, where_holds, unless_holds, agree, degree_of, twist_of, is_vacuum, has_vacuum, count_miss, degree_at, degree_miss, unitary_at, unitary_miss, twists_fit, twist_at, twist_miss, central_at, central_miss, product_at, product_miss, sum_at, sum_miss, column_at, column_miss, vacuum_miss, row_miss, algebra_miss, table_miss}
 use Rattle.table_check.specs.declared.miss.Clause.{Clause}
 use Rattle.table_check.specs.declared.miss.Clause.TheVariants.{Count, Degree, Unitary, Twist, Central, Product, Sum, Column, Vacuum}
+use Rattle.table_check.proofs.Found.{HoldsOfEach, holds_of_miss}
 use Rattle.table_check.proofs.Same.{is_same-Decides}
 
 -- what is found at some number is found
@@ -28,11 +29,6 @@ found_there {A = A} n i at x inside here = by (first n at) refl
     by : (o : Option A) → first n at ≡ o → is_some o ≡ true
     by (Some y) e = refl
     by None e = absurd (false≢true (sym (ap is_some (first_none-at n i at e inside)) ∙ ap is_some here))
-
--- nothing is missed where the test holds
-held : (test : Bool) (clause : Clause) (i j x : ℕ) → test ≡ true → unless_holds test clause i j x ≡ None
-held true clause i j x e = refl
-held false clause i j x e = absurd (false≢true e)
 
 taken : (test : Bool) (n : ℕ) → test ≡ true → where_holds test n ≡ Some n
 taken true n e = refl
@@ -55,9 +51,14 @@ degree_found k m u d =
     found_there (suc m) d.degree (λ n. where_holds ((nat_le 1 n && nat_le (n * n) m) && is_same u (whole k n)) n) d.degree below
     (taken ((nat_le 1 d.degree && nat_le (d.degree * d.degree) m) && is_same u (whole k d.degree)) d.degree test)
 
--- an answer, and then what is asked later
-none_first : {A : Type 0} (front later : Option A) → front ≡ None → later ≡ None → option_or front later ≡ None
-none_first front later e f = subst (λ o. option_or o later ≡ None) (sym e) f
+-- nothing is found where whatever is found is absurd
+none_found : {A : Type 0} (o : Option A) → IfSome o (λ x. ⊥) → o ≡ None
+none_found None absurd_there = refl
+none_found (Some x) absurd_there = absurd absurd_there
+
+-- a test that holds doesn't fail
+holds_not_fails : (test : Bool) → test ≡ true → test ≡ false → ⊥
+holds_not_fails test holds fails = false≢true (sym fails ∙ holds)
 
 module _ {k : ℕ} (s : TwistedSubgroup) (table : Characters k) (good : IsGood s table) (fit : SidesFit s table) where
   twist_found : (i : ℕ) → i < table.count → is_some (twist_of s table i) ≡ true
@@ -73,40 +74,28 @@ module _ {k : ℕ} (s : TwistedSubgroup) (table : Characters k) (good : IsGood s
       (taken (is_vacuum s table v.0) v.0 (all_below-all (size s) (λ x. is_same (table.chi v.0 x) (value_one (cyclotomic k)))
       (λ x place. (is_same-Decides (table.chi v.0 x) (value_one (cyclotomic k))).1 (v.2 x place))))
 
-  vacuum_none : (b : Bool) → (element s (identity_of s.group) == s.at) ≡ b → (if b then unless_holds (has_vacuum s table) Vacuum 0 0 0 else None) ≡ None
-  vacuum_none true e = held (has_vacuum s table) Vacuum 0 0 0 (vacuum_found (eqb-true (element s (identity_of s.group)) s.at e))
-  vacuum_none false e = refl
-
-  row_none : row_miss s table ≡ None
-  row_none =
-      none_first (count_miss s table) _ (held (table.count == rank s) Count 0 0 0 (eq-eqb table.count (rank s) good.count))
-      (none_first (degree_miss s table) _
-      (first_none table.count (degree_at s table) (λ i row. held _ Degree i 0 (identity_of s.group) (degree_found k (size s) (table.chi i (identity_of s.group)) (good.degree i row))))
-      (none_first (unitary_miss s table) (twist_miss s table)
-      (first_none table.count (λ i. first (size s) (unitary_at s table i)) (λ i row. first_none (size s) (unitary_at s table i)
-      (λ x place. held _ Unitary i 0 x (agreed (unitary_left s table i x) (unitary_right s table i x) (fit.unitary i x row place) (good.unitary i x row place)))))
-      (first_none table.count (twist_at s table) (λ i row. held _ Twist i 0 0 (both_true (twists_fit s table i) (is_some (twist_of s table i)) (fit.twist i row) (twist_found i row))))))
-
-  algebra_none : algebra_miss s table ≡ None
-  algebra_none =
-      none_first (central_miss s table) _
-      (first_none table.count (λ i. first (size s) (λ y. first (size s) (central_at s table i y))) (λ i row. first_none (size s) (λ y. first (size s) (central_at s table i y))
-      (λ y other. first_none (size s) (central_at s table i y)
-      (λ x place. held _ Central i y x (agreed (central_left s table i y x) (central_right s table i y x) (fit.central i y x row other place) (good.central i y x row other place))))))
-      (none_first (product_miss s table) _
-      (first_none table.count (λ i. first table.count (λ j. first (size s) (product_at s table i j))) (λ i row. first_none table.count (λ j. first (size s) (product_at s table i j))
-      (λ j other. first_none (size s) (product_at s table i j)
-      (λ x place. held _ Product i j x (agreed (product_left s table i j x) (product_right s table i j x) (fit.product i j x row other place) (good.product i j x row other place))))))
-      (none_first (sum_miss s table) _
-      (first_none (size s) (sum_at s table) (λ x place. held _ Sum 0 0 x (agreed (sum_left s table x) (sum_right s table x) (fit.sum x place) (good.sum x place))))
-      (none_first (column_miss s table) (vacuum_miss s table)
-      (first_none (size s) (λ x. first (size s) (column_at s table x)) (λ x place. first_none (size s) (column_at s table x)
-      (λ y other. held _ Column 0 y x (agreed (column_left s table x y) (column_right s table x y) (fit.column x y place other) (good.column x y place other)))))
-      (vacuum_none (element s (identity_of s.group) == s.at) refl))))
+  none_fails : HoldsOfEach s table (λ miss. ⊥)
+  none_fails = record {
+    count = holds_not_fails _ (eq-eqb table.count (rank s) good.count);
+    degree = λ i row. holds_not_fails _ (degree_found k (size s) (table.chi i (identity_of s.group)) (good.degree i row));
+    unitary = λ i x row place.
+        holds_not_fails _ (agreed (unitary_left s table i x) (unitary_right s table i x) (fit.unitary i x row place) (good.unitary i x row place));
+    twist = λ i row. holds_not_fails _ (both_true (twists_fit s table i) (is_some (twist_of s table i)) (fit.twist i row) (twist_found i row));
+    central = λ i y x row other place.
+        holds_not_fails _
+        (agreed (central_left s table i y x) (central_right s table i y x) (fit.central i y x row other place) (good.central i y x row other place));
+    product = λ i j x row other place.
+        holds_not_fails _
+        (agreed (product_left s table i j x) (product_right s table i j x) (fit.product i j x row other place) (good.product i j x row other place));
+    sum = λ x place. holds_not_fails _ (agreed (sum_left s table x) (sum_right s table x) (fit.sum x place) (good.sum x place));
+    column = λ x y place other.
+        holds_not_fails _
+        (agreed (column_left s table x y) (column_right s table x y) (fit.column x y place other) (good.column x y place other));
+    vacuum = λ own. holds_not_fails _ (vacuum_found (eqb-true (element s (identity_of s.group)) s.at own));
+  }
 
   pub good_misses_nothing : table_miss s table ≡ None
-  unfolding table_miss
-  good_misses_nothing = none_first (row_miss s table) (algebra_miss s table) row_none algebra_none
+  good_misses_nothing = none_found (table_miss s table) (holds_of_miss s table (λ miss. ⊥) none_fails)
 
 pub good_tables_miss_nothing : GoodTablesMissNothing
 good_tables_miss_nothing k s table good fit = good_misses_nothing s table good fit

@@ -15,6 +15,7 @@ use Rattle.table_check.specs.Formed.{Formed, whole}
 use Rattle.table_check.specs.Sides.{unitary_left, unitary_right, twist_left, twist_right, central_left, central_right, product_left, product_right, sum_left, sum_right, column_left, column_right}
 use Rattle.table_check.specs.Good.{IsVacuum, IsGood}
 use Rattle.table_check.specs.Check.{is_same, where_holds, unless_holds, agree, degree_of, twist_of, is_vacuum, has_vacuum, count_miss, degree_at, degree_miss, unitary_at, unitary_miss, twists_fit, twist_at, twist_miss, central_at, central_miss, product_at, product_miss, sum_at, sum_miss, column_at, column_miss, vacuum_miss, row_miss, algebra_miss, table_miss}
+use Rattle.table_check.specs.declared.miss.Clause.{Clause}
 use Rattle.table_check.specs.declared.miss.Clause.TheVariants.{Count, Degree, Unitary, Twist, Central, Product, Sum, Column, Vacuum}
 use Rattle.table_check.proofs.Same.{is_same-Decides}
 use Rattle.table_check.proofs.Conjugates.{unless_none}
@@ -29,9 +30,16 @@ holds_there : (test : Bool) (n d : ℕ) → where_holds test n ≡ Some d → (t
 holds_there true n d e = (refl, ap (λ o. unwrap_or o n) e)
 holds_there false n d e = cc
 
+-- nothing stands at a place, where nothing is found
+none_at : {A : Type 0} (n : ℕ) (at : ℕ → Option A) → first n at ≡ None → (i : ℕ) → i < n → at i ≡ None
+none_at n at none i below = first_none-at n i at none below
+
 -- two sides that agree have one value
-same_sides : {k : ℕ} (left right : Formed k) → agree left right ≡ true → left.value ≡ right.value
-same_sides left right e = (is_same-Decides left.value right.value).0 (and_true (left.fits && right.fits) (is_same left.value right.value) e).1
+same_sides : {k : ℕ} (left right : Formed k) (clause : Clause) (i j x : ℕ) → unless_holds (agree left right) clause i j x ≡ None
+    → left.value ≡ right.value
+same_sides left right clause i j x none =
+    let agreed = unless_none (agree left right) clause i j x none in
+    (is_same-Decides left.value right.value).0 (and_true (left.fits && right.fits) (is_same left.value right.value) agreed).1
 
 -- the degree that was found is one
 pub degree_there : (k m d : ℕ) (u : CyclotomicValue k) → degree_of k m u ≡ Some d → (1 ≤ d) × (d * d ≤ m) × (u ≡ whole k d)
@@ -122,24 +130,19 @@ module _ {k : ℕ} (s : TwistedSubgroup) (table : Characters k) where
             let d = degree_there k (size s) there.0 (table.chi i e) there.1 in
             record { degree = there.0; positive = d.0; square = d.1; same = d.2 };
         unitary = λ i x row place.
-            same_sides (unitary_left s table i x) (unitary_right s table i x) (unless_none _ Unitary i 0 x
-            (first_none-at (size s) x (unitary_at s table i) (first_none-at table.count i (λ j. first (size s) (unitary_at s table j)) c.unitary row) place));
+            same_sides (unitary_left s table i x) (unitary_right s table i x) Unitary i 0 x (none_at _ _ (none_at _ _ c.unitary i row) x place);
         twist = λ i row.
             let there = some_there (twist_of s table i) (twist_is i c.twist row).1 in
             let t = twist_there i there.0 there.1 in
             record { twist = there.0; below = t.0; same = t.1 };
-        central = λ i y x row column place.
-            same_sides (central_left s table i y x) (central_right s table i y x) (unless_none _ Central i y x
-            (first_none-at (size s) x (central_at s table i y) (first_none-at (size s) y (λ z. first (size s) (central_at s table i z))
-            (first_none-at table.count i (λ j. first (size s) (λ z. first (size s) (central_at s table j z))) c.central row) column) place));
+        central = λ i y x row other place.
+            same_sides (central_left s table i y x) (central_right s table i y x) Central i y x
+            (none_at _ _ (none_at _ _ (none_at _ _ c.central i row) y other) x place);
         product = λ i j x row other place.
-            same_sides (product_left s table i j x) (product_right s table i j x) (unless_none _ Product i j x
-            (first_none-at (size s) x (product_at s table i j) (first_none-at table.count j (λ l. first (size s) (product_at s table i l))
-            (first_none-at table.count i (λ h. first table.count (λ l. first (size s) (product_at s table h l))) c.product row) other) place));
-        sum = λ x place.
-            same_sides (sum_left s table x) (sum_right s table x) (unless_none _ Sum 0 0 x (first_none-at (size s) x (sum_at s table) c.sum place));
+            same_sides (product_left s table i j x) (product_right s table i j x) Product i j x
+            (none_at _ _ (none_at _ _ (none_at _ _ c.product i row) j other) x place);
+        sum = λ x place. same_sides (sum_left s table x) (sum_right s table x) Sum 0 0 x (none_at _ _ c.sum x place);
         column = λ x y place other.
-            same_sides (column_left s table x y) (column_right s table x y) (unless_none _ Column 0 y x
-            (first_none-at (size s) y (column_at s table x) (first_none-at (size s) x (λ z. first (size s) (column_at s table z)) c.column place) other));
+            same_sides (column_left s table x y) (column_right s table x y) Column 0 y x (none_at _ _ (none_at _ _ c.column x place) y other);
         vacuum = λ here. vacuum_there (vacuum_asked c.vacuum here);
       }

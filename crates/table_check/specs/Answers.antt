@@ -11,7 +11,7 @@ use Rattle.twisted.specs.Regular.{rank}
 use Rattle.table_check.specs.Characters.{Characters, RowsOver, characters_of}
 use Rattle.table_check.specs.Formed.{Formed, given, whole}
 use Rattle.table_check.specs.Sides.{degree_value, unitary_left, unitary_right, twist_left, central_left, central_right, product_left, product_right, sum_left, sum_right, column_left, column_right}
-use Rattle.table_check.specs.Check.{where_holds, twists_fit, table_miss}
+use Rattle.table_check.specs.Check.{where_holds, unless_holds, agree, twists_fit, table_miss}
 use Rattle.table_check.specs.declared.identity_name.IdentityName.{IdentityName}
 use Rattle.table_check.specs.declared.identity_name.IdentityName.TheVariants as names
 use Rattle.table_check.specs.declared.miss.Clause.{Clause}
@@ -33,15 +33,17 @@ clause_of names.Product = Product
 clause_of names.Sum = Sum
 clause_of names.Column = Column
 
--- the part of the sides of this clause. Only these clauses have sides that could overflow
-abbrev pub IsPartOf : Clause → Part → Type 0
-IsPartOf Unitary part = part ≡ parts.Unitary
-IsPartOf Twist part = part ≡ parts.Twist
-IsPartOf Central part = part ≡ parts.Central
-IsPartOf Product part = part ≡ parts.Product
-IsPartOf Sum part = part ≡ parts.Sum
-IsPartOf Column part = part ≡ parts.Column
-IsPartOf clause part = ⊥
+-- the kind of the sides of a clause. The last three have none that could overflow, so their line is never met
+abbrev pub part_of : Clause → Part
+part_of Unitary = parts.Unitary
+part_of Twist = parts.Twist
+part_of Central = parts.Central
+part_of Product = parts.Product
+part_of Sum = parts.Sum
+part_of Column = parts.Column
+part_of Count = parts.Full
+part_of Degree = parts.Full
+part_of Vacuum = parts.Full
 
 -- the clause on twists, which has a side for each root
 abbrev pub is_twist : Clause → Bool
@@ -60,6 +62,16 @@ third_of s Count x = x
 third_of s Twist x = x
 third_of s Vacuum x = x
 third_of s clause x = element s x
+
+-- the site of the sides of a clause at a place: the centraliser's element, rows, and elements of the group
+abbrev pub site_of : TwistedSubgroup → Miss → Site
+site_of s miss = record {
+  part = part_of miss.clause;
+  at = s.at;
+  i = miss.i;
+  j = second_of s miss.clause miss.j;
+  x = third_of s miss.clause miss.x;
+}
 
 module _ {k : ℕ} (s : TwistedSubgroup) (table : Characters k) where
   -- the left side of a clause that is an equation
@@ -88,13 +100,9 @@ module _ {k : ℕ} (s : TwistedSubgroup) (table : Characters k) where
       if is_twist miss.clause then twists_fit s table miss.i
       else (left_of miss.clause miss.i miss.j miss.x).fits && (right_of miss.clause miss.i miss.j miss.x).fits
 
-  -- the site of the sides: the centraliser's element, rows, and elements of the group
-  pub record IsSiteOf (miss : Miss) (site : Site) : Type 0 where
-    pub part : IsPartOf miss.clause site.part
-    pub at : site.at ≡ s.at
-    pub i : site.i ≡ miss.i
-    pub j : site.j ≡ second_of s miss.clause miss.j
-    pub x : site.x ≡ third_of s miss.clause miss.x
+  -- the place of an equation whose two sides do not agree there
+  abbrev pub equation_miss : Clause → ℕ → ℕ → ℕ → Option Miss
+  equation_miss clause i j x = unless_holds (agree (left_of clause i j x) (right_of clause i j x)) clause i j x
 
   -- the equation that fails, at its place, with its two sides
   pub record IsEquationOf (miss : Miss) (name : IdentityName) (i j x : ℕ) (left right : List ℤ) : Type 0 where
@@ -107,7 +115,7 @@ module _ {k : ℕ} (s : TwistedSubgroup) (table : Characters k) where
 
   -- what a refusal says of the first miss
   abbrev pub Refuses : TableRefusal k → Miss → Type 0
-  Refuses (refusals.Overflow site) miss = (fit_at miss ≡ false) × IsSiteOf miss site
+  Refuses (refusals.Overflow site) miss = (fit_at miss ≡ false) × (site ≡ site_of s miss)
   Refuses (refusals.Count rows rank_wanted) miss = (miss.clause ≡ Count) × (rows ≡ table.count) × (rank_wanted ≡ rank s)
   Refuses (refusals.Identity name i j x left right) miss = (fit_at miss ≡ true) × IsEquationOf miss name i j x left.coefficients right.coefficients
   Refuses (refusals.NoTwist row value) miss =
@@ -120,13 +128,9 @@ module _ {k : ℕ} (s : TwistedSubgroup) (table : Characters k) where
   Finds missed None = missed ≡ None
   Finds missed (Some refusal) = (miss : Miss) × (missed ≡ Some miss) × Refuses refusal miss
 
--- the answer at the place of an equation with these sides: its site where one overflows, else the equation with both
-abbrev pub IsAnswerTo : {k : ℕ} → IdentityName → Site → Formed k → Formed k → TableRefusal k → Type 0
-IsAnswerTo {k} name site left right (refusals.Overflow overflowing) = ((left.fits && right.fits) ≡ false) × (overflowing ≡ site)
-IsAnswerTo {k} name site left right (refusals.Identity stated i j x left_value right_value) =
-    ((left.fits && right.fits) ≡ true) × (stated ≡ name) × (i ≡ site.i) × (j ≡ site.j) × (x ≡ site.x)
-    × (cyclotomic_value k left_value.coefficients ≡ left.value) × (cyclotomic_value k right_value.coefficients ≡ right.value)
-IsAnswerTo {k} name site left right refusal = ⊥
+-- the answer finds what these rows miss
+abbrev pub FindsIn : (k : ℕ) → RowsOver → (TwistedSubgroup → Characters k → Option Miss) → Option (TableRefusal k) → Type 0
+FindsIn k rows missed = Finds rows.over (characters_of k rows.rows) (missed rows.over (characters_of k rows.rows))
 
 -- the rows are good exactly where nothing is missed; else the refusal is that of the first miss; want of memory says nothing
 abbrev pub Checks : (k : ℕ) → TwistedSubgroup → List (List (List ℤ)) → Result RowsOver (TableRefusal k) → Type 0

@@ -38,9 +38,13 @@ abbrev pub degree_of : (k m : ℕ) → CyclotomicValue k → Option ℕ
 degree_of k m u = first (suc m) (λ d. where_holds ((nat_le 1 d && nat_le (d * d) m) && is_same u (whole k d)) d)
 
 module _ {k : ℕ} (s : TwistedSubgroup) (table : Characters k) where
-  -- the least t with chi_i(a) = x^t d_i, if there is one
+  -- chi_i(a) = x^t d_i
+  abbrev pub has_twist : ℕ → ℕ → Bool
+  has_twist i t = is_same (twist_left s table i).value (twist_right s table i t).value
+
+  -- the least such t, if there is one
   abbrev pub twist_of : ℕ → Option ℕ
-  twist_of i = first k (λ t. where_holds (is_same (twist_left s table i).value (twist_right s table i t).value) t)
+  twist_of i = first k (λ t. where_holds (has_twist i t) t)
 
   -- every value of row i is 1
   abbrev pub is_vacuum : ℕ → Bool

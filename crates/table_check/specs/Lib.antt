@@ -7,4 +7,5 @@ pub mod Fitting
 pub mod Conjugates
 pub mod Check
 pub mod Answers
+pub mod Walks
 pub mod Instances

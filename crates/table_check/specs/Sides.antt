@@ -1,14 +1,15 @@
 -- The two sides of each clause on a table of characters over a twisted centraliser (Coste, Gannon, Ruelle 2000, and textbook). Rows are
 -- i and j; x, y and c are places. The element E_i of the twisted group algebra has the value conj(chi_i(x)) at the place x.
-use Rattle.std.specs.Prelude.{ℕ, ◌==◌, if◌then◌else◌, unwrap_or}
+use Rattle.std.specs.Prelude.{ℕ, ◌==◌, if◌then◌else◌, Option, unwrap_or}
 use Rattle.group_table.specs.Group.{product, inverse, identity_of}
 use Rattle.classes.specs.Conjugacy.{conjugate}
 use Rattle.cyclotomic.specs.CyclotomicRing.{root}
+use Rattle.qd_ring.specs.declared.cyc.Cyc.{Cyc}
 use Rattle.twisted.specs.Twist.{TwistedSubgroup, size, phase, place_of}
 use Rattle.twisted.specs.Regular.{kappa}
 use Rattle.twisted.specs.Algebra.{left_quotient, exponent}
-use Rattle.table_check.specs.Characters.{Characters}
-use Rattle.table_check.specs.Formed.{Formed, given, whole, conjugated, multiplied, turned, listed, where_so}
+use Rattle.table_check.specs.Characters.{Characters, RowsOver, characters_of}
+use Rattle.table_check.specs.Formed.{Formed, given, whole, conjugated, multiplied, turned, listed, where_so, Forms}
 
 -- x y^-1
 abbrev pub right_quotient : TwistedSubgroup → ℕ → ℕ → ℕ
@@ -89,3 +90,7 @@ module _ {k : ℕ} (s : TwistedSubgroup) (table : Characters k) where
 
   abbrev pub column_right : ℕ → ℕ → Formed k
   column_right x y = listed k (size s) (column_term s x y)
+
+-- the answer forms this side over these rows
+abbrev pub FormsIn : (k : ℕ) → RowsOver → (TwistedSubgroup → Characters k → Formed k) → Option (Cyc k) → Type 0
+FormsIn k rows side = Forms (side rows.over (characters_of k rows.rows))

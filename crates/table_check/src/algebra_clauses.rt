@@ -1,195 +1,169 @@
-//! The clauses on the elements of the conjugates of rows in the twisted group algebra: the first place of each at which a table misses what is
-//! asked.
+//! The clauses on the elements of the conjugates of rows in the twisted group algebra: what each refuses first.
 
 ghost use Rattle.std.specs.Prelude.{◌≡◌, ◌<◌, length};
 ghost use Rattle.twisted.specs.Twist.{size};
-ghost use Rattle.scan.specs.First.{first};
-ghost use Rattle.table_check.specs.Characters.{characters_of};
-ghost use Rattle.table_check.specs.Check.{central_at, central_miss, product_at, product_miss, sum_at, sum_miss, column_at, column_miss};
+ghost use Rattle.table_check.specs.Check.{central_at, central_miss, product_at, product_miss, sum_at, sum_miss, column_at, column_miss, algebra_miss};
+ghost use Rattle.table_check.specs.Answers.{FindsIn};
 
-use crate::compared::{agree, unless_holds};
+use crate::compared::{equation, site_over};
 use crate::conjugated::Conjugated;
-use crate::miss::{Clause, Miss};
+use crate::identity_name::IdentityName;
+use crate::refusal::TableRefusal;
+use crate::row_clauses::vacuum_refusal;
 use crate::sides::{
     central_left, central_right, column_left, column_right, product_left, product_right, sum_left,
     sum_right,
 };
-use scan::first_below;
+use crate::walk::{first_answer, first_of_pairs, first_of_triples};
+use qd_ring::Part;
 
 /// The clause on central elements at one place.
-fn central_at<const K: u32>(table: &Conjugated<K>, i: u32, y: u32, x: u32) -> Option<Miss>
+fn central_at<const K: u32>(
+    table: &Conjugated<K>,
+    i: u32,
+    y: u32,
+    x: u32,
+) -> Option<TableRefusal<K>>
     requires i_below { i < length table.now.rows }
     requires y_below { y < size table.now.over }
     requires x_below { x < size table.now.over }
-    ensures miss { result ≡ central_at table.now.over (characters_of K table.now.rows) i y x }
+    ensures finds { FindsIn K table.now (λ s t. central_at s t i y x) result }
 {
+    let twist = table.candidate().over();
+    let site = site_over(twist, Part::Central, i, twist.element(y), twist.element(x));
     let left = central_left(table, i, y, x);
     let right = central_right(table, i, y, x);
-    unless_holds(agree(left, right), Clause::Central, i, y, x)
+    equation(IdentityName::Central, site, left, right)
 }
 
-/// The clause on central elements, for one row and one `y`.
-fn central_for_pair<const K: u32>(table: &Conjugated<K>, i: u32, y: u32) -> Option<Miss>
-    requires i_below { i < length table.now.rows }
-    requires y_below { y < size table.now.over }
-    ensures miss { result ≡ first (size table.now.over) (central_at table.now.over (characters_of K table.now.rows) i y) }
+/// The clause on central elements.
+fn central_refusal<const K: u32>(table: &Conjugated<K>) -> Option<TableRefusal<K>>
+    ensures finds { FindsIn K table.now (λ s t. central_miss s t) result }
 {
+    let rows = table.candidate().rows();
     let places = table.candidate().over().size();
-    first_below(
+    first_of_triples(
+        rows,
         places,
-        |x| -> Option<Miss>
-            requires { (i < length table.now.rows) × (y < size table.now.over) × (x < size table.now.over) }
-            ensures { result ≡ central_at table.entry.now.over (characters_of K table.entry.now.rows) i y x }
+        places,
+        |i, y, x| -> Option<TableRefusal<K>>
+            requires { (i < length table.now.rows) × (y < size table.now.over)
+                × (x < size table.now.over) }
+            ensures { FindsIn K table.entry.now (λ s t. central_at s t i y x) result }
         { central_at(table, i, y, x) },
     )
 }
 
-/// The clause on central elements, for one row.
-fn central_for_row<const K: u32>(table: &Conjugated<K>, i: u32) -> Option<Miss>
-    requires i_below { i < length table.now.rows }
-    ensures miss { result ≡ first (size table.now.over) (λ y. first (size table.now.over) (central_at table.now.over (characters_of K table.now.rows) i y)) }
-{
-    let places = table.candidate().over().size();
-    first_below(
-        places,
-        |y| -> Option<Miss>
-            requires { (i < length table.now.rows) × (y < size table.now.over) }
-            ensures { result ≡ first (size table.entry.now.over) (central_at table.entry.now.over (characters_of K table.entry.now.rows) i y) }
-        { central_for_pair(table, i, y) },
-    )
-}
-
-/// The clause on central elements.
-pub fn central_miss<const K: u32>(table: &Conjugated<K>) -> Option<Miss>
-    ensures miss { result ≡ central_miss table.now.over (characters_of K table.now.rows) }
-{
-    let rows = table.candidate().rows();
-    first_below(
-        rows,
-        |i| -> Option<Miss>
-            requires { i < length table.now.rows }
-            ensures { result ≡ first (size table.entry.now.over) (λ y. first (size table.entry.now.over) (central_at table.entry.now.over (characters_of K table.entry.now.rows) i y)) }
-        { central_for_row(table, i) },
-    )
-}
-
 /// The clause on products at one place.
-fn product_at<const K: u32>(table: &Conjugated<K>, i: u32, j: u32, x: u32) -> Option<Miss>
+fn product_at<const K: u32>(
+    table: &Conjugated<K>,
+    i: u32,
+    j: u32,
+    x: u32,
+) -> Option<TableRefusal<K>>
     requires i_below { i < length table.now.rows }
     requires j_below { j < length table.now.rows }
     requires x_below { x < size table.now.over }
-    ensures miss { result ≡ product_at table.now.over (characters_of K table.now.rows) i j x }
+    ensures finds { FindsIn K table.now (λ s t. product_at s t i j x) result }
 {
+    let twist = table.candidate().over();
+    let site = site_over(twist, Part::Product, i, j, twist.element(x));
     let left = product_left(table, i, j, x);
     let right = product_right(table, i, j, x);
-    unless_holds(agree(left, right), Clause::Product, i, j, x)
+    equation(IdentityName::Product, site, left, right)
 }
 
-/// The clause on products, for two rows.
-fn product_for_pair<const K: u32>(table: &Conjugated<K>, i: u32, j: u32) -> Option<Miss>
-    requires i_below { i < length table.now.rows }
-    requires j_below { j < length table.now.rows }
-    ensures miss { result ≡ first (size table.now.over) (product_at table.now.over (characters_of K table.now.rows) i j) }
+/// The clause on products.
+fn product_refusal<const K: u32>(table: &Conjugated<K>) -> Option<TableRefusal<K>>
+    ensures finds { FindsIn K table.now (λ s t. product_miss s t) result }
 {
+    let rows = table.candidate().rows();
     let places = table.candidate().over().size();
-    first_below(
+    first_of_triples(
+        rows,
+        rows,
         places,
-        |x| -> Option<Miss>
-            requires { (i < length table.now.rows) × (j < length table.now.rows) × (x < size table.now.over) }
-            ensures { result ≡ product_at table.entry.now.over (characters_of K table.entry.now.rows) i j x }
+        |i, j, x| -> Option<TableRefusal<K>>
+            requires { (i < length table.now.rows) × (j < length table.now.rows)
+                × (x < size table.now.over) }
+            ensures { FindsIn K table.entry.now (λ s t. product_at s t i j x) result }
         { product_at(table, i, j, x) },
     )
 }
 
-/// The clause on products, for the first of two rows.
-fn product_for_row<const K: u32>(table: &Conjugated<K>, i: u32) -> Option<Miss>
-    requires i_below { i < length table.now.rows }
-    ensures miss { result ≡ first (length table.now.rows) (λ j. first (size table.now.over) (product_at table.now.over (characters_of K table.now.rows) i j)) }
-{
-    let rows = table.candidate().rows();
-    first_below(
-        rows,
-        |j| -> Option<Miss>
-            requires { (i < length table.now.rows) × (j < length table.now.rows) }
-            ensures { result ≡ first (size table.entry.now.over) (product_at table.entry.now.over (characters_of K table.entry.now.rows) i j) }
-        { product_for_pair(table, i, j) },
-    )
-}
-
-/// The clause on products.
-pub fn product_miss<const K: u32>(table: &Conjugated<K>) -> Option<Miss>
-    ensures miss { result ≡ product_miss table.now.over (characters_of K table.now.rows) }
-{
-    let rows = table.candidate().rows();
-    first_below(
-        rows,
-        |i| -> Option<Miss>
-            requires { i < length table.now.rows }
-            ensures { result ≡ first (length table.entry.now.rows) (λ j. first (size table.entry.now.over) (product_at table.entry.now.over (characters_of K table.entry.now.rows) i j)) }
-        { product_for_row(table, i) },
-    )
-}
-
 /// The clause on the sum at one place.
-fn sum_at<const K: u32>(table: &Conjugated<K>, x: u32) -> Option<Miss>
+fn sum_at<const K: u32>(table: &Conjugated<K>, x: u32) -> Option<TableRefusal<K>>
     requires x_below { x < size table.now.over }
-    ensures miss { result ≡ sum_at table.now.over (characters_of K table.now.rows) x }
+    ensures finds { FindsIn K table.now (λ s t. sum_at s t x) result }
 {
-    let left = sum_left(table, x);
-    let right = sum_right(table, x);
-    unless_holds(agree(left, right), Clause::Sum, 0, 0, x)
+    let twist = table.candidate().over();
+    let site = site_over(twist, Part::Sum, 0, 0, twist.element(x));
+    equation(
+        IdentityName::Sum,
+        site,
+        sum_left(table, x),
+        sum_right(table, x),
+    )
 }
 
 /// The clause on the sum.
-pub fn sum_miss<const K: u32>(table: &Conjugated<K>) -> Option<Miss>
-    ensures miss { result ≡ sum_miss table.now.over (characters_of K table.now.rows) }
+fn sum_refusal<const K: u32>(table: &Conjugated<K>) -> Option<TableRefusal<K>>
+    ensures finds { FindsIn K table.now (λ s t. sum_miss s t) result }
 {
     let places = table.candidate().over().size();
-    first_below(
+    first_answer(
         places,
-        |x| -> Option<Miss>
+        |x| -> Option<TableRefusal<K>>
             requires { x < size table.now.over }
-            ensures { result ≡ sum_at table.entry.now.over (characters_of K table.entry.now.rows) x }
+            ensures { FindsIn K table.entry.now (λ s t. sum_at s t x) result }
         { sum_at(table, x) },
     )
 }
 
 /// The clause on columns at one pair of places.
-fn column_at<const K: u32>(table: &Conjugated<K>, x: u32, y: u32) -> Option<Miss>
+fn column_at<const K: u32>(table: &Conjugated<K>, x: u32, y: u32) -> Option<TableRefusal<K>>
     requires x_below { x < size table.now.over }
     requires y_below { y < size table.now.over }
-    ensures miss { result ≡ column_at table.now.over (characters_of K table.now.rows) x y }
+    ensures finds { FindsIn K table.now (λ s t. column_at s t x y) result }
 {
+    let candidate = table.candidate();
+    let twist = candidate.over();
+    let site = site_over(twist, Part::Column, 0, twist.element(y), twist.element(x));
     let left = column_left(table, x, y);
-    let right = column_right(table.candidate(), x, y);
-    unless_holds(agree(left, right), Clause::Column, 0, y, x)
+    let right = column_right(candidate, x, y);
+    equation(IdentityName::Column, site, left, right)
 }
 
-/// The clause on columns, for one `x`.
-fn column_for_place<const K: u32>(table: &Conjugated<K>, x: u32) -> Option<Miss>
-    requires x_below { x < size table.now.over }
-    ensures miss { result ≡ first (size table.now.over) (column_at table.now.over (characters_of K table.now.rows) x) }
+/// The clause on columns.
+fn column_refusal<const K: u32>(table: &Conjugated<K>) -> Option<TableRefusal<K>>
+    ensures finds { FindsIn K table.now (λ s t. column_miss s t) result }
 {
     let places = table.candidate().over().size();
-    first_below(
+    first_of_pairs(
         places,
-        |y| -> Option<Miss>
+        places,
+        |x, y| -> Option<TableRefusal<K>>
             requires { (x < size table.now.over) × (y < size table.now.over) }
-            ensures { result ≡ column_at table.entry.now.over (characters_of K table.entry.now.rows) x y }
+            ensures { FindsIn K table.entry.now (λ s t. column_at s t x y) result }
         { column_at(table, x, y) },
     )
 }
 
-/// The clause on columns.
-pub fn column_miss<const K: u32>(table: &Conjugated<K>) -> Option<Miss>
-    ensures miss { result ≡ column_miss table.now.over (characters_of K table.now.rows) }
+/// What the clauses on the elements of the conjugates refuse first.
+pub fn algebra_refusal<const K: u32>(table: &Conjugated<K>) -> Option<TableRefusal<K>>
+    ensures finds { FindsIn K table.now (λ s t. algebra_miss s t) result }
 {
-    let places = table.candidate().over().size();
-    first_below(
-        places,
-        |x| -> Option<Miss>
-            requires { x < size table.now.over }
-            ensures { result ≡ first (size table.entry.now.over) (column_at table.entry.now.over (characters_of K table.entry.now.rows) x) }
-        { column_for_place(table, x) },
-    )
+    if let Some(refusal) = central_refusal(table) {
+        return Some(refusal);
+    }
+    if let Some(refusal) = product_refusal(table) {
+        return Some(refusal);
+    }
+    if let Some(refusal) = sum_refusal(table) {
+        return Some(refusal);
+    }
+    if let Some(refusal) = column_refusal(table) {
+        return Some(refusal);
+    }
+    vacuum_refusal(table.candidate())
 }

@@ -55,7 +55,8 @@ impl<const K: u32> Candidate<K> {
     pub fn value(&self, i: u32, x: u32) -> Cyc<K>
         requires i_below { i < length self.now.rows }
         requires x_below { x < size self.now.over }
-        ensures value { cyclotomic_value K result.coefficients ≡ (characters_of K self.now.rows).chi i x }
+        ensures value { cyclotomic_value K result.coefficients
+            ≡ (characters_of K self.now.rows).chi i x }
         ensures shaped { IsShaped K self.now }
     {
         self.rows.value(i, x)

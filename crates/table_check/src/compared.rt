@@ -1,37 +1,62 @@
-//! What is missed at one place.
+//! The two sides of a clause, compared at one place.
 
-ghost use Rattle.std.specs.Prelude.{◌≡◌};
+ghost use Rattle.std.specs.Prelude.{◌≡◌, ℕ};
 ghost use Rattle.cyclotomic.specs.CyclotomicRing.{cyclotomic_value};
-ghost use Rattle.table_check.specs.Formed.{Formed, Forms};
-ghost use Rattle.table_check.specs.Check.{is_same, unless_holds, agree};
+ghost use Rattle.twisted.specs.Twist.{TwistedSubgroup};
+ghost use Rattle.table_check.specs.Formed.{Forms};
+ghost use Rattle.table_check.specs.Characters.{Characters};
+ghost use Rattle.table_check.specs.Check.{is_same};
+ghost use Rattle.table_check.specs.Answers.{clause_of, left_of, right_of, site_of, equation_miss, Finds};
 
-use crate::miss::{Clause, Miss};
-use qd_ring::Cyc;
+use crate::identity_name::IdentityName;
+use crate::refusal::TableRefusal;
+use qd_ring::{Cyc, Part, Site};
+use twisted::Twist;
 
 /// Whether two values are the same.
 pub fn is_same<const K: u32>(a: &Cyc<K>, b: &Cyc<K>) -> bool
-    ensures same { result ≡ is_same (cyclotomic_value K a.now.coefficients) (cyclotomic_value K b.now.coefficients) }
+    ensures same { result
+        ≡ is_same (cyclotomic_value K a.now.coefficients) (cyclotomic_value K b.now.coefficients) }
 {
     a == b
 }
 
-/// Whether both sides were formed, and are the same.
-pub fn agree<const K: u32>(left: Option<Cyc<K>>, right: Option<Cyc<K>>) -> bool
-    ensures agree { (l r : Formed K) → Forms l left.entry → Forms r right.entry → result ≡ agree l r }
+/// The site of sides over this twisted centraliser.
+pub fn site_over(twist: &Twist, part: Part, i: u32, j: u32, x: u32) -> Site
+    ensures site { result ≡ record { part = part; at = twist.now.at; i = i; j = j; x = x } }
 {
-    match (left, right) {
-        (Some(left), Some(right)) => is_same(&left, &right),
-        _ => false,
-    }
+    let at = twist.at();
+    Site { part, at, i, j, x }
 }
 
-/// Nothing where the test holds, else this place of the clause.
-pub fn unless_holds(test: bool, clause: Clause, i: u32, j: u32, x: u32) -> Option<Miss>
-    ensures miss { result ≡ unless_holds test clause i j x }
+/// The refusal of an equation with these sides at this site, where one overflows (`None`) or they differ.
+pub fn equation<const K: u32>(
+    name: IdentityName,
+    site: Site,
+    left: Option<Cyc<K>>,
+    right: Option<Cyc<K>>,
+) -> Option<TableRefusal<K>>
+    ensures finds { (s : TwistedSubgroup) (table : Characters K) (i j x : ℕ)
+        → site ≡ site_of s (record { clause = clause_of name; i = i; j = j; x = x })
+        → Forms (left_of s table (clause_of name) i j x) left.entry
+        → Forms (right_of s table (clause_of name) i j x) right.entry
+        → Finds s table (equation_miss s table (clause_of name) i j x) result }
 {
-    if test {
-        None
-    } else {
-        Some(Miss { clause, i, j, x })
+    let Some(left) = left else {
+        return Some(TableRefusal::Overflow { site });
+    };
+    let Some(right) = right else {
+        return Some(TableRefusal::Overflow { site });
+    };
+    if is_same(&left, &right) {
+        return None;
     }
+    Some(TableRefusal::Identity {
+        name,
+        i: site.i,
+        j: site.j,
+        x: site.x,
+        left,
+        right,
+    })
 }

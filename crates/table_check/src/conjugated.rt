@@ -5,9 +5,9 @@ ghost use Rattle.twisted.specs.Twist.{size};
 ghost use Rattle.table_check.specs.Characters.{characters_of, IsShaped};
 ghost use Rattle.table_check.specs.Check.{unitary_miss};
 ghost use Rattle.table_check.specs.Conjugates.{values_of, conjugate_row};
-ghost use Rattle.qd_ring.specs.Formed.{Forms};
+ghost use Rattle.cyclotomic.specs.CyclotomicRing.{cyclotomic_value, conjugate};
 ghost use Rattle.qd_ring.specs.Folding.{IsSparseOf};
-ghost use Rattle.table_check.specs.Sides.{conjugate_value};
+ghost use Rattle.table_check.specs.Sides.{FormsIn, conjugate_value};
 
 use crate::candidate::Candidate;
 use crate::kept::Kept;
@@ -42,7 +42,8 @@ fn conjugate_row<const K: u32>(
 ) -> Result<Vec<Kept<K>>, Memory>
     requires i_below { i < length table.now.rows }
     requires unitary { unitary_miss table.now.over (characters_of K table.now.rows) ≡ None }
-    ensures row { IfOk result (λ row. values_of K row.items ≡ conjugate_row (size table.now.over) (characters_of K table.now.rows) i) }
+    ensures row { IfOk result (λ row. values_of K row.items
+        ≡ conjugate_row (size table.now.over) (characters_of K table.now.rows) i) }
 {
     let places = table.over().size();
     let mut row = Vec::new(alloc);
@@ -87,21 +88,32 @@ impl<const K: u32> Conjugated<K> {
         self.candidate
     }
 
+    /// The conjugate of the value of row `i` at the place `x`, as it is kept.
+    fn kept(&self, i: u32, x: u32) -> &Kept<K>
+        requires i_below { i < length self.now.rows }
+        requires x_below { x < size self.now.over }
+        ensures kept { cyclotomic_value K result.now.value.coefficients
+            ≡ conjugate K ((characters_of K self.now.rows).chi i x) }
+    {
+        &self.conjugates[i as usize][x as usize]
+    }
+
     /// The conjugate of the value of row `i` at the place `x`.
     pub fn conjugate(&self, i: u32, x: u32) -> Cyc<K>
         requires i_below { i < length self.now.rows }
         requires x_below { x < size self.now.over }
-        ensures forms { Forms (conjugate_value self.now.over (characters_of K self.now.rows) i x) (Some result) }
+        ensures forms { FormsIn K self.now (λ s t. conjugate_value s t i x) (Some result) }
     {
-        self.conjugates[i as usize][x as usize].value
+        self.kept(i, x).value
     }
 
     /// Its sparse form.
     pub fn terms(&self, i: u32, x: u32) -> &Terms<K>
         requires i_below { i < length self.now.rows }
         requires x_below { x < size self.now.over }
-        ensures terms { IsSparseOf K (conjugate_value self.now.over (characters_of K self.now.rows) i x) result.now }
+        ensures terms { let values = characters_of K self.now.rows in
+            IsSparseOf K (conjugate_value self.now.over values i x) result.now }
     {
-        &self.conjugates[i as usize][x as usize].terms
+        &self.kept(i, x).terms
     }
 }

@@ -12,10 +12,10 @@ mod identity_name;
 mod kept;
 mod miss;
 mod refusal;
-mod refusals;
 mod row_clauses;
 mod sides;
 mod table;
+mod walk;
 
 pub use identity_name::IdentityName;
 pub use miss::{Clause, Miss};

@@ -1,30 +1,58 @@
-//! The clauses on the values of each row: the first place of each at which a table misses what is asked.
+//! The clauses on the values of each row: what each refuses first.
 
-ghost use Rattle.std.specs.Prelude.{◌≡◌, ◌<◌, ◌≤◌, ◌*◌, ◌&&◌, ℕ, suc, nat_le, true, length};
+ghost use Rattle.std.specs.Prelude.{◌≡◌, ◌<◌, ◌≤◌, ◌+◌, ◌*◌, ◌&&◌, ℕ, suc, nat_le, nat_lt, true, length};
 ghost use Rattle.cyclotomic.specs.Cyclotomic.{cyclotomic};
 ghost use Rattle.cyclotomic.specs.Ring.{value_one};
 ghost use Rattle.cyclotomic.specs.CyclotomicRing.{cyclotomic_value};
 ghost use Rattle.twisted.specs.Twist.{size};
-ghost use Rattle.scan.specs.First.{first};
 ghost use Rattle.table_check.specs.Characters.{characters_of};
-ghost use Rattle.table_check.specs.Check.{is_same, where_holds, degree_of, twist_of, twists_fit, is_vacuum, has_vacuum, count_miss, degree_at, degree_miss, unitary_at, unitary_miss, twist_at, twist_miss, vacuum_miss};
+ghost use Rattle.table_check.specs.Check.{is_same, where_holds, degree_of, has_twist, twist_of, twists_fit, is_vacuum, has_vacuum, count_miss, degree_at, degree_miss, unitary_at, unitary_miss, twist_at, twist_miss, vacuum_miss, row_miss};
+ghost use Rattle.table_check.specs.Answers.{square_root, FindsIn};
 ghost use Rattle.table_check.specs.Formed.{whole};
-ghost use Rattle.table_check.specs.Sides.{twist_left, twist_right};
+ghost use Rattle.table_check.specs.Sides.{twist_right};
 
 use crate::candidate::Candidate;
-use crate::compared::{agree, is_same, unless_holds};
-use crate::miss::{Clause, Miss};
+use crate::compared::{equation, is_same, site_over};
+use crate::identity_name::IdentityName;
+use crate::refusal::TableRefusal;
 use crate::sides::{degree, twist_left, twist_right, unitary_left, unitary_right};
-use qd_ring::Cyc;
+use crate::walk::{first_answer, first_of_pairs};
+use qd_ring::{Cyc, Part};
 use scan::{first_below, holds_below};
 use twisted::centre_rank;
 
-/// Whether the rows are as many as the rank.
-pub fn count_miss<const K: u32>(table: &Candidate<K>) -> Option<Miss>
-    ensures miss { result ≡ count_miss table.now.over (characters_of K table.now.rows) }
+/// The clause on the number of rows.
+fn count_refusal<const K: u32>(table: &Candidate<K>) -> Option<TableRefusal<K>>
+    ensures finds { FindsIn K table.now (λ s t. count_miss s t) result }
 {
-    let wanted = centre_rank(table.over());
-    unless_holds(table.rows() == wanted, Clause::Count, 0, 0, 0)
+    let rows = table.rows();
+    let rank = centre_rank(table.over());
+    if rows == rank {
+        None
+    } else {
+        Some(TableRefusal::Count { rows, rank })
+    }
+}
+
+/// The greatest whole number whose square is at most `n`.
+fn square_root(n: u32) -> u32
+    requires small { n ≤ 60 }
+    ensures root { result ≡ square_root n }
+{
+    let root = first_below(
+        n + 1,
+        |d| -> Option<u32>
+            requires { (d < suc n) × (n ≤ 60) }
+            ensures { result ≡ where_holds (nat_le (d * d) n && nat_lt n ((d + 1) * (d + 1))) d }
+        {
+            if d * d <= n && n < (d + 1) * (d + 1) {
+                Some(d)
+            } else {
+                None
+            }
+        },
+    );
+    root.unwrap_or(0)
 }
 
 /// The degree that a value is, in a centraliser of `order` elements; `None` where it is none.
@@ -36,7 +64,8 @@ pub fn degree_of<const K: u32>(order: u32, value: &Cyc<K>) -> Option<u32>
         order + 1,
         |d| -> Option<u32>
             requires { (d < suc order) × (order ≤ 60) }
-            ensures { result ≡ where_holds ((nat_le 1 d && nat_le (d * d) order) && is_same (cyclotomic_value K value.entry.now.coefficients) (whole K d)) d }
+            ensures { result ≡ where_holds ((nat_le 1 d && nat_le (d * d) order)
+                && is_same (cyclotomic_value K value.entry.now.coefficients) (whole K d)) d }
         {
             if d >= 1 && d * d <= order && is_same(value, &Cyc::whole(i128::from(d))) {
                 Some(d)
@@ -48,77 +77,71 @@ pub fn degree_of<const K: u32>(order: u32, value: &Cyc<K>) -> Option<u32>
 }
 
 /// The clause on degrees, for one row.
-fn degree_at<const K: u32>(table: &Candidate<K>, i: u32) -> Option<Miss>
+fn degree_at<const K: u32>(table: &Candidate<K>, i: u32) -> Option<TableRefusal<K>>
     requires i_below { i < length table.now.rows }
-    ensures miss { result ≡ degree_at table.now.over (characters_of K table.now.rows) i }
+    ensures finds { FindsIn K table.now (λ s t. degree_at s t i) result }
 {
     let twist = table.over();
-    let degree = degree_of(twist.size(), &degree(table, i));
-    unless_holds(
-        degree.is_some(),
-        Clause::Degree,
+    let order = twist.size();
+    let value = degree(table, i);
+    if degree_of(order, &value).is_some() {
+        return None;
+    }
+    Some(TableRefusal::Identity {
+        name: IdentityName::Degree,
         i,
-        0,
-        twist.group().identity(),
-    )
+        j: 0,
+        x: twist.element(twist.group().identity()),
+        left: value,
+        right: Cyc::whole(i128::from(square_root(order))),
+    })
 }
 
 /// The clause on degrees.
-pub fn degree_miss<const K: u32>(table: &Candidate<K>) -> Option<Miss>
-    ensures miss { result ≡ degree_miss table.now.over (characters_of K table.now.rows) }
+fn degree_refusal<const K: u32>(table: &Candidate<K>) -> Option<TableRefusal<K>>
+    ensures finds { FindsIn K table.now (λ s t. degree_miss s t) result }
 {
     let rows = table.rows();
-    first_below(
+    first_answer(
         rows,
-        |i| -> Option<Miss>
+        |i| -> Option<TableRefusal<K>>
             requires { i < length table.now.rows }
-            ensures { result ≡ degree_at table.entry.now.over (characters_of K table.entry.now.rows) i }
+            ensures { FindsIn K table.entry.now (λ s t. degree_at s t i) result }
         { degree_at(table, i) },
     )
 }
 
 /// The clause on inverses at one place.
-fn unitary_at<const K: u32>(table: &Candidate<K>, i: u32, x: u32) -> Option<Miss>
+fn unitary_at<const K: u32>(table: &Candidate<K>, i: u32, x: u32) -> Option<TableRefusal<K>>
     requires i_below { i < length table.now.rows }
     requires x_below { x < size table.now.over }
-    ensures miss { result ≡ unitary_at table.now.over (characters_of K table.now.rows) i x }
+    ensures finds { FindsIn K table.now (λ s t. unitary_at s t i x) result }
 {
+    let twist = table.over();
+    let site = site_over(twist, Part::Unitary, i, 0, twist.element(x));
     let left = unitary_left(table, i, x);
     let right = unitary_right(table, i, x);
-    unless_holds(agree(left, right), Clause::Unitary, i, 0, x)
+    equation(IdentityName::Unitary, site, left, right)
 }
 
-/// The clause on inverses, for one row.
-fn unitary_for_row<const K: u32>(table: &Candidate<K>, i: u32) -> Option<Miss>
-    requires i_below { i < length table.now.rows }
-    ensures miss { result ≡ first (size table.now.over) (unitary_at table.now.over (characters_of K table.now.rows) i) }
+/// The clause on inverses.
+fn unitary_refusal<const K: u32>(table: &Candidate<K>) -> Option<TableRefusal<K>>
+    ensures finds { FindsIn K table.now (λ s t. unitary_miss s t) result }
 {
+    let rows = table.rows();
     let places = table.over().size();
-    first_below(
+    first_of_pairs(
+        rows,
         places,
-        |x| -> Option<Miss>
+        |i, x| -> Option<TableRefusal<K>>
             requires { (i < length table.now.rows) × (x < size table.now.over) }
-            ensures { result ≡ unitary_at table.entry.now.over (characters_of K table.entry.now.rows) i x }
+            ensures { FindsIn K table.entry.now (λ s t. unitary_at s t i x) result }
         { unitary_at(table, i, x) },
     )
 }
 
-/// The clause on inverses.
-pub fn unitary_miss<const K: u32>(table: &Candidate<K>) -> Option<Miss>
-    ensures miss { result ≡ unitary_miss table.now.over (characters_of K table.now.rows) }
-{
-    let rows = table.rows();
-    first_below(
-        rows,
-        |i| -> Option<Miss>
-            requires { i < length table.now.rows }
-            ensures { result ≡ first (size table.entry.now.over) (unitary_at table.entry.now.over (characters_of K table.entry.now.rows) i) }
-        { unitary_for_row(table, i) },
-    )
-}
-
 /// Whether no multiple of the degree of row `i` by a root overflows.
-pub fn twists_fit<const K: u32>(table: &Candidate<K>, i: u32) -> bool
+fn twists_fit<const K: u32>(table: &Candidate<K>, i: u32) -> bool
     requires i_below { i < length table.now.rows }
     ensures fit { result ≡ twists_fit table.now.over (characters_of K table.now.rows) i }
 {
@@ -126,7 +149,8 @@ pub fn twists_fit<const K: u32>(table: &Candidate<K>, i: u32) -> bool
         K,
         |t| -> bool
             requires { (i < length table.now.rows) × (t < K) }
-            ensures { result ≡ (twist_right table.entry.now.over (characters_of K table.entry.now.rows) i t).fits }
+            ensures { result ≡
+                (twist_right table.entry.now.over (characters_of K table.entry.now.rows) i t).fits }
         { twist_right(table, i, t).is_some() },
     )
 }
@@ -136,7 +160,7 @@ fn is_twist<const K: u32>(table: &Candidate<K>, i: u32, t: u32) -> bool
     requires i_below { i < length table.now.rows }
     requires t_below { t < K }
     requires fits { (twist_right table.now.over (characters_of K table.now.rows) i t).fits ≡ true }
-    ensures twist { result ≡ is_same (twist_left table.now.over (characters_of K table.now.rows) i).value (twist_right table.now.over (characters_of K table.now.rows) i t).value }
+    ensures twist { result ≡ has_twist table.now.over (characters_of K table.now.rows) i t }
 {
     match twist_right(table, i, t) {
         Some(multiple) => is_same(&twist_left(table, i), &multiple),
@@ -153,33 +177,58 @@ pub fn twist_of<const K: u32>(table: &Candidate<K>, i: u32) -> Option<u32>
     first_below(
         K,
         |t| -> Option<u32>
-            requires { (i < length table.now.rows) × (t < K) × (twists_fit table.now.over (characters_of K table.now.rows) i ≡ true) }
-            ensures { result ≡ where_holds (is_same (twist_left table.entry.now.over (characters_of K table.entry.now.rows) i).value (twist_right table.entry.now.over (characters_of K table.entry.now.rows) i t).value) t }
+            requires { (i < length table.now.rows) × (t < K)
+                × (twists_fit table.now.over (characters_of K table.now.rows) i ≡ true) }
+            ensures { result ≡ where_holds
+                (has_twist table.entry.now.over (characters_of K table.entry.now.rows) i t) t }
         { if is_twist(table, i, t) { Some(t) } else { None } },
     )
 }
 
 /// The clause on twists, for one row.
-fn twist_at<const K: u32>(table: &Candidate<K>, i: u32) -> Option<Miss>
+fn twist_at<const K: u32>(table: &Candidate<K>, i: u32) -> Option<TableRefusal<K>>
     requires i_below { i < length table.now.rows }
-    ensures miss { result ≡ twist_at table.now.over (characters_of K table.now.rows) i }
+    ensures finds { FindsIn K table.now (λ s t. twist_at s t i) result }
 {
-    let holds = twists_fit(table, i) && twist_of(table, i).is_some();
-    unless_holds(holds, Clause::Twist, i, 0, 0)
+    if !twists_fit(table, i) {
+        let site = site_over(table.over(), Part::Twist, i, 0, 0);
+        return Some(TableRefusal::Overflow { site });
+    }
+    if twist_of(table, i).is_some() {
+        return None;
+    }
+    let value = twist_left(table, i);
+    Some(TableRefusal::NoTwist { row: i, value })
 }
 
 /// The clause on twists.
-pub fn twist_miss<const K: u32>(table: &Candidate<K>) -> Option<Miss>
-    ensures miss { result ≡ twist_miss table.now.over (characters_of K table.now.rows) }
+fn twist_refusal<const K: u32>(table: &Candidate<K>) -> Option<TableRefusal<K>>
+    ensures finds { FindsIn K table.now (λ s t. twist_miss s t) result }
 {
     let rows = table.rows();
-    first_below(
+    first_answer(
         rows,
-        |i| -> Option<Miss>
+        |i| -> Option<TableRefusal<K>>
             requires { i < length table.now.rows }
-            ensures { result ≡ twist_at table.entry.now.over (characters_of K table.entry.now.rows) i }
+            ensures { FindsIn K table.entry.now (λ s t. twist_at s t i) result }
         { twist_at(table, i) },
     )
+}
+
+/// What the clauses on the values of each row refuse first.
+pub fn row_refusal<const K: u32>(table: &Candidate<K>) -> Option<TableRefusal<K>>
+    ensures finds { FindsIn K table.now (λ s t. row_miss s t) result }
+{
+    if let Some(refusal) = count_refusal(table) {
+        return Some(refusal);
+    }
+    if let Some(refusal) = degree_refusal(table) {
+        return Some(refusal);
+    }
+    if let Some(refusal) = unitary_refusal(table) {
+        return Some(refusal);
+    }
+    twist_refusal(table)
 }
 
 /// Whether row `i` has only the value 1.
@@ -192,7 +241,8 @@ fn is_vacuum<const K: u32>(table: &Candidate<K>, i: u32) -> bool
         places,
         |x| -> bool
             requires { (i < length table.now.rows) × (x < size table.now.over) }
-            ensures { result ≡ is_same ((characters_of K table.entry.now.rows).chi i x) (value_one (cyclotomic K)) }
+            ensures { let rows = characters_of K table.entry.now.rows in
+                result ≡ is_same (rows.chi i x) (value_one (cyclotomic K)) }
         { is_same(&table.value(i, x), &Cyc::one()) },
     )
 }
@@ -206,20 +256,23 @@ fn has_vacuum<const K: u32>(table: &Candidate<K>) -> bool
         rows,
         |i| -> Option<u32>
             requires { i < length table.now.rows }
-            ensures { result ≡ where_holds (is_vacuum table.entry.now.over (characters_of K table.entry.now.rows) i) i }
+            ensures { result ≡ where_holds
+                (is_vacuum table.entry.now.over (characters_of K table.entry.now.rows) i) i }
         { if is_vacuum(table, i) { Some(i) } else { None } },
     );
     vacuum.is_some()
 }
 
 /// The clause on the vacuum.
-pub fn vacuum_miss<const K: u32>(table: &Candidate<K>) -> Option<Miss>
-    ensures miss { result ≡ vacuum_miss table.now.over (characters_of K table.now.rows) }
+pub fn vacuum_refusal<const K: u32>(table: &Candidate<K>) -> Option<TableRefusal<K>>
+    ensures finds { FindsIn K table.now (λ s t. vacuum_miss s t) result }
 {
     let twist = table.over();
-    if twist.element(twist.group().identity()) == twist.at() {
-        unless_holds(has_vacuum(table), Clause::Vacuum, 0, 0, 0)
-    } else {
-        None
+    if twist.element(twist.group().identity()) != twist.at() {
+        return None;
     }
+    if has_vacuum(table) {
+        return None;
+    }
+    Some(TableRefusal::NoVacuum { rows: table.rows() })
 }

@@ -8,7 +8,7 @@ ghost use Rattle.table_check.specs.Characters.{characters_of, IsShaped};
 ghost use Rattle.classes.specs.Conjugacy.{conjugate};
 ghost use Rattle.qd_ring.specs.Formed.{Forms, given, whole};
 ghost use Rattle.qd_ring.specs.Folding.{folded_value, IsFolded};
-ghost use Rattle.table_check.specs.Sides.{degree_value, own_place, right_quotient, with_phase, unitary_left, unitary_right, twist_left, twist_right, central_left, central_right, product_sum, product_left, product_right, sum_left, sum_right, column_left, column_term, column_right, product_term, sum_term, row_term};
+ghost use Rattle.table_check.specs.Sides.{FormsIn, degree_value, own_place, right_quotient, with_phase, unitary_left, unitary_right, twist_left, twist_right, central_left, central_right, product_sum, product_left, product_right, sum_left, sum_right, column_left, column_term, column_right, product_term, sum_term, row_term};
 
 use crate::candidate::Candidate;
 use crate::conjugated::Conjugated;
@@ -57,7 +57,8 @@ fn root<const K: u32>(table: &Candidate<K>, v: u32) -> Root<K>
 fn with_phase<const K: u32>(table: &Candidate<K>, x: u32, y: u32, value: &Cyc<K>) -> Option<Cyc<K>>
     requires x_below { x < size table.now.over }
     requires y_below { y < size table.now.over }
-    ensures forms { Forms (with_phase table.now.over x y (given K (cyclotomic_value K value.now.coefficients))) result }
+    ensures forms { let value = given K (cyclotomic_value K value.now.coefficients) in
+        Forms (with_phase table.now.over x y value) result }
 {
     let phase = table.over().phase(x, y);
     value.try_times(root(table, phase))
@@ -66,7 +67,8 @@ fn with_phase<const K: u32>(table: &Candidate<K>, x: u32, y: u32, value: &Cyc<K>
 /// The degree of row `i`: its value at the identity.
 pub fn degree<const K: u32>(table: &Candidate<K>, i: u32) -> Cyc<K>
     requires i_below { i < length table.now.rows }
-    ensures degree { cyclotomic_value K result.coefficients ≡ (degree_value table.now.over (characters_of K table.now.rows) i).value }
+    ensures degree { cyclotomic_value K result.coefficients
+        ≡ (degree_value table.now.over (characters_of K table.now.rows) i).value }
 {
     table.value(i, table.over().group().identity())
 }
@@ -83,7 +85,7 @@ fn order<const K: u32>(table: &Candidate<K>) -> Cyc<K>
 pub fn unitary_left<const K: u32>(table: &Candidate<K>, i: u32, x: u32) -> Option<Cyc<K>>
     requires i_below { i < length table.now.rows }
     requires x_below { x < size table.now.over }
-    ensures forms { Forms (unitary_left table.now.over (characters_of K table.now.rows) i x) result }
+    ensures forms { FormsIn K table.now (λ s t. unitary_left s t i x) result }
 {
     Some(table.value(i, table.over().group().inverse(x)))
 }
@@ -92,7 +94,7 @@ pub fn unitary_left<const K: u32>(table: &Candidate<K>, i: u32, x: u32) -> Optio
 pub fn unitary_right<const K: u32>(table: &Candidate<K>, i: u32, x: u32) -> Option<Cyc<K>>
     requires i_below { i < length table.now.rows }
     requires x_below { x < size table.now.over }
-    ensures forms { Forms (unitary_right table.now.over (characters_of K table.now.rows) i x) result }
+    ensures forms { FormsIn K table.now (λ s t. unitary_right s t i x) result }
 {
     let Some(conjugate) = table.value(i, x).try_conj() else {
         return None;
@@ -103,7 +105,8 @@ pub fn unitary_right<const K: u32>(table: &Candidate<K>, i: u32, x: u32) -> Opti
 /// The value of row `i` at the element that the centraliser belongs to.
 pub fn twist_left<const K: u32>(table: &Candidate<K>, i: u32) -> Cyc<K>
     requires i_below { i < length table.now.rows }
-    ensures value { cyclotomic_value K result.coefficients ≡ (twist_left table.now.over (characters_of K table.now.rows) i).value }
+    ensures value { cyclotomic_value K result.coefficients
+        ≡ (twist_left table.now.over (characters_of K table.now.rows) i).value }
 {
     table.value(i, own_place(table.over()))
 }
@@ -113,7 +116,7 @@ pub fn twist_left<const K: u32>(table: &Candidate<K>, i: u32) -> Cyc<K>
 pub fn twist_right<const K: u32>(table: &Candidate<K>, i: u32, t: u32) -> Option<Cyc<K>>
     requires i_below { i < length table.now.rows }
     requires t_below { t < K }
-    ensures forms { Forms (twist_right table.now.over (characters_of K table.now.rows) i t) result }
+    ensures forms { FormsIn K table.now (λ s rows. twist_right s rows i t) result }
 {
     degree(table, i).try_times(Root::new(t))
 }
@@ -123,7 +126,7 @@ pub fn central_left<const K: u32>(table: &Conjugated<K>, i: u32, y: u32, x: u32)
     requires i_below { i < length table.now.rows }
     requires y_below { y < size table.now.over }
     requires x_below { x < size table.now.over }
-    ensures forms { Forms (central_left table.now.over (characters_of K table.now.rows) i y x) result }
+    ensures forms { FormsIn K table.now (λ s t. central_left s t i y x) result }
 {
     let candidate = table.candidate();
     let z = left_quotient(candidate.over(), y, x);
@@ -135,7 +138,7 @@ pub fn central_right<const K: u32>(table: &Conjugated<K>, i: u32, y: u32, x: u32
     requires i_below { i < length table.now.rows }
     requires y_below { y < size table.now.over }
     requires x_below { x < size table.now.over }
-    ensures forms { Forms (central_right table.now.over (characters_of K table.now.rows) i y x) result }
+    ensures forms { FormsIn K table.now (λ s t. central_right s t i y x) result }
 {
     let candidate = table.candidate();
     let z = right_quotient(candidate.over(), x, y);
@@ -154,7 +157,7 @@ fn product_term<const K: u32>(
     requires j_below { j < length table.now.rows }
     requires y_below { y < size table.now.over }
     requires x_below { x < size table.now.over }
-    ensures forms { Forms (product_term table.now.over (characters_of K table.now.rows) i j x y) result }
+    ensures forms { FormsIn K table.now (λ s t. product_term s t i j x y) result }
 {
     let candidate = table.candidate();
     let z = left_quotient(candidate.over(), y, x);
@@ -177,8 +180,9 @@ fn add_product_term<const K: u32>(
     requires j_below { j < length table.now.rows }
     requires y_below { y < size table.now.over }
     requires x_below { x < size table.now.over }
-    ensures folded { let term = product_term table.now.over (characters_of K table.now.rows) i j x in
-        IsTrue result → IsFolded K term y (folded_value K folded.old) folded.old.bound → IsFolded K term (y + 1) (folded_value K folded.new) folded.new.bound }
+    ensures folded { let term = product_term table.now.over (characters_of K table.now.rows) i j x
+        in IsTrue result → IsFolded K term y (folded_value K folded.old) folded.old.bound
+        → IsFolded K term (y + 1) (folded_value K folded.new) folded.new.bound }
 {
     let candidate = table.candidate();
     let z = left_quotient(candidate.over(), y, x);
@@ -191,7 +195,8 @@ fn folded_product_sum<const K: u32>(table: &Conjugated<K>, i: u32, j: u32, x: u3
     requires i_below { i < length table.now.rows }
     requires j_below { j < length table.now.rows }
     requires x_below { x < size table.now.over }
-    ensures forms { IfSome result (λ sum. Forms (product_sum table.now.over (characters_of K table.now.rows) i j x) (Some sum)) }
+    ensures forms { IfSome result
+        (λ sum. FormsIn K table.now (λ s t. product_sum s t i j x) (Some sum)) }
 {
     let places = table.candidate().over().size();
     let mut folded = Folded::zero();
@@ -208,7 +213,7 @@ fn exact_product_sum<const K: u32>(table: &Conjugated<K>, i: u32, j: u32, x: u32
     requires i_below { i < length table.now.rows }
     requires j_below { j < length table.now.rows }
     requires x_below { x < size table.now.over }
-    ensures forms { Forms (product_sum table.now.over (characters_of K table.now.rows) i j x) result }
+    ensures forms { FormsIn K table.now (λ s t. product_sum s t i j x) result }
 {
     let places = table.candidate().over().size();
     let mut total = Total::zero();
@@ -226,7 +231,7 @@ fn product_sum<const K: u32>(table: &Conjugated<K>, i: u32, j: u32, x: u32) -> O
     requires i_below { i < length table.now.rows }
     requires j_below { j < length table.now.rows }
     requires x_below { x < size table.now.over }
-    ensures forms { Forms (product_sum table.now.over (characters_of K table.now.rows) i j x) result }
+    ensures forms { FormsIn K table.now (λ s t. product_sum s t i j x) result }
 {
     match folded_product_sum(table, i, j, x) {
         Some(sum) => Some(sum),
@@ -239,7 +244,7 @@ pub fn product_left<const K: u32>(table: &Conjugated<K>, i: u32, j: u32, x: u32)
     requires i_below { i < length table.now.rows }
     requires j_below { j < length table.now.rows }
     requires x_below { x < size table.now.over }
-    ensures forms { Forms (product_left table.now.over (characters_of K table.now.rows) i j x) result }
+    ensures forms { FormsIn K table.now (λ s t. product_left s t i j x) result }
 {
     let Some(value) = product_sum(table, i, j, x) else {
         return None;
@@ -256,7 +261,7 @@ pub fn product_right<const K: u32>(table: &Conjugated<K>, i: u32, j: u32, x: u32
     requires i_below { i < length table.now.rows }
     requires j_below { j < length table.now.rows }
     requires x_below { x < size table.now.over }
-    ensures forms { Forms (product_right table.now.over (characters_of K table.now.rows) i j x) result }
+    ensures forms { FormsIn K table.now (λ s t. product_right s t i j x) result }
 {
     let order = order(table.candidate());
     if i == j {
@@ -270,7 +275,7 @@ pub fn product_right<const K: u32>(table: &Conjugated<K>, i: u32, j: u32, x: u32
 fn sum_term<const K: u32>(table: &Conjugated<K>, x: u32, i: u32) -> Option<Cyc<K>>
     requires x_below { x < size table.now.over }
     requires i_below { i < length table.now.rows }
-    ensures forms { Forms (sum_term table.now.over (characters_of K table.now.rows) x i) result }
+    ensures forms { FormsIn K table.now (λ s t. sum_term s t x i) result }
 {
     degree(table.candidate(), i).try_mul(&table.conjugate(i, x))
 }
@@ -278,7 +283,7 @@ fn sum_term<const K: u32>(table: &Conjugated<K>, x: u32, i: u32) -> Option<Cyc<K
 /// The sum of the `d_i E_i`, at the place `x`.
 pub fn sum_left<const K: u32>(table: &Conjugated<K>, x: u32) -> Option<Cyc<K>>
     requires x_below { x < size table.now.over }
-    ensures forms { Forms (sum_left table.now.over (characters_of K table.now.rows) x) result }
+    ensures forms { FormsIn K table.now (λ s t. sum_left s t x) result }
 {
     let rows = table.candidate().rows();
     let mut total = Total::zero();
@@ -294,7 +299,7 @@ pub fn sum_left<const K: u32>(table: &Conjugated<K>, x: u32) -> Option<Cyc<K>>
 /// The value of `m u_e` at the place `x`.
 pub fn sum_right<const K: u32>(table: &Conjugated<K>, x: u32) -> Option<Cyc<K>>
     requires x_below { x < size table.now.over }
-    ensures forms { Forms (sum_right table.now.over (characters_of K table.now.rows) x) result }
+    ensures forms { FormsIn K table.now (λ s t. sum_right s t x) result }
 {
     let order = order(table.candidate());
     if x == table.candidate().over().group().identity() {
@@ -309,7 +314,7 @@ fn row_term<const K: u32>(table: &Conjugated<K>, x: u32, y: u32, i: u32) -> Opti
     requires x_below { x < size table.now.over }
     requires y_below { y < size table.now.over }
     requires i_below { i < length table.now.rows }
-    ensures forms { Forms (row_term table.now.over (characters_of K table.now.rows) x y i) result }
+    ensures forms { FormsIn K table.now (λ s t. row_term s t x y i) result }
 {
     let conjugate = table.conjugate(i, x);
     conjugate.try_mul(&table.candidate().value(i, y))
@@ -327,7 +332,8 @@ fn add_row_term<const K: u32>(
     requires y_below { y < size table.now.over }
     requires i_below { i < length table.now.rows }
     ensures folded { let term = row_term table.now.over (characters_of K table.now.rows) x y in
-        IsTrue result → IsFolded K term i (folded_value K folded.old) folded.old.bound → IsFolded K term (i + 1) (folded_value K folded.new) folded.new.bound }
+        IsTrue result → IsFolded K term i (folded_value K folded.old) folded.old.bound
+        → IsFolded K term (i + 1) (folded_value K folded.new) folded.new.bound }
 {
     let value = Terms::of(&table.candidate().value(i, y));
     folded.add_product(table.terms(i, x), &value, Root::new(0))
@@ -337,7 +343,8 @@ fn add_row_term<const K: u32>(
 fn folded_column_left<const K: u32>(table: &Conjugated<K>, x: u32, y: u32) -> Option<Cyc<K>>
     requires x_below { x < size table.now.over }
     requires y_below { y < size table.now.over }
-    ensures forms { IfSome result (λ sum. Forms (column_left table.now.over (characters_of K table.now.rows) x y) (Some sum)) }
+    ensures forms { IfSome result
+        (λ sum. FormsIn K table.now (λ s t. column_left s t x y) (Some sum)) }
 {
     let rows = table.candidate().rows();
     let mut folded = Folded::zero();
@@ -353,7 +360,7 @@ fn folded_column_left<const K: u32>(table: &Conjugated<K>, x: u32, y: u32) -> Op
 fn exact_column_left<const K: u32>(table: &Conjugated<K>, x: u32, y: u32) -> Option<Cyc<K>>
     requires x_below { x < size table.now.over }
     requires y_below { y < size table.now.over }
-    ensures forms { Forms (column_left table.now.over (characters_of K table.now.rows) x y) result }
+    ensures forms { FormsIn K table.now (λ s t. column_left s t x y) result }
 {
     let rows = table.candidate().rows();
     let mut total = Total::zero();
@@ -370,7 +377,7 @@ fn exact_column_left<const K: u32>(table: &Conjugated<K>, x: u32, y: u32) -> Opt
 pub fn column_left<const K: u32>(table: &Conjugated<K>, x: u32, y: u32) -> Option<Cyc<K>>
     requires x_below { x < size table.now.over }
     requires y_below { y < size table.now.over }
-    ensures forms { Forms (column_left table.now.over (characters_of K table.now.rows) x y) result }
+    ensures forms { FormsIn K table.now (λ s t. column_left s t x y) result }
 {
     match folded_column_left(table, x, y) {
         Some(sum) => Some(sum),
@@ -408,7 +415,7 @@ fn column_term<const K: u32>(table: &Candidate<K>, x: u32, y: u32, c: u32) -> Op
 pub fn column_right<const K: u32>(table: &Candidate<K>, x: u32, y: u32) -> Option<Cyc<K>>
     requires x_below { x < size table.now.over }
     requires y_below { y < size table.now.over }
-    ensures forms { Forms (column_right table.now.over (characters_of K table.now.rows) x y) result }
+    ensures forms { FormsIn K table.now (λ s t. column_right s t x y) result }
 {
     let places = table.over().size();
     let mut total = Total::zero();

@@ -11,11 +11,11 @@ ghost use Rattle.table_check.specs.Good.{IsGood};
 ghost use Rattle.table_check.specs.Check.{degree_of, twist_of, table_miss};
 ghost use Rattle.table_check.specs.Answers.{Checks};
 
+use crate::algebra_clauses::algebra_refusal;
 use crate::candidate::Candidate;
 use crate::conjugated::Conjugated;
 use crate::refusal::TableRefusal;
-use crate::refusals::{algebra_refusal, row_refusal};
-use crate::row_clauses::{degree_of, twist_of};
+use crate::row_clauses::{degree_of, row_refusal, twist_of};
 use crate::sides::degree;
 use qd_ring::{Cyc, Rows};
 use std::alloc::Global;
@@ -37,7 +37,8 @@ impl<const K: u32> Model for Table<K> {
 
     ghost view = { λ t. t.candidate };
 
-    ghost invariant = { λ t. IsShaped K t.candidate × (table_miss t.candidate.over (characters_of K t.candidate.rows) ≡ None) };
+    ghost invariant = { λ t. IsShaped K t.candidate
+        × (table_miss t.candidate.over (characters_of K t.candidate.rows) ≡ None) };
 }
 
 impl<const K: u32> Table<K> {
@@ -86,10 +87,13 @@ impl<const K: u32> Table<K> {
     /// The degree of row `i`, its value at the identity.
     pub fn degree(&self, i: u32) -> u32
         requires i_below { i < length self.now.rows }
-        ensures degree { degree_of K (size self.now.over) ((characters_of K self.now.rows).chi i (identity_of self.now.over.group)) ≡ Some result }
+        ensures degree { let s = self.now.over in
+            let value = (characters_of K self.now.rows).chi i (identity_of s.group) in
+            degree_of K (size s) value ≡ Some result }
         ensures positive { 1 ≤ result }
         ensures square { result * result ≤ size self.now.over }
-        ensures value { (characters_of K self.now.rows).chi i (identity_of self.now.over.group) ≡ whole K result }
+        ensures value { (characters_of K self.now.rows).chi i (identity_of self.now.over.group)
+            ≡ whole K result }
     {
         match degree_of(self.candidate.over().size(), &degree(&self.candidate, i)) {
             Some(degree) => degree,
@@ -103,7 +107,8 @@ impl<const K: u32> Table<K> {
         requires i_below { i < length self.now.rows }
         ensures twist { twist_of self.now.over (characters_of K self.now.rows) i ≡ Some result }
         ensures below { result < K }
-        ensures value { (twist_left self.now.over (characters_of K self.now.rows) i).value ≡ (twist_right self.now.over (characters_of K self.now.rows) i result).value }
+        ensures value { let s = self.now.over in let values = characters_of K self.now.rows in
+            (twist_left s values i).value ≡ (twist_right s values i result).value }
     {
         match twist_of(&self.candidate, i) {
             Some(twist) => twist,
@@ -115,7 +120,8 @@ impl<const K: u32> Table<K> {
     pub fn value(&self, i: u32, p: u32) -> Cyc<K>
         requires i_below { i < length self.now.rows }
         requires p_below { p < size self.now.over }
-        ensures value { cyclotomic_value K result.coefficients ≡ (characters_of K self.now.rows).chi i p }
+        ensures value { cyclotomic_value K result.coefficients
+            ≡ (characters_of K self.now.rows).chi i p }
     {
         self.candidate.value(i, p)
     }

@@ -1,32 +1,5 @@
-use Rattle.std.proofs.Common.{◌<◌, Some, vec_len, length, subst, arith}
-use Rattle.twisted.specs.Twist.{size}
-use Rattle.table_check.specs.Characters.{RowsOver, characters_of}
-use Rattle.table_check.specs.Formed.{Forms}
-use Rattle.table_check.specs.Sides.{conjugate_value}
-use Rattle.table_check.proofs.Conjugates.{conjugate_kept, kept_rows, kept_width, kept_value}
+use Rattle.table_check.proofs.Conjugates.{conjugate_kept}
 use Rattle.table_check.proofs.conjugated.Conjugated.conjugate.Goals as goal
 
-pub index-requires : goal.index-requires
-index-requires g c =
-    subst (λ (t : RowsOver). c.args.i < length t.rows → c.args.i < vec_len c.self.inside.conjugates) c.self.view_is
-    (λ row. omega (arith, row, kept_rows g.row.K c.self.inside.candidate c.self.inside.conjugates.items c.self.invariant.1, c.self.inside.conjugates.ok.0)) c.requires.i_below
-
-pub index-requires-2 : goal.index-requires-2
-index-requires-2 g c =
-    subst (λ (t : RowsOver). c.args.i < length t.rows → c.args.x < size t.over → c.args.x < vec_len c.index.result.now) c.self.view_is
-    (λ row place. omega (
-      arith,
-      place,
-      kept_width g.row.K c.self.inside.candidate c.self.inside.conjugates.items c.self.invariant.1 c.args.i c.index.result.now row c.index.ensures,
-      c.index.result.now.ok.0,
-    ))
-    c.requires.i_below c.requires.x_below
-
 pub returns : goal.returns
-returns g c = record {
-  forms = subst (λ (t : RowsOver). c.args.i < length t.rows → c.args.x < size t.over → Forms (conjugate_value t.over (characters_of g.row.K t.rows) c.args.i c.args.x) (Some c.index-2.result.now.value))
-      c.self.view_is
-      (λ row place. conjugate_kept g.row.K c.self.inside.candidate c.args.i c.args.x c.index-2.result.now.value
-      (kept_value g.row.K c.self.inside.candidate c.self.inside.conjugates.items c.self.invariant.1 c.args.i c.args.x c.index.result.now c.index-2.result.now row place c.index.ensures c.index-2.ensures))
-      c.requires.i_below c.requires.x_below;
-}
+returns g c = record { forms = conjugate_kept g.row.K c.args.self.now c.args.i c.args.x c.kept.result.now.value c.kept.ensures.kept }
