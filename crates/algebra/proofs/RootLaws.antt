@@ -18,14 +18,6 @@ module _ {A : Type 0} (R : CommRing A) (z : A) (n : ℕ) (cycle : power R z n �
   abbrev pub roots_of_power : Roots R n
   roots_of_power = record { root = λ v. power R z v; root_zero = power_zero R z; root_add = power_add R z; root_same = power_same }
 
--- a root of unity of order n gives roots with exponents modulo each divisor m of n = k m
-module _ {A : Type 0} (R : CommRing A) (m k : ℕ) {n : ℕ} (u : RootOfUnity R n) (divides : k * m ≡ n) where
-  pub divided_cycle : power R (power R u.root k) m ≡ R.one
-  divided_cycle = sym (power_mul R u.root k m) ∙ ap (λ e. power R u.root e) divides ∙ u.cycle
-
-  abbrev pub roots_of_unit : Roots R m
-  roots_of_unit = roots_of_power R (power R u.root k) m divided_cycle
-
 -- what a power of z other than 1 leaves as it is, is nought
 module _ {A : Type 0} (R : CommRing A) {n : ℕ} (u : RootOfUnity R n) (e : ℕ) (apart : e % n ≢ 0) (x : A) (fixed : R.mul (power R u.root e) x ≡ x) where
   fixed_again : (j : ℕ) → R.mul (power R u.root (j * e)) x ≡ x
