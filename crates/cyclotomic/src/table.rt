@@ -58,7 +58,8 @@ fn entry_of(table: &[(u32, u32)], k: u32) -> Option<(u32, u32)>
 
 /// The least conductor that is a multiple of m; the error, with m, exactly where there is none.
 pub fn conductor(m: u32) -> Result<u32, NoConductor>
-    ensures least { MatchResult result (λ k. least_conductor m ≡ Some k) (λ error. least_conductor m ≡ None) }
+    ensures least { MatchResult result (λ k. least_conductor m ≡ Some k) (λ error. least_conductor m
+        ≡ None) }
     ensures multiple { IfErr result (λ error. error.multiple ≡ m) }
 {
     if m == 0 {

@@ -19,9 +19,11 @@ use crate::terms::Terms;
 /// The largest magnitude of a coefficient.
 const GREATEST: u128 = (1 << 120) - 1;
 
-/// A value of the cyclotomic ring of conductor K that fits: a polynomial in x modulo the cyclotomic polynomial.
+/// A value of the cyclotomic ring of conductor K that fits: a polynomial in x modulo the cyclotomic
+/// polynomial.
 ///
-/// It stands for `cyclotomic_value K coefficients`. A value exists only where K is an entry of the table of conductors.
+/// It stands for `cyclotomic_value K coefficients`. A value exists only where K is an entry of the
+/// table of conductors.
 #[derive(Clone, Copy, PartialEq, Eq, PartialOrd, Ord, Hash, Debug)]
 pub struct Cyc<const K: u32> {
     /// The coefficients of 1, x, x^2, .., with zeros from phi(K) on.
@@ -92,8 +94,10 @@ impl<const K: u32> Cyc<K> {
 
     /// The whole number that the value is; `None` exactly where it is none.
     pub fn as_whole(&self) -> Option<i128>
-        ensures whole { IfSome result (λ v. cyclotomic_value K self.now.coefficients ≡ cyclotomic_value K (v ∷ [])) }
-        ensures none { IfNone result ((v : ℤ) → cyclotomic_value K self.now.coefficients ≡ cyclotomic_value K (v ∷ []) → ⊥) }
+        ensures whole { IfSome result (λ v. cyclotomic_value K self.now.coefficients
+            ≡ cyclotomic_value K (v ∷ [])) }
+        ensures none { IfNone result ((v : ℤ)
+            → cyclotomic_value K self.now.coefficients ≡ cyclotomic_value K (v ∷ []) → ⊥) }
     {
         if all_zero(&self.coefficients[1..]) {
             Some(self.coefficients[0])
@@ -111,10 +115,12 @@ impl<const K: u32> Cyc<K> {
         }
     }
 
-    /// The value with these coefficients; `None` exactly where one from phi(K) on isn't 0 or one doesn't fit.
+    /// The value with these coefficients; `None` exactly where one from phi(K) on isn't 0 or one
+    /// doesn't fit.
     pub fn from_plain(p: &Plain) -> Option<Cyc<K>>
         requires { is_conductor K ≡ true }
-        ensures fits { is_some result ≡ (is_array K p.now.coefficients && is_small p.now.coefficients) }
+        ensures fits { is_some result ≡
+            (is_array K p.now.coefficients && is_small p.now.coefficients) }
         ensures value { IfSome result (λ value. value.coefficients ≡ p.now.coefficients) }
     {
         if is_padded(K, &p.coefficients) {
@@ -130,8 +136,10 @@ impl<const K: u32> Cyc<K> {
         requires array { is_array K coefficients ≡ true }
         ensures small { is_some result ≡ is_small coefficients }
         ensures same { IfSome result (λ value. value.coefficients ≡ coefficients) }
-        ensures fits { (u : CyclotomicValue K) → coefficients ≡ array_of u → is_some result ≡ value_fits u }
-        ensures value { (u : CyclotomicValue K) → coefficients ≡ array_of u → IfSome result (λ value. cyclotomic_value K value.coefficients ≡ u) }
+        ensures fits { (u : CyclotomicValue K) → coefficients ≡ array_of u
+            → is_some result ≡ value_fits u }
+        ensures value { (u : CyclotomicValue K) → coefficients ≡ array_of u
+            → IfSome result (λ value. cyclotomic_value K value.coefficients ≡ u) }
     {
         if size(&coefficients) <= GREATEST {
             Some(Cyc { coefficients })
@@ -143,8 +151,12 @@ impl<const K: u32> Cyc<K> {
     /// The sum; `None` exactly where it doesn't fit.
     #[tactic(auto, using(crate::proofs::CycLaws::small_means))]
     pub fn try_add(&self, b: &Cyc<K>) -> Option<Cyc<K>>
-        ensures fits { is_some result ≡ value_fits (value_sum (cyclotomic_value K self.now.coefficients) (cyclotomic_value K b.now.coefficients)) }
-        ensures value { IfSome result (λ value. cyclotomic_value K value.coefficients ≡ value_sum (cyclotomic_value K self.now.coefficients) (cyclotomic_value K b.now.coefficients)) }
+        ensures fits { is_some result ≡ value_fits
+            (value_sum (cyclotomic_value K self.now.coefficients)
+            (cyclotomic_value K b.now.coefficients)) }
+        ensures value { IfSome result (λ value. cyclotomic_value K value.coefficients
+            ≡ value_sum (cyclotomic_value K self.now.coefficients)
+            (cyclotomic_value K b.now.coefficients)) }
     {
         let mut sum = self.coefficients;
         combine(&mut sum, &b.coefficients, -1);
@@ -154,8 +166,12 @@ impl<const K: u32> Cyc<K> {
     /// The difference; `None` exactly where it doesn't fit.
     #[tactic(auto, using(crate::proofs::CycLaws::small_means))]
     pub fn try_sub(&self, b: &Cyc<K>) -> Option<Cyc<K>>
-        ensures fits { is_some result ≡ value_fits (value_sum (cyclotomic_value K self.now.coefficients) (value_negative (cyclotomic_value K b.now.coefficients))) }
-        ensures value { IfSome result (λ value. cyclotomic_value K value.coefficients ≡ value_sum (cyclotomic_value K self.now.coefficients) (value_negative (cyclotomic_value K b.now.coefficients))) }
+        ensures fits { is_some result ≡ value_fits
+            (value_sum (cyclotomic_value K self.now.coefficients)
+            (value_negative (cyclotomic_value K b.now.coefficients))) }
+        ensures value { IfSome result (λ value. cyclotomic_value K value.coefficients
+            ≡ value_sum (cyclotomic_value K self.now.coefficients)
+            (value_negative (cyclotomic_value K b.now.coefficients))) }
     {
         let mut difference = self.coefficients;
         combine(&mut difference, &b.coefficients, 1);
@@ -165,8 +181,10 @@ impl<const K: u32> Cyc<K> {
     /// The conjugate; `None` exactly where it doesn't fit.
     #[tactic(auto, using(cyclotomic::proofs::Checks::conductor_positive, crate::specs::ReductionSigns::conductor_bounds, crate::proofs::CycLaws::small_total))]
     pub fn try_conj(&self) -> Option<Cyc<K>>
-        ensures fits { is_some result ≡ value_fits (conjugate K (cyclotomic_value K self.now.coefficients)) }
-        ensures value { IfSome result (λ value. cyclotomic_value K value.coefficients ≡ conjugate K (cyclotomic_value K self.now.coefficients)) }
+        ensures fits { is_some result ≡ value_fits
+            (conjugate K (cyclotomic_value K self.now.coefficients)) }
+        ensures value { IfSome result (λ value. cyclotomic_value K value.coefficients
+            ≡ conjugate K (cyclotomic_value K self.now.coefficients)) }
     {
         Cyc::fitted(image(K, &self.coefficients, 0, K - 1))
     }
@@ -174,8 +192,12 @@ impl<const K: u32> Cyc<K> {
     /// The multiple by a root; `None` exactly where it doesn't fit.
     #[tactic(auto, using(crate::proofs::CycLaws::small_total))]
     pub fn try_times(&self, r: Root<K>) -> Option<Cyc<K>>
-        ensures fits { is_some result ≡ value_fits (value_product (cyclotomic K) (root K r.entry.exponent) (cyclotomic_value K self.now.coefficients)) }
-        ensures value { IfSome result (λ value. cyclotomic_value K value.coefficients ≡ value_product (cyclotomic K) (root K r.entry.exponent) (cyclotomic_value K self.now.coefficients)) }
+        ensures fits { is_some result ≡ value_fits
+            (value_product (cyclotomic K) (root K r.entry.exponent)
+            (cyclotomic_value K self.now.coefficients)) }
+        ensures value { IfSome result (λ value. cyclotomic_value K value.coefficients
+            ≡ value_product (cyclotomic K) (root K r.entry.exponent)
+            (cyclotomic_value K self.now.coefficients)) }
     {
         Cyc::fitted(image(K, &self.coefficients, r.exponent(), 1))
     }
@@ -184,16 +206,21 @@ impl<const K: u32> Cyc<K> {
     #[tactic(auto, using(cyclotomic::proofs::Checks::conductor_positive, crate::specs::ReductionSigns::conductor_bounds, crate::proofs::CycLaws::small_total))]
     pub fn try_galois(&self, t: u32) -> Option<Cyc<K>>
         requires { IsGcd t K 1 }
-        ensures fits { is_some result ≡ value_fits (galois_image K t (cyclotomic_value K self.now.coefficients)) }
-        ensures value { IfSome result (λ value. cyclotomic_value K value.coefficients ≡ galois_image K t (cyclotomic_value K self.now.coefficients)) }
+        ensures fits { is_some result ≡ value_fits
+            (galois_image K t (cyclotomic_value K self.now.coefficients)) }
+        ensures value { IfSome result (λ value. cyclotomic_value K value.coefficients
+            ≡ galois_image K t (cyclotomic_value K self.now.coefficients)) }
     {
         Cyc::fitted(image(K, &self.coefficients, 0, t % K))
     }
 
     /// The product; `None` exactly where the two values don't fit together.
     pub fn try_mul(&self, b: &Cyc<K>) -> Option<Cyc<K>>
-        ensures fits { is_some result ≡ product_fits (cyclotomic_value K self.now.coefficients) (cyclotomic_value K b.now.coefficients) }
-        ensures value { IfSome result (λ value. cyclotomic_value K value.coefficients ≡ value_product (cyclotomic K) (cyclotomic_value K self.now.coefficients) (cyclotomic_value K b.now.coefficients)) }
+        ensures fits { is_some result ≡ product_fits (cyclotomic_value K self.now.coefficients)
+            (cyclotomic_value K b.now.coefficients) }
+        ensures value { IfSome result (λ value. cyclotomic_value K value.coefficients
+            ≡ value_product (cyclotomic K) (cyclotomic_value K self.now.coefficients)
+            (cyclotomic_value K b.now.coefficients)) }
     {
         Terms::of(self).try_mul(&Terms::of(b))
     }

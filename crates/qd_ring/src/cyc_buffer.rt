@@ -1,4 +1,5 @@
-//! Polynomials of up to 120 coefficients, in which products and images are formed before they are reduced.
+//! Polynomials of up to 120 coefficients, in which products and images are formed before they are
+//! reduced.
 
 ghost use Rattle.std.specs.Prelude.{◌≡◌, ℕ, ◌+◌, ◌-◌, ◌*◌, ◌^◌, ◌<◌, ◌≤◌, ℤ, ◌+ℤ◌, ◌-ℤ◌, ◌*ℤ◌, neg_ℤ, nat_abs, pos, List, [], ◌∷◌, ◌++◌, length, drop, take, true};
 ghost use Rattle.cyclotomic.specs.Polynomial.{at_power, leading, plus, scaled, zeros};
@@ -34,19 +35,21 @@ fn less_signed(a: i128, c: i128, sign: i8) -> i128
 pub(crate) fn add_at(buffer: &mut [i128], v: usize, c: i128)
     requires place { v < length buffer.old }
     requires room { total_of buffer.old + nat_abs c < 2 ^ 126 }
-    ensures value { (m : List ℤ) → value_of m buffer.new ≡ value_sum (value_of m buffer.old) (value_multiple c (value_root m v)) }
+    ensures value { (m : List ℤ) → value_of m buffer.new
+        ≡ value_sum (value_of m buffer.old) (value_multiple c (value_root m v)) }
     ensures total { total_of buffer.new ≤ total_of buffer.old + nat_abs c }
 {
     buffer[v] += c;
 }
 
-// One step of long division by the monic polynomial with the lower coefficients `low`, in place: the last number of the
-// window is cancelled, and stays where it was.
+// One step of long division by the monic polynomial with the lower coefficients `low`, in place:
+// the last number of the window is cancelled, and stays where it was.
 fn cancel(window: &mut [i128], low: &[i8])
     requires size { length window.old ≡ length low.now + 1 }
     requires ternary { size_of low.now ≤ 1 }
     requires room { size_of window.old < 2 ^ 126 }
-    ensures { window.new ≡ cancelled (low.now ++ (pos 1 ∷ [])) window.old ++ (leading window.old ∷ []) }
+    ensures { window.new ≡ cancelled (low.now ++ (pos 1 ∷ [])) window.old ++
+        (leading window.old ∷ []) }
 {
     let last = window[low.len()];
     if last == 0 {
@@ -57,7 +60,8 @@ fn cancel(window: &mut [i128], low: &[i8])
     }
 }
 
-// The remainder by the cyclotomic polynomial of conductor k, in the first phi(k) places; what stands behind is left over.
+// The remainder by the cyclotomic polynomial of conductor k, in the first phi(k) places; what
+// stands behind is left over.
 #[tactic(auto, using(cyclotomic::proofs::Checks::reduction_length, crate::specs::ReductionSigns::conductor_bounds))]
 fn reduce(k: u32, buffer: &mut [i128])
     requires conductor { is_conductor k ≡ true }
@@ -80,7 +84,10 @@ fn spread(k: u32, buffer: &mut [i128], coefficients: &[i128], start: u32, stride
     requires start { start < k }
     requires stride { stride < k }
     requires room { total_of buffer.old + total_of coefficients.now < 2 ^ 126 }
-    ensures value { cyclotomic_value k buffer.new ≡ value_sum (cyclotomic_value k buffer.old) (value_product (cyclotomic k) (root k start) (cyclotomic_value k (at_power stride coefficients.now))) }
+    ensures value { cyclotomic_value k buffer.new
+        ≡ value_sum (cyclotomic_value k buffer.old)
+        (value_product (cyclotomic k) (root k start)
+        (cyclotomic_value k (at_power stride coefficients.now))) }
     ensures total { total_of buffer.new ≤ total_of buffer.old + total_of coefficients.now }
 {
     let mut place = start;
@@ -132,7 +139,8 @@ fn reduced_image(k: u32, buffer: &mut [i128], a: &[i128], start: u32, stride: u3
     requires start { start < k }
     requires stride { stride < k }
     requires room { total_of a.now < 2 ^ 126 }
-    ensures { result ≡ array_of (value_product (cyclotomic k) (root k start) (cyclotomic_value k (at_power stride a.now))) }
+    ensures { result ≡ array_of (value_product (cyclotomic k) (root k start)
+        (cyclotomic_value k (at_power stride a.now))) }
 {
     spread(k, buffer, a, start, stride);
     reduced(k, buffer)
@@ -146,7 +154,8 @@ pub(crate) fn image(k: u32, a: &[i128; 42], start: u32, stride: u32) -> [i128; 4
     requires start { start < k }
     requires stride { stride < k }
     requires room { total_of a.now < 2 ^ 126 }
-    ensures { result ≡ array_of (value_product (cyclotomic k) (root k start) (galois_image k stride (cyclotomic_value k a.now))) }
+    ensures { result ≡ array_of (value_product (cyclotomic k) (root k start)
+        (galois_image k stride (cyclotomic_value k a.now))) }
 {
     let phi = reduction(k).len();
     let mut buffer = [0i128; 120];

@@ -3,7 +3,8 @@
 ghost use Rattle.std.specs.Prelude.{◌≡◌, true};
 ghost use Rattle.cyclotomic.specs.Conductors.{is_conductor};
 
-/// The ring object of the values of conductor K. It exists only where K is an entry of the table of conductors.
+/// The ring object of the values of conductor K. It exists only where K is an entry of the table of
+/// conductors.
 #[derive(Clone, Copy, Debug)]
 pub struct CycRing<const K: u32> {
     ghost conductor: { is_conductor K ≡ true },

@@ -1,4 +1,5 @@
-//! The coefficients of the calculator: roots of unity, cyclotomic values and the rings that they form, with exact rules of fit.
+//! The coefficients of the calculator: roots of unity, cyclotomic values and the rings that they
+//! form, with exact rules of fit.
 #![tactic(auto)]
 
 mod cyc;

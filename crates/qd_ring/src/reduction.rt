@@ -1,4 +1,5 @@
-//! The table of the cyclotomic polynomials of the conductors, as the coefficients by which values are reduced.
+//! The table of the cyclotomic polynomials of the conductors, as the coefficients by which values
+//! are reduced.
 
 ghost use Rattle.std.specs.Prelude.{◌≡◌, ◌<◌, ◌≤◌, true};
 ghost use Rattle.cyclotomic.specs.Conductors.{is_conductor, reduction_of};

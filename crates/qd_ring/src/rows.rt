@@ -9,8 +9,8 @@ use crate::cyc::Cyc;
 use std::alloc::Global;
 use std::marker::Model;
 
-/// Rows of cyclotomic values, of any widths; seen as a list of rows, each a list of values, each the list of its
-/// coefficients.
+/// Rows of cyclotomic values, of any widths; seen as a list of rows, each a list of values, each
+/// the list of its coefficients.
 ///
 /// Rows exist only where K is an entry of the table of conductors.
 #[derive(Debug, Drop)]
@@ -24,9 +24,12 @@ impl<const K: u32> Model for Rows<K> {
 
     ghost Value = { List (List (List ℤ)) };
 
-    ghost view = { λ table. map (λ row. map (λ value. value.coefficients) row.items) table.rows.items };
+    ghost view = { λ table. map (λ row. map
+        (λ value. value.coefficients) row.items) table.rows.items };
 
-    ghost invariant = { λ table. (is_conductor K ≡ true) × (length table.rows.items < 2 ^ 32) × All (λ row. length row.items < 2 ^ 32) table.rows.items };
+    ghost invariant = { λ table. (is_conductor K
+        ≡ true) × (length table.rows.items < 2 ^ 32) × All
+        (λ row. length row.items < 2 ^ 32) table.rows.items };
 }
 
 impl<const K: u32> Rows<K> {

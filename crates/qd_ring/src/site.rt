@@ -32,8 +32,8 @@ pub enum Part {
 pub struct Site {
     /// The kind of the sum.
     pub part: Part,
-    /// The representative of the class in the clauses of a table, the element g of a full or tensor character at (g, x), the
-    /// simple k of an inner product with k or of its indicator.
+    /// The representative of the class in the clauses of a table, the element g of a full or tensor
+    /// character at (g, x), the simple k of an inner product with k or of its indicator.
     pub at: u32,
     /// The first row or simple.
     pub i: u32,

@@ -33,8 +33,10 @@ fn add_term(k: u32, buffer: &mut [i128], factor: i128, term: Monomial, start: u3
     requires power { term.power < k }
     requires room { total_of buffer.old + nat_abs factor * nat_abs term.coefficient < 2 ^ 126 }
     ensures value { cyclotomic_value k buffer.new ≡ value_sum (cyclotomic_value k buffer.old)
-        (value_multiple factor (value_product (cyclotomic k) (root k start) (value_multiple term.coefficient (root k term.power)))) }
-    ensures total { total_of buffer.new ≤ total_of buffer.old + nat_abs factor * nat_abs term.coefficient }
+        (value_multiple factor (value_product (cyclotomic k) (root k start)
+        (value_multiple term.coefficient (root k term.power)))) }
+    ensures total { total_of buffer.new ≤ total_of buffer.old
+        + nat_abs factor * nat_abs term.coefficient }
 {
     let place = turned(k, start, term.power);
     add_at(buffer, place as usize, factor * term.coefficient);
@@ -48,8 +50,10 @@ fn add_terms(k: u32, buffer: &mut [i128], factor: i128, terms: &[Monomial], star
     requires powers { All (λ term. term.power < k) terms.now }
     requires room { total_of buffer.old + nat_abs factor * total_of_terms terms.now < 2 ^ 126 }
     ensures value { cyclotomic_value k buffer.new ≡ value_sum (cyclotomic_value k buffer.old)
-        (value_multiple factor (value_product (cyclotomic k) (root k start) (value_of_terms k terms.now))) }
-    ensures total { total_of buffer.new ≤ total_of buffer.old + nat_abs factor * total_of_terms terms.now }
+        (value_multiple factor (value_product (cyclotomic k) (root k start)
+        (value_of_terms k terms.now))) }
+    ensures total { total_of buffer.new ≤ total_of buffer.old
+        + nat_abs factor * total_of_terms terms.now }
 {
     for term in terms {
         add_term(k, buffer, factor, *term, start);
@@ -65,8 +69,10 @@ pub(crate) fn add_product(k: u32, buffer: &mut [i128], a: &[Monomial], b: &[Mono
     requires b_powers { All (λ term. term.power < k) b.now }
     requires room { total_of buffer.old + total_of_terms a.now * total_of_terms b.now < 2 ^ 126 }
     ensures value { cyclotomic_value k buffer.new ≡ value_sum (cyclotomic_value k buffer.old)
-        (value_product (cyclotomic k) (root k start) (value_product (cyclotomic k) (value_of_terms k a.now) (value_of_terms k b.now))) }
-    ensures total { total_of buffer.new ≤ total_of buffer.old + total_of_terms a.now * total_of_terms b.now }
+        (value_product (cyclotomic k) (root k start)
+        (value_product (cyclotomic k) (value_of_terms k a.now) (value_of_terms k b.now))) }
+    ensures total { total_of buffer.new ≤ total_of buffer.old
+        + total_of_terms a.now * total_of_terms b.now }
 {
     for term in a {
         add_terms(k, buffer, term.coefficient, b, turned(k, start, term.power));
@@ -81,7 +87,8 @@ fn reduced_product(k: u32, buffer: &mut [i128], a: &[Monomial], b: &[Monomial]) 
     requires a_powers { All (λ term. term.power < k) a.now }
     requires b_powers { All (λ term. term.power < k) b.now }
     requires room { total_of_terms a.now * total_of_terms b.now < 2 ^ 126 }
-    ensures { result ≡ array_of (value_product (cyclotomic k) (value_of_terms k a.now) (value_of_terms k b.now)) }
+    ensures { result ≡ array_of (value_product (cyclotomic k) (value_of_terms k a.now)
+        (value_of_terms k b.now)) }
 {
     add_product(k, buffer, a, b, 0);
     reduced(k, buffer)
@@ -94,7 +101,8 @@ pub(crate) fn product(k: u32, a: &[Monomial], b: &[Monomial]) -> [i128; 42]
     requires a_powers { All (λ term. term.power < k) a.now }
     requires b_powers { All (λ term. term.power < k) b.now }
     requires room { total_of_terms a.now * total_of_terms b.now < 2 ^ 126 }
-    ensures { result ≡ array_of (value_product (cyclotomic k) (value_of_terms k a.now) (value_of_terms k b.now)) }
+    ensures { result ≡ array_of (value_product (cyclotomic k) (value_of_terms k a.now)
+        (value_of_terms k b.now)) }
 {
     let mut buffer = [0i128; 120];
     reduced_product(k, &mut buffer[..k as usize], a, b)

@@ -19,9 +19,11 @@ use std::marker::Model;
 /// A product of two values fits where the product of their sizes is below this number.
 const PRODUCT_LIMIT: u128 = 1 << 108;
 
-/// The sparse form of a value: its coefficients that aren't 0, each at a power of x; seen as the list of these.
+/// The sparse form of a value: its coefficients that aren't 0, each at a power of x; seen as the
+/// list of these.
 ///
-/// It stands for `value_of_terms K terms`. It exists only where K is an entry of the table of conductors.
+/// It stands for `value_of_terms K terms`. It exists only where K is an entry of the table of
+/// conductors.
 #[derive(Debug, Drop)]
 pub struct Terms<const K: u32> {
     terms: ArrayVec<Monomial, 42>,
@@ -47,7 +49,8 @@ fn push_term(terms: &mut ArrayVec<Monomial, 42>, power: u32, coefficient: i128)
     ensures few { array_vec_len terms.new ≤ array_vec_len terms.old + 1 }
     ensures powers { (k : ℕ) → power < k → All (λ term. term.power < k) terms.old.items
         → All (λ term. term.power < k) terms.new.items }
-    ensures total { total_of_terms terms.new.items ≡ total_of_terms terms.old.items + nat_abs coefficient }
+    ensures total { total_of_terms terms.new.items ≡ total_of_terms terms.old.items
+        + nat_abs coefficient }
     ensures value { (k : ℕ) → value_of_terms k terms.new.items
         ≡ value_sum (value_of_terms k terms.old.items) (value_multiple coefficient (root k power)) }
 {
@@ -95,9 +98,12 @@ impl<const K: u32> Terms<K> {
 
     /// The product; `None` exactly where the two values don't fit together.
     pub fn try_mul(&self, b: &Terms<K>) -> Option<Cyc<K>>
-        ensures fits { is_some result ≡ product_fits (value_of_terms K self.now) (value_of_terms K b.now) }
+        ensures fits { is_some result ≡ product_fits (value_of_terms K self.now)
+            (value_of_terms K b.now) }
         ensures value { IfSome result
-            (λ value. cyclotomic_value K value.coefficients ≡ value_product (cyclotomic K) (value_of_terms K self.now) (value_of_terms K b.now)) }
+            (λ value. cyclotomic_value K value.coefficients
+            ≡ value_product (cyclotomic K) (value_of_terms K self.now)
+            (value_of_terms K b.now)) }
     {
         match self.size.checked_mul(b.size) {
             Some(sizes) if sizes < PRODUCT_LIMIT => Some(Cyc {

@@ -33,12 +33,14 @@ impl<const K: u32> Total<K> {
         }
     }
 
-    /// One more term; `None` where it wasn't formed, or where the sizes add up to more than 2^120 - 1.
+    /// One more term; `None` where it wasn't formed, or where the sizes add up to more than 2^120 -
+    /// 1.
     pub fn with(self, next: Option<Cyc<K>>) -> Option<Total<K>>
         ensures more { (term : ℕ → Formed K) (i : ℕ)
             → IsTotal term i (cyclotomic_value K self.entry.sum.coefficients) self.entry.sizes
             → Forms (term i) next.entry → IfSome result
-            (λ total. IsTotal term (i + 1) (cyclotomic_value K total.sum.coefficients) total.sizes) }
+            (λ total. IsTotal term (i + 1)
+            (cyclotomic_value K total.sum.coefficients) total.sizes) }
         ensures overflow { (term : ℕ → Formed K) (i n : ℕ) → i < n
             → IsTotal term i (cyclotomic_value K self.entry.sum.coefficients) self.entry.sizes
             → Forms (term i) next.entry → IfNone result (Forms (listed K n term) None) }

@@ -5,7 +5,8 @@ ghost use Rattle.algebra.specs.Structures.{CommGroup};
 
 /// A commutative group of units, written as a product.
 ///
-/// Each element stands for one of an abstract commutative group, whose laws are the fields of `group`.
+/// Each element stands for one of an abstract commutative group, whose laws are the fields of
+/// `group`.
 pub trait UnitGroup: Copy {
     // what has to hold for an element to exist
     ghost CanOne: { Type 0 };

@@ -171,20 +171,25 @@ fn read_value(text: &[u8], phi: u32) -> Result<Plain, ValueFault>
     }
 }
 
-/// The value whose text stands in `bytes` from `start` on and takes `len` bytes; its coefficients are 0 from that of
-/// `x^phi` on.
+/// The value whose text stands in `bytes` from `start` on and takes `len` bytes; its coefficients
+/// are 0 from that of `x^phi` on.
 ///
-/// The text is exactly the one that is written of the value. `Wide` is the answer where it is so written of whole numbers
-/// of which one is over 2^120 - 1 in magnitude, and `NotValue` where it is written of no whole numbers that are 0 from that
-/// of `x^phi` on.
+/// The text is exactly the one that is written of the value. `Wide` is the answer where it is so
+/// written of whole numbers of which one is over 2^120 - 1 in magnitude, and `NotValue` where it is
+/// written of no whole numbers that are 0 from that of `x^phi` on.
 pub fn read_plain(bytes: &Vec<u8>, start: u32, len: u32, phi: u32) -> Result<Plain, ValueFault>
     requires within { start + len ≤ length bytes.now.items }
     requires powers { phi ≤ 42 }
-    ensures spelled { IfOk result (λ p. Spells (take len (drop start bytes.now.items)) phi p.coefficients) }
+    ensures spelled { IfOk result (λ p. Spells
+        (take len (drop start bytes.now.items)) phi p.coefficients) }
     ensures small { IfOk result (λ p. is_small p.coefficients ≡ true) }
-    ensures value { (cs : List ℤ) → Spells (take len (drop start bytes.now.items)) phi cs → is_small cs ≡ true → result ≡ Ok (record { coefficients = cs }) }
-    ensures wide { (result ≡ Err ValueFault.Wide) ↔ ((cs : List ℤ) × Spells (take len (drop start bytes.now.items)) phi cs × (is_small cs ≡ false)) }
-    ensures not_value { (result ≡ Err ValueFault.NotValue) ↔ ((cs : List ℤ) → Spells (take len (drop start bytes.now.items)) phi cs → ⊥) }
+    ensures value { (cs : List ℤ) → Spells (take len (drop start bytes.now.items)) phi cs
+        → is_small cs ≡ true → result ≡ Ok (record { coefficients = cs }) }
+    ensures wide { (result ≡ Err ValueFault.Wide) ↔
+        ((cs : List ℤ) × Spells (take len (drop start bytes.now.items)) phi cs × (is_small cs
+        ≡ false)) }
+    ensures not_value { (result ≡ Err ValueFault.NotValue) ↔ ((cs : List ℤ)
+        → Spells (take len (drop start bytes.now.items)) phi cs → ⊥) }
 {
     let start = start as usize;
     let end = start + len as usize;

@@ -34,7 +34,8 @@ fn append_value(out: &mut Vec<u8>, coefficients: &[i128]) -> Result<(), Memory>
 }
 
 fn append_terms(out: &mut Vec<u8>, coefficients: &[i128]) -> Result<(), Memory>
-    ensures added { OnOk result (out.new.items ≡ out.old.items ++ terms_text false 0 coefficients.now) }
+    ensures added { OnOk result (out.new.items
+        ≡ out.old.items ++ terms_text false 0 coefficients.now) }
     ensures front { take (length out.old.items) out.new.items ≡ out.old.items }
 {
     let start = out.len();
@@ -54,7 +55,8 @@ fn append_term(
     coefficient: i128,
 ) -> Result<(), Memory>
     requires { 0 < nat_abs coefficient }
-    ensures added { OnOk result (out.new.items ≡ out.old.items ++ term_text later power coefficient) }
+    ensures added { OnOk result (out.new.items
+        ≡ out.old.items ++ term_text later power coefficient) }
     ensures front { take (length out.old.items) out.new.items ≡ out.old.items }
 {
     append_sign(out, later, coefficient < 0)?;
@@ -64,7 +66,8 @@ fn append_term(
 }
 
 fn append_sign(out: &mut Vec<u8>, later: bool, negative: bool) -> Result<(), Memory>
-    ensures added { OnOk result ((c : ℤ) → int_lt c (pos 0) ≡ negative → out.new.items ≡ out.old.items ++ sign_text later c) }
+    ensures added { OnOk result ((c : ℤ) → int_lt c (pos 0) ≡ negative
+        → out.new.items ≡ out.old.items ++ sign_text later c) }
     ensures front { take (length out.old.items) out.new.items ≡ out.old.items }
 {
     if negative {
