@@ -1,12 +1,6 @@
 -- Lists of stored blocks.
-use Rattle.std.proofs.Common.{◌≡◌, ℕ, ◌+◌, ◌-◌, ◌<◌, ◌≤◌, ◌^◌, ℤ, List, [], ◌∷◌, ◌++◌, length, get_or, take, drop, refl, ap, sym, ◌∙◌, subst, arith, add-one}
-use Rattle.std.specs.Prelude.{slice_index, Result, Ok, Err, OnOk, OnErr}
-use Rattle.std.proofs.lemmas.List.{length-append, length-take-le, length-drop, get_or-take, get_or-drop, append-nil, take_more, take_all}
-use Rattle.qd_doc.specs.declared.head.Head.{Head}
-use Rattle.qd_doc.specs.Stretches.{first_start, AreInOrder, item_stretch, stretches}
-use Rattle.qd_ring.specs.RowLists.{row_at}
-use Rattle.qd_doc.specs.Blocks.{Block, block, block_at, last_rows, with_row, with_value}
-use Rattle.qd_doc.specs.StoredBlocks.{head_at, rows_end, rows_of, stored_blocks, AreBlocks}
+use Rattle.qd_doc.proofs.Names.{AreBlocks, AreInOrder, Block, Err, Head, List, Ok, OnErr, OnOk, Result, [], add-one, ap, append-nil, arith, block, block_at, drop, first_start, get_or, get_or-drop, get_or-take, head_at, item_stretch, last_rows, length, length-take-le, refl, row_at, rows_end, rows_of, slice_index, stored_blocks, stretches, subst, sym, take, take_all, take_more, with_row, with_value, ℕ, ℤ, ◌++◌, ◌+◌, ◌-◌, ◌<◌, ◌^◌, ◌∙◌, ◌∷◌, ◌≡◌, ◌≤◌}
+use Rattle.std.proofs.lemmas.List.{length-append, length-drop}
 use Rattle.qd_doc.proofs.LastRows.{last_rows_are, with_row_is, with_value_is}
 use Rattle.qd_doc.proofs.StretchLaws.{length-stretches, stretch_at, stretch_inside, head_pushed, last_stretch, order_of_push, order_pushed, order_later}
 

@@ -1,10 +1,5 @@
 -- A number is an entry of the table of conductors exactly where it is its own least multiple there.
-use Rattle.std.proofs.Common.{◌≡◌, ℕ, ◌%◌, ◌≤◌, Bool, true, false, ◌||◌, ◌==◌, nat_eq, List, [], ◌∷◌, map, Option, Some, None, refl, sym, ap, ◌∙◌, subst, inl, inr}
-use Rattle.std.specs.Prelude.{find}
-use Rattle.std.specs.List.{list_any, list_all}
-use Rattle.std.proofs.lemmas.Bool.{eqb-true, eq-eqb, cases_Bool, and_parts, leb-true}
-use Rattle.std.specs.Prelude.{nat_le}
-use Rattle.cyclotomic.specs.Conductors.{conductors, is_conductor, phi_of, least_conductor}
+use Rattle.qd_doc.proofs.Names.{Bool, List, None, Option, Some, [], and_parts, ap, cases_Bool, conductors, eq-eqb, eqb-true, false, find, inl, inr, is_conductor, least_conductor, leb-true, list_all, list_any, map, nat_eq, nat_le, phi_of, refl, subst, sym, true, ℕ, ◌%◌, ◌==◌, ◌||◌, ◌∙◌, ◌∷◌, ◌≡◌, ◌≤◌}
 
 -- a table has this number in its first column
 abbrev has : ℕ → List (ℕ × ℕ) → Bool

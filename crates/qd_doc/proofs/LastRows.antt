@@ -1,8 +1,6 @@
 -- The last of a list, and what is put at its end.
-use Rattle.std.proofs.Common.{◌≡◌, ℕ, ◌-◌, ℤ, List, [], ◌∷◌, ◌++◌, length, get_or, set, ap, ◌∙◌, arith, length-append}
-use Rattle.std.proofs.Math.Seq.{set-append_seam, get_or-append_seam}
+use Rattle.qd_doc.proofs.Names.{Block, List, [], ap, arith, block, get_or, get_or-append_seam, last_rows, length, length-append, set, set-append_seam, with_last_rows, with_row, with_value, ℕ, ℤ, ◌++◌, ◌-◌, ◌∙◌, ◌∷◌, ◌≡◌}
 use Rattle.qd_ring.specs.RowLists.{with_value as rows_with_value}
-use Rattle.qd_doc.specs.Blocks.{Block, block, last_rows, with_last_rows, with_row, with_value}
 
 len_last : {A : Type 0} (front : List A) (x : A) → length (front ++ x ∷ []) - 1 ≡ length front
 len_last front x = omega (arith, length-append front (x ∷ []))

@@ -1,3 +1,4 @@
+pub mod Names
 pub mod Examples
 pub mod Loops
 pub mod Ranges

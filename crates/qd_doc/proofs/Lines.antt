@@ -1,15 +1,5 @@
 -- Lines of numbers, written one after the other.
-use Rattle.std.proofs.Common.{◌≡◌, ℕ, suc, ◌-◌, ◌+◌, ◌*◌, ◌≤◌, ◌<◌, List, [], ◌∷◌, ◌++◌, length, take, drop, get_or, map, codes, refl, sym, ap, ◌∙◌, append_assoc, arith}
-use Rattle.std.specs.List.{flat_map}
-use Rattle.std.specs.Fmt.{decimal}
-use Rattle.std.proofs.lemmas.List.{append-nil, take_more, take_all, map-append}
-use Rattle.std.proofs.lemmas.Grind.{flat_map-append}
-use Rattle.std.proofs.lemmas.List.Concat.{flat_map-cons}
-use Rattle.qd_doc.specs.declared.document.Document.{Document}
-use Rattle.qd_doc.specs.Canonical.{line, rows, omega_lines, row_words, block_lines, characters_lines, canonical_lines, canonical_text}
-use Rattle.std.specs.Prelude.{ℤ}
-use Rattle.qd_ring.specs.ValueText.{value_text}
-use Rattle.qd_doc.specs.Blocks.{Block}
+use Rattle.qd_doc.proofs.Names.{Block, Document, List, [], ap, append-nil, append_assoc, arith, block_lines, canonical_lines, canonical_text, characters_lines, codes, decimal, drop, flat_map, flat_map-append, flat_map-cons, get_or, length, line, map, map-append, omega_lines, refl, row_words, rows, suc, sym, take, take_all, take_more, value_text, ℕ, ℤ, ◌*◌, ◌++◌, ◌+◌, ◌-◌, ◌<◌, ◌∙◌, ◌∷◌, ◌≡◌, ◌≤◌}
 
 -- numbers that follow another in a line
 abbrev pub spaced : List ℕ → List ℕ
@@ -74,9 +64,6 @@ rows_fit left width count i listed e =
     let f : left ≡ suc (count - (i + 1)) * width = e ∙ ap (λ n. n * width) k in
     omega arith
 
-last_number : (digits rest : List ℕ) → ((digits ++ []) ++ 10 ∷ []) ++ rest ≡ digits ++ 10 ∷ rest
-last_number digits rest = ap (λ text. (text ++ 10 ∷ []) ++ rest) (append-nil digits) ∙ append_assoc digits (10 ∷ []) rest
-
 -- the values of a row, each after a space
 abbrev pub values_text : List (List ℤ) → List ℕ
 values_text values = flat_map (λ next. 32 ∷ next) (map value_text values)
@@ -89,6 +76,9 @@ rows_text values = flat_map line (map row_words values)
 abbrev pub blocks_text : List Block → List ℕ
 blocks_text blocks = flat_map line (flat_map block_lines blocks)
 
+last_number : (digits rest : List ℕ) → ((digits ++ []) ++ 10 ∷ []) ++ rest ≡ digits ++ 10 ∷ rest
+last_number digits rest = ap (λ text. (text ++ 10 ∷ []) ++ rest) (append-nil digits) ∙ append_assoc digits (10 ∷ []) rest
+
 front_text : (n : ℕ) (rest : List (List (List ℕ))) → flat_map line ((codes "qdouble" ∷ codes "1" ∷ []) ∷ (codes "order" ∷ decimal n ∷ []) ∷ (codes "table" ∷ []) ∷ rest)
     ≡ (codes "qdouble 1\norder " ++ (decimal n ++ codes "\ntable\n")) ++ flat_map line rest
 front_text n rest =
@@ -100,9 +90,6 @@ roots_text : (roots : ℕ) (rest : List (List (List ℕ))) → flat_map line ((c
 roots_text roots rest =
     ap (λ text. codes "roots " ++ text)
     (last_number (decimal roots) (flat_map line rest) ∙ sym (append_assoc (decimal roots) (codes "\n") (flat_map line rest)))
-
-regroup : (a t r o k e : List ℕ) → ((((a ++ t) ++ r) ++ o) ++ k) ++ e ≡ (a ++ t) ++ ((r ++ o) ++ (k ++ e))
-regroup a t r o k e = simp append_assoc
 
 -- the pieces of a canonical text, put one after the other
 pub canonical_pieces : (document : Document) (a b c d k e : List ℕ)
@@ -122,13 +109,11 @@ canonical_pieces document a b c d k e ea eb ec ed ek ee =
     let middle = (codes "roots" ∷ decimal document.roots ∷ []) ∷ exponents in
     let given = characters_lines document.characters in
     let last = (codes "end" ∷ []) ∷ [] in
-    let text : flat_map line (front ++ (middle ++ (given ++ last))) ≡ flat_map line front ++ (flat_map line middle ++ (flat_map line given ++ flat_map line last)) =
-    flat_map-append line front (middle ++ (given ++ last)) ∙ ap (λ more. flat_map line front ++ more) (flat_map-append line middle (given ++ last) ∙ ap (λ more. flat_map line middle ++ more) (flat_map-append line given last)) in
-    let whole : flat_map line (front ++ (middle ++ (given ++ last))) ≡
-    ((codes "qdouble 1\norder " ++ (decimal n ++ codes "\ntable\n")) ++ flat_map line table) ++ (((codes "roots " ++ (decimal document.roots ++ codes "\n")) ++ flat_map line exponents) ++ (flat_map line given ++ codes "end\n")) =
-    text ∙ ap (λ t. t ++ (flat_map line middle ++ (flat_map line given ++ flat_map line last))) (front_text n table)
-    ∙ ap (λ t. ((codes "qdouble 1\norder " ++ (decimal n ++ codes "\ntable\n")) ++ flat_map line table) ++ (t ++ (flat_map line given ++ flat_map line last))) (roots_text document.roots exponents) in
-    let start = codes "qdouble 1\norder " ++ (decimal n ++ codes "\ntable\n") in
-    let roots = codes "roots " ++ (decimal document.roots ++ codes "\n") in
-    ee ∙ ap (λ text. text ++ codes "end\n") (ek ∙ ap (λ text. text ++ flat_map line given) (ed ∙ ap (λ text. text ++ flat_map line exponents) (ec ∙ ap (λ text. text ++ roots) (eb ∙ ap (λ text. text ++ flat_map line table) ea))))
-    ∙ regroup start (flat_map line table) roots (flat_map line exponents) (flat_map line given) (codes "end\n") ∙ sym whole
+    let text : canonical_text document ≡ flat_map line front ++ (flat_map line middle ++ (flat_map line given ++ flat_map line last)) =
+    flat_map-append line front (middle ++ (given ++ last))
+    ∙ ap (λ more. flat_map line front ++ more) (flat_map-append line middle (given ++ last)
+    ∙ ap (λ more. flat_map line middle ++ more) (flat_map-append line given last)) in
+    let whole = ap (λ x. x ++ (flat_map line middle ++ (flat_map line given ++ flat_map line last))) (front_text n table)
+    ∙ ap (λ y. ((codes "qdouble 1\norder " ++ (decimal n ++ codes "\ntable\n")) ++ flat_map line table) ++ (y ++ (flat_map line given ++ flat_map line last)))
+    (roots_text document.roots exponents) in
+    rw (ee, ek, ed, ec, eb, ea, text ∙ whole) (simp append_assoc)

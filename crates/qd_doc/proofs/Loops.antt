@@ -1,18 +1,7 @@
 -- Reading one after the other, as a loop does.
-use Rattle.std.proofs.Common.{◌≡◌, ℕ, suc, ◌-◌, ◌+◌, ◌≤◌, ◌<◌, true, false, cond, List, [], ◌∷◌, ◌++◌, Option, Some, None, Result, Ok, Err, refl, sym, ap, ◌∙◌, append_assoc, arith}
-use Rattle.std.specs.Prelude.{slice_set}
-use Rattle.std.proofs.lemmas.List.{append-nil}
-use Rattle.qd_text.specs.Tokens.{Lexeme}
-use Rattle.qd_text.specs.declared.expected.Expected.TheVariants.{End, Number}
-use Rattle.qd_doc.specs.Blocks.{Block}
-use Rattle.qd_doc.specs.Kinds.{What, Natural, refusal, missing}
-use Rattle.qd_doc.specs.Section.{unless, kind_after, part_of, stage_of, is_end, with_part}
-use Rattle.qd_doc.specs.declared.part.Stage.{Stage}
+use Rattle.qd_doc.proofs.Names.{Block, DocRefusal, End, Err, Fails, Lexeme, List, Memory, Natural, None, Number, Ok, Option, Part, Result, Section, Some, Stage, Syntax, What, [], ap, append-nil, append_assoc, arith, cond, false, is_end, kind_after, missing, part_of, read, read_blocks, read_entries, read_entry, read_number, read_numbers, refl, refusal, slice_set, stage_of, suc, sym, true, unless, with_part, ℕ, ◌++◌, ◌+◌, ◌-◌, ◌<◌, ◌>>=◌, ◌∙◌, ◌∷◌, ◌≡◌, ◌≤◌}
 use Rattle.qd_doc.specs.declared.part.Stage.TheVariants as stages
-use Rattle.qd_doc.specs.declared.part.Part.{Part}
-use Rattle.qd_doc.specs.Reading.{◌>>=◌, Fails, read, read_blocks, read_number, read_numbers, read_entry, read_entries}
-use Rattle.qd_doc.specs.declared.refusal.DocRefusal.{DocRefusal}
-use Rattle.qd_doc.specs.declared.refusal.DocRefusal.TheVariants.{Syntax, Wide, Section, Order, Roots, Memory}
+use Rattle.qd_doc.specs.declared.refusal.DocRefusal.TheVariants.{Wide, Order, Roots}
 
 -- what fails makes what stands on it fail
 pub fails_also : {X Y : Type 0} (e : DocRefusal) (r : Result X DocRefusal) (total : Result Y DocRefusal) → (r ≡ Err e → total ≡ Err e) → Fails e r → Fails e total

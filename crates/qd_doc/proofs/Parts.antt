@@ -1,28 +1,10 @@
 -- What the tokens of the section of characters say, one after the other.
-use Rattle.std.proofs.Common.{◌≡◌, ℕ, ◌+◌, ◌≤◌, ◌<◌, Bool, true, false, ◌&&◌, ◌||◌, ◌==◌, not, cond, nat_eq, List, [], ◌∷◌, ◌++◌, ◌^◌, length, map, codes, Some, None, Result, Ok, Err, refl, sym, ap, ◌∙◌, subst, ◌⊎◌, inl, inr, arith, length-append, append_assoc}
-use Rattle.std.specs.Prelude.{ℤ}
-use Rattle.std.specs.List.{list_all, before_first}
-use Rattle.std.proofs.lemmas.Bool.{ne_eqb, true≢false}
-use Rattle.std.proofs.lemmas.List.{append-nil}
-use Rattle.std.proofs.lemmas.List.Sums.{take_while-cons}
-use Rattle.qd_text.specs.Tokens.{Lexeme}
-use Rattle.qd_text.specs.Numbers.{value, number_of, is_digit}
-use Rattle.qd_text.specs.declared.natural.NumberFault.{NumberFault}
+use Rattle.qd_doc.proofs.Names.{Block, Bool, ClassOrEnd, End, Err, HasPlace, Lexeme, List, Natural, NoToken, None, NumberFault, Ok, Part, Result, RowClassOrEnd, Some, Stage, Syntax, ValueRowClassOrEnd, [], ap, append-nil, append_assoc, arith, before_first, begins_value, block, block_of, blocks_of, codes, coefficients, cond, false, fault_refusal, inl, inr, is_class_or_end, is_digit, is_end, is_row_class_or_end, is_word, kind_after, length, length-append, list_all, map, nat_eq, ne_eqb, not, number_of, number_refusal, part_of, pieces, plain, refl, refusal, row_or_end, stage_of, subst, sym, take_while-cons, true, true≢false, unless, value, value_of, value_or_row, what_after, with_part, word_part, words_before, ℕ, ℤ, ◌&&◌, ◌++◌, ◌==◌, ◌||◌, ◌∙◌, ◌∷◌, ◌≡◌, ◌⊎◌}
 use Rattle.qd_text.specs.declared.natural.NumberFault.TheVariants as faults
-use Rattle.qd_doc.specs.Blocks.{Block, block}
-use Rattle.qd_doc.specs.Values.{begins_value, coefficients, plain, value_of}
-use Rattle.qd_text.specs.declared.expected.Expected.TheVariants.{End}
-use Rattle.qd_doc.specs.Kinds.{Natural, ClassOrEnd, RowClassOrEnd, ValueRowClassOrEnd, NoToken, is_word, is_class_or_end, is_row_class_or_end, fault_refusal, refusal, number_refusal}
-use Rattle.qd_doc.specs.Grammar.{what_after}
-use Rattle.qd_doc.specs.Contents.{words_before, pieces, block_of, blocks_of}
-use Rattle.qd_doc.specs.Section.{unless, kind_after, row_or_end, value_or_row, word_part, part_of, stage_of, is_end, with_part, HasPlace}
-use Rattle.qd_doc.specs.declared.part.Stage.{Stage}
 use Rattle.qd_doc.specs.declared.part.Stage.TheVariants as stages
-use Rattle.qd_doc.specs.declared.part.Part.{Part}
 use Rattle.qd_doc.specs.declared.part.Part.TheVariants as parts
-use Rattle.qd_doc.specs.declared.refusal.DocRefusal.TheVariants.{Syntax}
 use Rattle.qd_doc.proofs.ValueWords.{same_word}
-use Rattle.qd_doc.proofs.LastRows.{at_last, last_rows_are, with_row_is, with_value_is}
+use Rattle.qd_doc.proofs.LastRows.{last_rows_are, with_row_is, with_value_is}
 
 -- ---- words
 
@@ -117,55 +99,44 @@ inner-end words = ap (words_before (codes "class")) (words_before-same (codes "e
 
 rows_of-none : (phi : ℕ) (words : List (List ℕ)) → inner words ≡ [] → rows_of phi words ≡ []
 unfolding rows_of
-rows_of-none phi words e = ap (λ ws. map (λ row. map (coefficients phi) row) (pieces (codes "row") ws)) e ∙ ap (map (λ row. map (coefficients phi) row)) (pieces-nil (codes "row"))
+rows_of-none phi words e = simp (e, pieces-nil)
 
 values_of-none : (phi : ℕ) (words : List (List ℕ)) → inner words ≡ [] → values_of phi words ≡ []
 unfolding values_of
-values_of-none phi words e = ap (λ ws. map (coefficients phi) (words_before (codes "row") ws)) e
+values_of-none phi words e = rw e refl
 
 rows_of-row : (phi : ℕ) (words : List (List ℕ)) → rows_of phi (codes "row" ∷ words) ≡ values_of phi words ∷ rows_of phi words
 unfolding rows_of values_of
-rows_of-row phi words =
-    ap (λ ws. map (λ row. map (coefficients phi) row) (pieces (codes "row") ws)) (inner-other (codes "row") words refl refl)
-    ∙ ap (map (λ row. map (coefficients phi) row)) (pieces-same (codes "row") (codes "row") (inner words) refl)
+rows_of-row phi words = rw (inner-other (codes "row") words refl refl, pieces-same (codes "row") (codes "row") (inner words) refl) refl
 
 values_of-row : (phi : ℕ) (words : List (List ℕ)) → values_of phi (codes "row" ∷ words) ≡ []
 unfolding values_of
-values_of-row phi words =
-    ap (λ ws. map (coefficients phi) (words_before (codes "row") ws)) (inner-other (codes "row") words refl refl)
-    ∙ ap (map (coefficients phi)) (words_before-same (codes "row") (codes "row") (inner words) refl)
+values_of-row phi words = rw (inner-other (codes "row") words refl refl) refl
 
 -- a value, or the number of a block
 module _ (phi : ℕ) (word : List ℕ) (words : List (List ℕ)) (no_class : is_word word (codes "class") ≡ false) (no_end : is_word word (codes "end") ≡ false) (no_row : is_word word (codes "row") ≡ false) where
   rows_of-other : rows_of phi (word ∷ words) ≡ rows_of phi words
   unfolding rows_of
-  rows_of-other =
-      ap (λ ws. map (λ row. map (coefficients phi) row) (pieces (codes "row") ws)) (inner-other word words no_class no_end)
-      ∙ ap (map (λ row. map (coefficients phi) row)) (pieces-other (codes "row") word (inner words) no_row)
+  rows_of-other = rw (inner-other word words no_class no_end, pieces-other (codes "row") word (inner words) no_row) refl
 
   values_of-other : values_of phi (word ∷ words) ≡ coefficients phi word ∷ values_of phi words
   unfolding values_of
-  values_of-other =
-      ap (λ ws. map (coefficients phi) (words_before (codes "row") ws)) (inner-other word words no_class no_end)
-      ∙ ap (map (coefficients phi)) (words_before-other (codes "row") word (inner words) no_row)
+  values_of-other = rw (inner-other word words no_class no_end, words_before-other (codes "row") word (inner words) no_row) refl
 
 blocks_of-class : (phi : ℕ) (words : List (List ℕ)) → blocks_of phi (codes "class" ∷ words) ≡ block_of phi (inner words) ∷ blocks_of phi words
 unfolding blocks_of
 blocks_of-class phi words =
-    ap (λ ws. map (block_of phi) (pieces (codes "class") ws)) (words_before-other (codes "end") (codes "class") words refl)
-    ∙ ap (map (block_of phi)) (pieces-same (codes "class") (codes "class") (words_before (codes "end") words) refl)
+    rw (words_before-other (codes "end") (codes "class") words refl, pieces-same (codes "class") (codes "class") (words_before (codes "end") words) refl) refl
 
 blocks_of-end : (phi : ℕ) (words : List (List ℕ)) → blocks_of phi (codes "end" ∷ words) ≡ []
 unfolding blocks_of
-blocks_of-end phi words =
-    ap (λ ws. map (block_of phi) (pieces (codes "class") ws)) (words_before-same (codes "end") (codes "end") words refl)
-    ∙ ap (map (block_of phi)) (pieces-nil (codes "class"))
+blocks_of-end phi words = rw (words_before-same (codes "end") (codes "end") words refl, pieces-nil (codes "class")) refl
 
-blocks_of-other : (phi : ℕ) (word : List ℕ) (words : List (List ℕ)) → is_word word (codes "class") ≡ false → is_word word (codes "end") ≡ false → blocks_of phi (word ∷ words) ≡ blocks_of phi words
+blocks_of-other : (phi : ℕ) (word : List ℕ) (words : List (List ℕ)) → is_word word (codes "class") ≡ false → is_word word (codes "end") ≡ false
+    → blocks_of phi (word ∷ words) ≡ blocks_of phi words
 unfolding blocks_of
 blocks_of-other phi word words no_class no_end =
-    ap (λ ws. map (block_of phi) (pieces (codes "class") ws)) (words_before-other (codes "end") word words no_end)
-    ∙ ap (map (block_of phi)) (pieces-other (codes "class") word (words_before (codes "end") words) no_class)
+    rw (words_before-other (codes "end") word words no_end, pieces-other (codes "class") word (words_before (codes "end") words) no_class) refl
 
 -- ---- how far reading came
 
@@ -220,29 +191,31 @@ module _ (phi start : ℕ) where
   abbrev token_of : List ℕ → Lexeme
   token_of text = record { start = start; text = text }
 
-  class_by : (stage : Stage) → (stage ≡ stages.Class → ⊥) → Ok parts.Class ≡ unless (refusal (kind_after phi stage) (token_of (codes "class"))) (word_part phi (codes "class"))
+  pub class_fits : (stage : Stage) → (stage ≡ stages.Class → ⊥) → refusal (kind_after phi stage) (token_of (codes "class")) ≡ None
   unfolding refusal
-  class_by stages.Conductor other = refl
-  class_by stages.Class other = absurd (other refl)
-  class_by stages.Number other = refl
-  class_by stages.Row other = refl
+  class_fits stages.Conductor other = refl
+  class_fits stages.Class other = absurd (other refl)
+  class_fits stages.Number other = refl
+  class_fits stages.Row other = refl
 
-  end_by : (stage : Stage) → (stage ≡ stages.Class → ⊥) → Ok parts.End ≡ unless (refusal (kind_after phi stage) (token_of (codes "end"))) (word_part phi (codes "end"))
+  pub end_fits : (stage : Stage) → (stage ≡ stages.Class → ⊥) → refusal (kind_after phi stage) (token_of (codes "end")) ≡ None
   unfolding refusal
-  end_by stages.Conductor other = refl
-  end_by stages.Class other = absurd (other refl)
-  end_by stages.Number other = refl
-  end_by stages.Row other = refl
+  end_fits stages.Conductor other = refl
+  end_fits stages.Class other = absurd (other refl)
+  end_fits stages.Number other = refl
+  end_fits stages.Row other = refl
 
   pub said_class : (stage : Stage) (text : List ℕ) → (stage ≡ stages.Class → ⊥) → is_word text (codes "class") ≡ true
       → Ok parts.Class ≡ unless (refusal (kind_after phi stage) (token_of text)) (word_part phi text)
   said_class stage text other is =
-      subst (λ (t : List ℕ). Ok parts.Class ≡ unless (refusal (kind_after phi stage) (token_of t)) (word_part phi t)) (sym (same_word text (codes "class") is)) (class_by stage other)
+      let e : text ≡ codes "class" = same_word text (codes "class") is in
+      rw (e, class_fits stage other) refl
 
   pub said_end : (stage : Stage) (text : List ℕ) → (stage ≡ stages.Class → ⊥) → is_word text (codes "end") ≡ true
       → Ok parts.End ≡ unless (refusal (kind_after phi stage) (token_of text)) (word_part phi text)
   said_end stage text other is =
-      subst (λ (t : List ℕ). Ok parts.End ≡ unless (refusal (kind_after phi stage) (token_of t)) (word_part phi t)) (sym (same_word text (codes "end") is)) (end_by stage other)
+      let e : text ≡ codes "end" = same_word text (codes "end") is in
+      rw (e, end_fits stage other) refl
 
   module _ (text : List ℕ) (no_class : is_word text (codes "class") ≡ false) (no_end : is_word text (codes "end") ≡ false) where
     pub said_neither : Err (Syntax start End) ≡ unless (refusal ClassOrEnd (token_of text)) (word_part phi text)
@@ -333,8 +306,7 @@ module _ (phi : ℕ) where
         stage = refl;
         blocks = refl;
         kind = refl;
-        same = λ words. ap (λ ws. front ++ block_of phi ws ∷ blocks_of phi (text ∷ words)) (inner-other text words no_class no_end)
-            ∙ ap (λ more. front ++ block_of phi (text ∷ inner words) ∷ more) (blocks_of-other phi text words no_class no_end);
+        same = λ words. rw (inner-other text words no_class no_end, blocks_of-other phi text words no_class no_end) refl;
         place = tt;
       }
 
@@ -347,10 +319,8 @@ module _ (phi : ℕ) where
     stage = refl;
     blocks = refl;
     kind = refl;
-    same = λ words. ap (λ more. front ++ block number (rows ++ more) ∷ blocks_of phi (codes "class" ∷ words)) (rows_of-none phi (codes "class" ∷ words) (inner-class words))
-        ∙ ap (λ rows. front ++ block number rows ∷ blocks_of phi (codes "class" ∷ words)) (append-nil rows)
-        ∙ ap (λ more. front ++ block number rows ∷ more) (blocks_of-class phi words)
-        ∙ sym (append_assoc front (block number rows ∷ []) (block_of phi (inner words) ∷ blocks_of phi words));
+    same = λ words. rw (rows_of-none phi (codes "class" ∷ words) (inner-class words), append-nil rows, blocks_of-class phi words)
+        (sym (append_assoc front (block number rows ∷ []) (block_of phi (inner words) ∷ blocks_of phi words)));
     place = tt;
   }
 
@@ -358,9 +328,7 @@ module _ (phi : ℕ) where
   block_end front number rows = record {
     end = refl;
     nothing = refl;
-    all = λ words. ap (λ more. front ++ block number (rows ++ more) ∷ blocks_of phi (codes "end" ∷ words)) (rows_of-none phi (codes "end" ∷ words) (inner-end words))
-        ∙ ap (λ rows. front ++ block number rows ∷ blocks_of phi (codes "end" ∷ words)) (append-nil rows)
-        ∙ ap (λ more. front ++ block number rows ∷ more) (blocks_of-end phi words);
+    all = λ words. rw (rows_of-none phi (codes "end" ∷ words) (inner-end words), append-nil rows, blocks_of-end phi words) refl;
   }
 
   block_row : (front : List Block) (number : ℕ) (rows : List (List (List ℤ))) → Goes phi (InBlock front number rows) (codes "row")
@@ -372,8 +340,7 @@ module _ (phi : ℕ) where
     stage = refl;
     blocks = with_row_is front number rows;
     kind = refl;
-    same = λ words. ap (λ more. front ++ block number (rows ++ more) ∷ blocks_of phi (codes "row" ∷ words)) (rows_of-row phi words)
-        ∙ ap (λ more. front ++ block number (rows ++ values_of phi words ∷ rows_of phi words) ∷ more) (blocks_of-other phi (codes "row") words refl refl);
+    same = λ words. rw (rows_of-row phi words, blocks_of-other phi (codes "row") words refl refl) refl;
     place = omega (arith, length-append front (block number rows ∷ []));
   }
 
@@ -386,11 +353,13 @@ module _ (phi : ℕ) where
     stage = refl;
     blocks = refl;
     kind = refl;
-    same = λ words. ap (λ more. front ++ block number (rows ++ (values ++ more) ∷ rows_of phi (codes "class" ∷ words)) ∷ blocks_of phi (codes "class" ∷ words)) (values_of-none phi (codes "class" ∷ words) (inner-class words))
-        ∙ ap (λ values. front ++ block number (rows ++ values ∷ rows_of phi (codes "class" ∷ words)) ∷ blocks_of phi (codes "class" ∷ words)) (append-nil values)
-        ∙ ap (λ more. front ++ block number (rows ++ values ∷ more) ∷ blocks_of phi (codes "class" ∷ words)) (rows_of-none phi (codes "class" ∷ words) (inner-class words))
-        ∙ ap (λ more. front ++ block number (rows ++ values ∷ []) ∷ more) (blocks_of-class phi words)
-        ∙ sym (append_assoc front (block number (rows ++ values ∷ []) ∷ []) (block_of phi (inner words) ∷ blocks_of phi words));
+    same = λ words. rw (
+      values_of-none phi (codes "class" ∷ words) (inner-class words),
+      append-nil values,
+      rows_of-none phi (codes "class" ∷ words) (inner-class words),
+      blocks_of-class phi words,
+    )
+        (sym (append_assoc front (block number (rows ++ values ∷ []) ∷ []) (block_of phi (inner words) ∷ blocks_of phi words)));
     place = tt;
   }
 
@@ -398,10 +367,12 @@ module _ (phi : ℕ) where
   row_end front number rows values = record {
     end = refl;
     nothing = refl;
-    all = λ words. ap (λ more. front ++ block number (rows ++ (values ++ more) ∷ rows_of phi (codes "end" ∷ words)) ∷ blocks_of phi (codes "end" ∷ words)) (values_of-none phi (codes "end" ∷ words) (inner-end words))
-        ∙ ap (λ values. front ++ block number (rows ++ values ∷ rows_of phi (codes "end" ∷ words)) ∷ blocks_of phi (codes "end" ∷ words)) (append-nil values)
-        ∙ ap (λ more. front ++ block number (rows ++ values ∷ more) ∷ blocks_of phi (codes "end" ∷ words)) (rows_of-none phi (codes "end" ∷ words) (inner-end words))
-        ∙ ap (λ more. front ++ block number (rows ++ values ∷ []) ∷ more) (blocks_of-end phi words);
+    all = λ words. rw (
+      values_of-none phi (codes "end" ∷ words) (inner-end words),
+      append-nil values,
+      rows_of-none phi (codes "end" ∷ words) (inner-end words),
+      blocks_of-end phi words,
+    ) refl;
   }
 
   row_row : (front : List Block) (number : ℕ) (rows : List (List (List ℤ))) (values : List (List ℤ)) → Goes phi (InRow front number rows values) (codes "row")
@@ -413,11 +384,8 @@ module _ (phi : ℕ) where
     stage = refl;
     blocks = with_row_is front number (rows ++ values ∷ []);
     kind = refl;
-    same = λ words. ap (λ more. front ++ block number (rows ++ (values ++ more) ∷ rows_of phi (codes "row" ∷ words)) ∷ blocks_of phi (codes "row" ∷ words)) (values_of-row phi words)
-        ∙ ap (λ values. front ++ block number (rows ++ values ∷ rows_of phi (codes "row" ∷ words)) ∷ blocks_of phi (codes "row" ∷ words)) (append-nil values)
-        ∙ ap (λ more. front ++ block number (rows ++ values ∷ more) ∷ blocks_of phi (codes "row" ∷ words)) (rows_of-row phi words)
-        ∙ ap (λ rows. front ++ block number rows ∷ blocks_of phi (codes "row" ∷ words)) (sym (append_assoc rows (values ∷ []) (values_of phi words ∷ rows_of phi words)))
-        ∙ ap (λ more. front ++ block number ((rows ++ values ∷ []) ++ values_of phi words ∷ rows_of phi words) ∷ more) (blocks_of-other phi (codes "row") words refl refl);
+    same = λ words. rw (values_of-row phi words, append-nil values, rows_of-row phi words, blocks_of-other phi (codes "row") words refl refl)
+        (rw (append_assoc rows (values ∷ []) (values_of phi words ∷ rows_of phi words)) refl);
     place = omega (arith, length-append front (block number (rows ++ values ∷ []) ∷ []));
   }
 
@@ -435,10 +403,11 @@ module _ (phi : ℕ) where
         stage = refl;
         blocks = with_value_is front number rows values v;
         kind = rw (no_class, no_end) refl;
-        same = λ words. ap (λ more. front ++ block number (rows ++ (values ++ more) ∷ rows_of phi (text ∷ words)) ∷ blocks_of phi (text ∷ words)) (values_of-other phi text words no_class no_end no_row)
-            ∙ ap (λ values. front ++ block number (rows ++ values ∷ rows_of phi (text ∷ words)) ∷ blocks_of phi (text ∷ words)) (sym (append_assoc values (v ∷ []) (values_of phi words)))
-            ∙ ap (λ more. front ++ block number (rows ++ ((values ++ v ∷ []) ++ values_of phi words) ∷ more) ∷ blocks_of phi (text ∷ words)) (rows_of-other phi text words no_class no_end no_row)
-            ∙ ap (λ more. front ++ block number (rows ++ ((values ++ v ∷ []) ++ values_of phi words) ∷ rows_of phi words) ∷ more) (blocks_of-other phi text words no_class no_end);
+        same = λ words. rw (
+          values_of-other phi text words no_class no_end no_row,
+          rows_of-other phi text words no_class no_end no_row,
+          blocks_of-other phi text words no_class no_end,
+        ) (rw (append_assoc values (v ∷ []) (values_of phi words)) refl);
         place = (
           omega (arith, length-append front (block number (rows ++ values ∷ []) ∷ [])),
           omega (arith, length-append rows (values ∷ []), ap length (last_rows_are front (block number (rows ++ values ∷ [])))),
@@ -446,20 +415,27 @@ module _ (phi : ℕ) where
       }
 
   module _ (start : ℕ) where
-    move_by : (s : State) (text : List ℕ) → (stage_in s ≡ stages.Class → ⊥) → Word (stage_in s) text → Ends phi s text ⊎ Goes phi s text
-    move_by (Between front) text other (Class e) = subst (λ (t : List ℕ). Ends phi (Between front) t ⊎ Goes phi (Between front) t) (sym e) (inr (between_class front))
-    move_by (Between front) text other (End_word e) = subst (λ (t : List ℕ). Ends phi (Between front) t ⊎ Goes phi (Between front) t) (sym e) (inl (between_end front))
+    abbrev Moves : State → List ℕ → Type 0
+    Moves s text = Ends phi s text ⊎ Goes phi s text
+
+    -- the same of another text that is that word
+    moves : (s : State) (text word : List ℕ) → text ≡ word → Moves s word → Moves s text
+    moves s text word e m = subst (Moves s) (sym e) m
+
+    move_by : (s : State) (text : List ℕ) → (stage_in s ≡ stages.Class → ⊥) → Word (stage_in s) text → Moves s text
+    move_by (Between front) text other (Class e) = moves _ text (codes "class") e (inr (between_class front))
+    move_by (Between front) text other (End_word e) = moves _ text (codes "end") e (inl (between_end front))
     move_by (Between front) text other (Row e later) = absurd (later refl)
     move_by (Between front) text other (Value begins e) = absurd cc
     move_by (Named front) text other word = absurd (other refl)
-    move_by (InBlock front number rows) text other (Class e) = subst (λ (t : List ℕ). Ends phi (InBlock front number rows) t ⊎ Goes phi (InBlock front number rows) t) (sym e) (inr (block_class front number rows))
-    move_by (InBlock front number rows) text other (End_word e) = subst (λ (t : List ℕ). Ends phi (InBlock front number rows) t ⊎ Goes phi (InBlock front number rows) t) (sym e) (inl (block_end front number rows))
-    move_by (InBlock front number rows) text other (Row e later) = subst (λ (t : List ℕ). Ends phi (InBlock front number rows) t ⊎ Goes phi (InBlock front number rows) t) (sym e) (inr (block_row front number rows))
-    move_by (InBlock front number rows) text other (Value begins e) = absurd cc
-    move_by (InRow front number rows values) text other (Class e) = subst (λ (t : List ℕ). Ends phi (InRow front number rows values) t ⊎ Goes phi (InRow front number rows values) t) (sym e) (inr (row_class front number rows values))
-    move_by (InRow front number rows values) text other (End_word e) = subst (λ (t : List ℕ). Ends phi (InRow front number rows values) t ⊎ Goes phi (InRow front number rows values) t) (sym e) (inl (row_end front number rows values))
-    move_by (InRow front number rows values) text other (Row e later) = subst (λ (t : List ℕ). Ends phi (InRow front number rows values) t ⊎ Goes phi (InRow front number rows values) t) (sym e) (inr (row_row front number rows values))
-    move_by (InRow front number rows values) text other (Value begins e) = inr (row_value front number rows values text begins)
+    move_by (InBlock front n rows) text other (Class e) = moves _ text (codes "class") e (inr (block_class front n rows))
+    move_by (InBlock front n rows) text other (End_word e) = moves _ text (codes "end") e (inl (block_end front n rows))
+    move_by (InBlock front n rows) text other (Row e later) = moves _ text (codes "row") e (inr (block_row front n rows))
+    move_by (InBlock front n rows) text other (Value begins e) = absurd cc
+    move_by (InRow front n rows values) text other (Class e) = moves _ text (codes "class") e (inr (row_class front n rows values))
+    move_by (InRow front n rows values) text other (End_word e) = moves _ text (codes "end") e (inl (row_end front n rows values))
+    move_by (InRow front n rows values) text other (Row e later) = moves _ text (codes "row") e (inr (row_row front n rows values))
+    move_by (InRow front n rows values) text other (Value begins e) = inr (row_value front n rows values text begins)
 
     -- a token that may stand there ends the section, or reading goes on after it
     pub move : (s : State) (text : List ℕ) → refusal (kind_after phi (stage_in s)) (record { start = start; text = text }) ≡ None → Ends phi s text ⊎ Goes phi s text

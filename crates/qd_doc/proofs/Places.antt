@@ -1,24 +1,7 @@
 -- Reading token after token finds the first refusal, and the contents by their places.
-use Rattle.std.proofs.Common.{◌≡◌, ℕ, zero, suc, ◌+◌, ◌*◌, ◌≤◌, ◌<◌, Bool, true, false, cond, List, [], ◌∷◌, length, take, drop, get_or, codes, Option, Some, None, Result, Ok, Err, refl, sym, ap, ◌∙◌, subst, ◌⊎◌, inl, inr, arith, add-zero, add-one, drop-cons}
-use Rattle.std.specs.Prelude.{slice_get}
-use Rattle.std.proofs.lemmas.List.Sums.{sum_by-cons}
+use Rattle.qd_doc.proofs.Names.{Bool, Dense, DocRefusal, ElementBelow, Err, Expected, Form, FormWord, Lexeme, List, Natural, NoToken, None, Nothing, Ok, Omega, One, Option, OrderNumber, Qdouble, Result, RootsNumber, Run, Some, Sparse, Syntax, Table, Trivial, What, Word, [], add-one, ap, arith, codes, cond, drop, drop-cons, drop_all, ending, entry_runs, expected, exponent_runs, exponents_end, exponents_of, false, first, first_found, first_none-at, first_none-step, first_refusal, get_or, inl, inr, is_word, judgement, kind_at, length, listing_of, missing, number_at, numbers_at, once, read, read_entries, read_entry, read_exponents, read_listing, read_number, read_numbers, read_order, read_roots, read_sparse, refl, refusal, refusal_at, runs_after, skip, slice_get, slice_get-get_or, slice_get_past, sparse_exponents, subst, suc, sum_by-cons, sym, take, text_at, times, true, unless, value, wanted, zero, ℕ, ◌*◌, ◌+◌, ◌<◌, ◌>>=◌, ◌∙◌, ◌∷◌, ◌≡◌, ◌≤◌, ◌⊎◌}
 use Rattle.std.proofs.Math.ListN.{length-replicate}
-use Rattle.std.proofs.lemmas.List.{drop_all}
-use Rattle.std.proofs.lemmas.Option.{slice_get-get_or, slice_get_past}
-use Rattle.scan.specs.First.{first}
-use Rattle.scan.proofs.Places.{first_found, first_none-step, first_none-at}
-use Rattle.qd_text.specs.Tokens.{Lexeme}
-use Rattle.qd_text.specs.Numbers.{value}
-use Rattle.qd_text.specs.declared.expected.Expected.TheVariants.{Qdouble, One, Order, Number, Table, Roots, Omega, Form as A_form, End, Nothing}
-use Rattle.qd_text.specs.declared.expected.Expected.{Expected}
-use Rattle.qd_doc.specs.declared.document.Form.{Form}
-use Rattle.qd_doc.specs.declared.refusal.DocRefusal.{DocRefusal}
-use Rattle.qd_doc.specs.declared.refusal.DocRefusal.TheVariants.{Syntax}
-use Rattle.qd_doc.specs.Kinds.{What, Word, Natural, OrderNumber, RootsNumber, FormWord, ElementBelow, EndWord, NoToken, is_word, refusal, wanted, missing, judgement}
-use Rattle.qd_doc.specs.Grammar.{Run, times, once, text_at, number_at, front_runs, entry_runs, exponent_runs, runs_after, kind_at, expected, ending, refusal_at, first_refusal}
-use Rattle.qd_doc.specs.Contents.{numbers_at, sparse_exponents, exponents_of, exponents_end}
-use Rattle.qd_doc.specs.Reading.{◌>>=◌, unless, read, skip, read_number, read_numbers, read_entry, read_entries, read_sparse, read_listing, read_exponents, listing_of, read_order, read_roots}
-use Rattle.qd_doc.specs.declared.listing.Listing.TheVariants.{Trivial, Dense, Sparse}
+use Rattle.qd_text.specs.declared.expected.Expected.TheVariants.{Order, Roots}
 use Rattle.qd_doc.proofs.Sparse.{place_of, sparse_exponents-suc, sparse_exponents-zero}
 use Rattle.qd_doc.proofs.Ranges.{IsBetween, order_in_range, roots_in_range, length-numbers_at, length-sparse_exponents}
 use Rattle.qd_doc.proofs.Runs.{total, kind_at-nil, kind_at-within, past_by, kind_at-next, expected_is}

@@ -1,19 +1,7 @@
 -- A number that isn't refused is in the range of its kind, and lists that are read off by place have their lengths.
-use Rattle.std.proofs.Common.{◌≡◌, ℕ, ◌+◌, ◌*◌, ◌≤◌, Bool, true, false, ◌&&◌, cond, List, length, take, drop, Option, Some, None, Ok, Err, refl, ◌∙◌, arith, length-drop}
-use Rattle.std.specs.Prelude.{nat_le, unwrap_or}
-use Rattle.std.proofs.lemmas.Bool.{leb-true}
-use Rattle.std.proofs.lemmas.List.{length-map, length-take-le}
-use Rattle.std.proofs.lemmas.List.FromFn.{length-map-range_with_len}
-use Rattle.scan.proofs.Places.{and_true}
-use Rattle.cyclotomic.specs.Conductors.{is_conductor}
-use Rattle.qd_text.specs.Tokens.{Lexeme}
-use Rattle.qd_text.specs.Numbers.{value, number_of}
-use Rattle.qd_text.specs.declared.natural.NumberFault.TheVariants.{NotNumber, Wide}
-use Rattle.qd_text.specs.declared.expected.Expected.TheVariants.{Conductor}
-use Rattle.qd_doc.specs.declared.refusal.DocRefusal.{DocRefusal}
-use Rattle.qd_doc.specs.declared.refusal.DocRefusal.TheVariants.{Syntax, Order, Roots}
-use Rattle.qd_doc.specs.Kinds.{What, OrderNumber, RootsNumber, ConductorNumber, value_refusal, number_refusal, refusal}
-use Rattle.qd_doc.specs.Contents.{numbers_at, last_below, entry_at, sparse_exponents}
+use Rattle.qd_doc.proofs.Names.{Bool, Conductor, ConductorNumber, DocRefusal, Err, Lexeme, List, None, NotNumber, Ok, OrderNumber, RootsNumber, Some, Syntax, What, and_true, arith, cond, drop, entry_at, false, is_conductor, last_below, leb-true, length, length-drop, length-map, length-map-range_with_len, length-take-le, nat_le, number_of, number_refusal, numbers_at, refl, refusal, sparse_exponents, take, true, unwrap_or, value, value_refusal, ℕ, ◌&&◌, ◌*◌, ◌+◌, ◌∙◌, ◌≡◌, ◌≤◌}
+use Rattle.qd_text.specs.declared.natural.NumberFault.TheVariants.{Wide}
+use Rattle.qd_doc.specs.declared.refusal.DocRefusal.TheVariants.{Order, Roots}
 
 abbrev pub IsBetween : ℕ → ℕ → ℕ → Type 0
 IsBetween least most n = (least ≤ n) × (n ≤ most)

@@ -1,42 +1,13 @@
 -- The canonical text of a document is read as the document.
-use Rattle.std.proofs.Common.{◌≡◌, ℕ, zero, suc, ◌*◌, ◌%◌, ◌≤◌, ◌<◌, ◌^◌, Bool, true, false, ◌==◌, cond, nat_lt, nat_le, nat_eq, List, [], ◌∷◌, ◌++◌, length, take, drop, map, codes, Option, Some, None, Result, Ok, Err, refl, sym, ap, ◌∙◌, subst, ◌⊎◌, inl, inr, arith, append_assoc, length-drop}
-use Rattle.std.specs.Prelude.{replicate, All, IfSome, ℤ, MatchResult}
-use Rattle.std.specs.List.{flat_map, list_all, AllByRecursion}
-use Rattle.std.specs.Fmt.{decimal}
-use Rattle.std.proofs.lemmas.Bool.{ltb-true, lt-ltb, le-leb, eqb-true, eq-eqb}
-use Rattle.std.proofs.lemmas.List.{map-append, append-nil, take-append-drop, length-map}
-use Rattle.std.proofs.lemmas.List.Folds.{list_all-append}
-use Rattle.std.proofs.lemmas.Grind.{flat_map-append}
-use Rattle.std.proofs.lemmas.List.Elements.{recursion_from_All}
-use Rattle.qd_text.specs.Tokens.{Lexeme, tokens, is_token_byte, is_blank}
-use Rattle.qd_text.specs.Numbers.{value}
-use Rattle.qd_text.specs.Words.{word_of}
-use Rattle.qd_text.specs.declared.expected.Expected.{Expected}
-use Rattle.qd_text.specs.declared.expected.Expected.TheVariants.{Qdouble, One, Order, Table, Roots, Omega, Characters}
-use Rattle.qd_text.proofs.Decimals.{decimal_spells, number_of-decimal, digits_are_word}
-use Rattle.qd_text.proofs.Texts.{text, words_of, words_of-nil, words_of-word, words_of-blank, is_plain}
-use Rattle.qd_text.proofs.Lexemes.{and-true}
-use Rattle.cyclotomic.specs.Conductors.{is_conductor, phi_of}
-use Rattle.qd_ring.specs.ValueText.{value_text}
-use Rattle.qd_doc.specs.Blocks.{Block, block, with_row}
-use Rattle.qd_doc.specs.Values.{plain}
-use Rattle.qd_doc.specs.Section.{kind_after, word_part, part_of, stage_of, is_end, with_part}
-use Rattle.qd_doc.specs.declared.part.Stage.{Stage}
+use Rattle.qd_doc.proofs.Names.{All, AllByRecursion, Block, Bool, Characters, ConductorNumber, DocRefusal, Document, EndWord, Err, Expected, FormWord, Given, IfSome, IsGivenInRange, IsInRange, IsNarrow, IsValueOf, Lexeme, List, MatchResult, Natural, NoToken, None, Ok, Omega, One, Option, OrderNumber, Parses, Part, PrintedIsRead, Qdouble, Result, RootsNumber, Some, Stage, Table, What, Word, [], and-true, ap, append-nil, append_assoc, are_trivial, arith, block, block_lines, canonical_lines, canonical_text, characters_lines, codes, cond, decimal, decimal_spells, digits_are_word, document_of, drop, eq-eqb, eqb-true, false, flat_map, flat_map-append, form_of, is_blank, is_conductor, is_end, is_form, is_plain, is_token_byte, is_word, kind_after, le-leb, length, length-drop, length-map, line, list_all, list_all-append, listing_of, lt-ltb, ltb-true, map, map-append, missing, nat_eq, nat_le, nat_lt, number_of, number_of-decimal, number_refusal, omega_lines, part_of, phi_of, plain, read, read_blocks, read_characters, read_document, read_end, read_exponents, read_given, read_number, read_numbers, read_order, read_roots, recursion_from_All, reduced, reduced_document, refl, refusal, replicate, row_words, rows, skip, stage_of, stop_of, subst, suc, sym, take, take-append-drop, text, tokens, true, value, value_refusal, value_text, with_part, with_row, word_of, word_part, words_of, words_of-blank, words_of-nil, words_of-word, zero, ℕ, ℤ, ◌%◌, ◌&&◌, ◌*◌, ◌++◌, ◌<◌, ◌==◌, ◌>>=◌, ◌^◌, ◌∙◌, ◌∷◌, ◌≡◌, ◌≤◌}
+use Rattle.qd_text.specs.declared.expected.Expected.TheVariants.{Order, Roots}
+use Rattle.qd_doc.proofs.Ranges.{IsBetween}
 use Rattle.qd_doc.specs.declared.part.Stage.TheVariants as stages
-use Rattle.qd_doc.specs.declared.part.Part.{Part}
 use Rattle.qd_doc.specs.declared.part.Part.TheVariants as parts
-use Rattle.qd_doc.specs.declared.document.Given.{Given}
-use Rattle.qd_doc.specs.declared.document.Form.TheVariants.{Bare, WithCharacters}
 use Rattle.qd_doc.proofs.Entries.{small_entry}
+use Rattle.qd_doc.proofs.Parts.{class_fits, end_fits}
 use Rattle.qd_doc.proofs.LastRows.{with_row_is, with_value_is}
-use Rattle.qd_doc.specs.declared.document.Document.{Document}
-use Rattle.qd_doc.specs.declared.refusal.DocRefusal.{DocRefusal}
 use Rattle.qd_doc.specs.declared.refusal.DocRefusal.TheVariants as refusals
-use Rattle.qd_doc.specs.Kinds.{What, Word, Natural, OrderNumber, RootsNumber, FormWord, EndWord, NoToken, ConductorNumber, is_word, is_form, refusal, missing, number_refusal}
-use Rattle.qd_doc.specs.Grammar.{stop_of}
-use Rattle.qd_doc.specs.Contents.{Parses, document_of, IsValueOf, IsGivenInRange, IsInRange}
-use Rattle.qd_doc.specs.Reading.{◌>>=◌, read, skip, read_number, read_numbers, read_order, read_roots, listing_of, read_exponents, read_end, read_blocks, read_given, read_characters, read_document}
-use Rattle.qd_doc.specs.Canonical.{line, rows, reduced, are_trivial, omega_lines, row_words, block_lines, characters_lines, canonical_lines, canonical_text, reduced_document, form_of, IsNarrow, PrintedIsRead}
 use Rattle.qd_doc.proofs.Places.{Reads}
 use Rattle.qd_doc.proofs.Sections.{IsWhole, reads_document}
 use Rattle.qd_doc.proofs.ValueTexts.{plain-value, value_fits, value_said}
@@ -279,23 +250,16 @@ module _ (offset : ℕ) where
       → ReadsTo (skip offset (Word expected) left) Q
   word_ok expected left words Q e on = skip_ok (Word expected) left (word_of expected) words Q e (word_fits expected) on
 
+  -- a number that isn't refused for its value
+  number_fits : (kind : What) (n start : ℕ) → n < 2 ^ 32 → value_refusal kind start n ≡ None → number_refusal kind start (number_of (decimal n)) ≡ None
+  number_fits kind n start small fits = ap (number_refusal kind start) (number_of-decimal n small) ∙ fits
+
   natural_fits : (n start : ℕ) → n < 2 ^ 32 → refusal Natural (record { start = start; text = decimal n }) ≡ None
   unfolding refusal
-  natural_fits n start small = ap (number_refusal Natural start) (number_of-decimal n small)
+  natural_fits n start small = number_fits Natural n start small refl
 
-  order_fits : (n start : ℕ) → 1 ≤ n → n ≤ 60 → refusal OrderNumber (record { start = start; text = decimal n }) ≡ None
-  unfolding refusal
-  order_fits n start low high =
-      let is_low : nat_le 1 n ≡ true = le-leb 1 n low in
-      let is_high : nat_le n 60 ≡ true = le-leb n 60 high in
-      ap (number_refusal OrderNumber start) (number_of-decimal n (omega arith)) ∙ rw (is_low, is_high) refl
-
-  roots_fit : (n start : ℕ) → 1 ≤ n → n ≤ 64 → refusal RootsNumber (record { start = start; text = decimal n }) ≡ None
-  unfolding refusal
-  roots_fit n start low high =
-      let is_low : nat_le 1 n ≡ true = le-leb 1 n low in
-      let is_high : nat_le n 64 ≡ true = le-leb n 64 high in
-      ap (number_refusal RootsNumber start) (number_of-decimal n (omega arith)) ∙ rw (is_low, is_high) refl
+  between_fits : (n most : ℕ) (r : DocRefusal) → IsBetween 1 most n → cond (nat_le 1 n && nat_le n most) None (Some r) ≡ None
+  between_fits n most r within = rw (le-leb 1 n within.0, le-leb n most within.1) refl
 
   number_ok : (kind : What) (n : ℕ) (left : List Lexeme) (words : List (List ℕ)) (Q : (ℕ × List Lexeme) → Type 0)
       → n < 2 ^ 32 → map text left ≡ decimal n ∷ words → ((start : ℕ) → refusal kind (record { start = start; text = decimal n }) ≡ None)
@@ -328,22 +292,22 @@ module _ (offset : ℕ) where
       → map text left ≡ codes "qdouble" ∷ codes "1" ∷ codes "order" ∷ decimal n ∷ codes "table" ∷ words
       → ((rest : List Lexeme) → map text rest ≡ words → Q (n, rest))
       → ReadsTo (read_order offset left) Q
-  unfolding read_order
+  unfolding read_order refusal
   order_ok n left words Q low high e on =
       reads_bind (skip offset (Word Qdouble) left) _ Q (word_ok Qdouble left _ _ e (λ left1 e1.
       reads_bind (skip offset (Word One) left1) _ Q (word_ok One left1 _ _ e1 (λ left2 e2.
       reads_bind (skip offset (Word Order) left2) _ Q (word_ok Order left2 _ _ e2 (λ left3 e3.
-      reads_bind (read_number offset OrderNumber left3) _ Q (number_ok OrderNumber n left3 _ _ (omega arith) e3 (λ start. order_fits n start low high) (λ left4 e4.
+      reads_bind (read_number offset OrderNumber left3) _ Q (number_ok OrderNumber n left3 _ _ (omega arith) e3 (λ start. number_fits OrderNumber n start (omega arith) (between_fits n 60 (refusals.Order n) (low, high))) (λ left4 e4.
       reads_bind (skip offset (Word Table) left4) _ Q (word_ok Table left4 words _ e4 on)))))))))
 
   roots_ok : (roots : ℕ) (left : List Lexeme) (words : List (List ℕ)) (Q : (ℕ × List Lexeme) → Type 0) → 1 ≤ roots → roots ≤ 64
       → map text left ≡ codes "roots" ∷ decimal roots ∷ codes "omega" ∷ words
       → ((rest : List Lexeme) → map text rest ≡ words → Q (roots, rest))
       → ReadsTo (read_roots offset left) Q
-  unfolding read_roots
+  unfolding read_roots refusal
   roots_ok roots left words Q low high e on =
       reads_bind (skip offset (Word Roots) left) _ Q (word_ok Roots left _ _ e (λ left1 e1.
-      reads_bind (read_number offset RootsNumber left1) _ Q (number_ok RootsNumber roots left1 _ _ (omega arith) e1 (λ start. roots_fit roots start low high) (λ left2 e2.
+      reads_bind (read_number offset RootsNumber left1) _ Q (number_ok RootsNumber roots left1 _ _ (omega arith) e1 (λ start. number_fits RootsNumber roots start (omega arith) (between_fits roots 64 (refusals.Roots roots) (low, high))) (λ left2 e2.
       reads_bind (skip offset (Word Omega) left2) _ Q (word_ok Omega left2 words _ e2 on)))))
 
   form_fits : (word : List ℕ) → is_form word ≡ true → (start : ℕ) → refusal FormWord (record { start = start; text = word }) ≡ None
@@ -418,20 +382,6 @@ module _ (offset : ℕ) where
     word_said stages.Number is word = refl
     word_said stages.Row is word = refl
 
-    class_fits : (stage : Stage) → IsWordStage stage → Fits stage (codes "class")
-    unfolding refusal
-    class_fits stages.Conductor is start = refl
-    class_fits stages.Class is start = absurd (is refl)
-    class_fits stages.Number is start = refl
-    class_fits stages.Row is start = refl
-
-    end_fits : (stage : Stage) → IsWordStage stage → Fits stage (codes "end")
-    unfolding refusal
-    end_fits stages.Conductor is start = refl
-    end_fits stages.Class is start = absurd (is refl)
-    end_fits stages.Number is start = refl
-    end_fits stages.Row is start = refl
-
     -- a row begins
     row_ok : (stage : Stage) (blocks : List Block) (words : List (List ℕ)) → IsWordStage stage → Fits stage (codes "row")
         → GoesOn stages.Row (with_row blocks) words → GoesOn stage blocks (codes "row" ∷ words)
@@ -459,22 +409,18 @@ module _ (offset : ℕ) where
         → GoesOn stage front (words_in (flat_map block_lines blocks) ++ codes "end" ∷ [])
     unfolding GoesOn refusal
     blocks_ok stage front [] is small are on =
-        part_ok stage front (codes "end") [] parts.End (end_fits stage is) (word_said stage is (codes "end")) (rw (append-nil front) at on)
+        part_ok stage front (codes "end") [] parts.End (λ start. end_fits phi start stage is) (word_said stage is (codes "end")) (rw (append-nil front) at on)
     blocks_ok stage front (b ∷ blocks) is small are on =
         let n = b.representative in
         let narrow = first_of HasSmallNumber b blocks small in
         let number : parts.Number (value (decimal n)) ≡ parts.Number n = ap parts.Number (decimal_spells n (omega (arith, narrow))).value_is in
         let rest = words_in (flat_map block_lines blocks) ++ codes "end" ∷ [] in
         rw (words_in-append (map row_words b.rows) (flat_map block_lines blocks), append_assoc (words_in (map row_words b.rows)) (words_in (flat_map block_lines blocks)) (codes "end" ∷ []))
-        (part_ok stage front (codes "class") (decimal n ∷ (words_in (map row_words b.rows) ++ rest)) parts.Class (class_fits stage is) (word_said stage is (codes "class"))
+        (part_ok stage front (codes "class") (decimal n ∷ (words_in (map row_words b.rows) ++ rest)) parts.Class (λ start. class_fits phi start stage is) (word_said stage is (codes "class"))
         (part_ok stages.Class front (decimal n) (words_in (map row_words b.rows) ++ rest) (parts.Number n) (λ start. natural_fits n start narrow) number
         (rows_ok stages.Number front n [] b.rows rest (λ e. absurd cc) (λ start. refl) (first_of (HasValues k) b blocks are)
         (λ later word. blocks_ok later (front ++ b ∷ []) blocks word (rest_of HasSmallNumber b blocks small) (rest_of (HasValues k) b blocks are)
         (rw (append_assoc front (b ∷ []) blocks) on)))))
-
-  conductor_fits : (k start : ℕ) → is_conductor k ≡ true → refusal ConductorNumber (record { start = start; text = decimal k }) ≡ None
-  unfolding refusal
-  conductor_fits k start entry = ap (number_refusal ConductorNumber start) (number_of-decimal k (omega (arith, small_entry k entry))) ∙ rw entry refl
 
   characters_ok : (characters : Option Given) (left : List Lexeme) (Q : Option Given → Type 0) → IfSome characters IsGivenInRange → IfSome characters (λ given. All HasSmallNumber given.blocks)
       → map text left ≡ last_words characters → Q characters → ReadsTo (read_characters offset (form_of characters) left) Q
@@ -486,7 +432,7 @@ module _ (offset : ℕ) where
       let k = given.conductor in
       reads_bind (read_given offset left) _ Q
       (reads_bind (skip offset (Word Characters) left) _ _ (word_ok Characters left _ _ e (λ left1 e1.
-      reads_bind (read_number offset ConductorNumber left1) _ _ (number_ok ConductorNumber k left1 _ _ (omega (arith, small_entry k in_range.conductor)) e1 (λ start. conductor_fits k start in_range.conductor) (λ left2 e2.
+      reads_bind (read_number offset ConductorNumber left1) _ _ (number_ok ConductorNumber k left1 _ _ (omega (arith, small_entry k in_range.conductor)) e1 (λ start. number_fits ConductorNumber k start (omega (arith, small_entry k in_range.conductor)) (rw in_range.conductor refl)) (λ left2 e2.
       reads_bind (read_blocks offset (phi_of k) stages.Conductor [] left2) _ _ (blocks_ok k in_range.conductor _ stages.Conductor [] given.blocks (λ e. absurd cc) small in_range.values
       (λ rest none. reads_bind (skip offset NoToken rest) _ Q (nothing_ok rest _ none on)) left2 e2))))))
 

@@ -1,15 +1,6 @@
 -- What may stand at each place of a document, run after run.
-use Rattle.std.proofs.Common.{◌≡◌, ℕ, zero, suc, ◌-◌, ◌+◌, ◌*◌, ◌≤◌, ◌<◌, Bool, true, false, cond, nat_lt, List, [], ◌∷◌, ◌++◌, length, take, codes, refl, sym, ap, ◌∙◌, ◌⊎◌, inl, inr, arith, append_assoc}
-use Rattle.std.proofs.lemmas.Bool.{lt-ltb, le-ltb, ltb-false}
-use Rattle.std.specs.Prelude.{sum_by}
-use Rattle.std.proofs.lemmas.List.{length-take-le, get_or-take}
-use Rattle.std.proofs.lemmas.List.Sums.{sum_by-cons, sum_by-append}
-use Rattle.qd_text.specs.Tokens.{Lexeme}
-use Rattle.qd_text.specs.Numbers.{value}
-use Rattle.qd_text.specs.declared.expected.Expected.TheVariants.{Qdouble, One, Order, Table}
-use Rattle.qd_doc.specs.declared.document.Form.{Form}
-use Rattle.qd_doc.specs.Kinds.{What, Word, Natural, OrderNumber, is_word}
-use Rattle.qd_doc.specs.Grammar.{Run, times, once, text_at, number_at, front_runs, entry_runs, exponent_runs, runs_after, kind_at, ending, expected}
+use Rattle.qd_doc.proofs.Names.{Bool, Form, Lexeme, List, Natural, One, OrderNumber, Qdouble, Run, Table, What, Word, [], ap, append_assoc, arith, codes, cond, ending, entry_runs, expected, exponent_runs, false, front_runs, get_or-take, inl, inr, is_word, kind_at, le-ltb, length, length-take-le, lt-ltb, ltb-false, nat_lt, number_at, once, refl, runs_after, suc, sum_by, sum_by-append, sum_by-cons, sym, take, text_at, times, true, value, ℕ, ◌*◌, ◌++◌, ◌+◌, ◌-◌, ◌<◌, ◌∙◌, ◌∷◌, ◌≡◌, ◌≤◌, ◌⊎◌}
+use Rattle.qd_text.specs.declared.expected.Expected.TheVariants.{Order}
 
 -- how many tokens these runs are
 abbrev pub total : List Run → ℕ

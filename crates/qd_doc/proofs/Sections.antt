@@ -1,24 +1,6 @@
 -- Reading what follows the exponents, and so a whole document, finds the first refusal, and the contents by
 -- their places.
-use Rattle.std.proofs.Common.{◌≡◌, ℕ, zero, suc, ◌-◌, ◌+◌, ◌*◌, ◌≤◌, ◌<◌, cond, List, [], ◌∷◌, ◌++◌, length, take, drop, map, get_or, Option, Some, None, Ok, refl, sym, ap, ◌∙◌, ◌⊎◌, inl, inr, arith, add-one, length-drop}
-use Rattle.std.specs.Prelude.{fold, IfSome, true}
-use Rattle.std.proofs.lemmas.List.{length-take-le, drop-take, take_more, get_or-drop}
-use Rattle.std.proofs.lemmas.List.Sums.{fold-append}
-use Rattle.cyclotomic.specs.Conductors.{is_conductor, phi_of}
-use Rattle.qd_text.specs.Tokens.{Lexeme}
-use Rattle.qd_text.specs.declared.expected.Expected.TheVariants.{Characters, Number, End}
-use Rattle.qd_doc.specs.declared.document.Form.{Form}
-use Rattle.qd_doc.specs.declared.document.Form.TheVariants.{Bare, WithCharacters}
-use Rattle.qd_doc.specs.declared.document.Document.{Document}
-use Rattle.qd_doc.specs.declared.document.Given.{Given}
-use Rattle.qd_doc.specs.declared.refusal.DocRefusal.TheVariants.{Syntax}
-use Rattle.qd_doc.specs.Blocks.{Block}
-use Rattle.qd_doc.specs.Kinds.{What, Word, ConductorNumber, ClassOrEnd, EndWord, NoToken, missing}
-use Rattle.qd_text.specs.Numbers.{value}
-use Rattle.qd_doc.specs.Grammar.{text_at, number_at, front_runs, runs_after, what_after, after_characters, ending, expected, first_refusal}
-use Rattle.qd_doc.specs.Contents.{exponents_end, blocks_of, characters_of, document_of}
-use Rattle.qd_doc.specs.Section.{kind_after, part_of, stage_of, is_end, with_part}
-use Rattle.qd_doc.specs.Reading.{read, skip, read_number, read_numbers, read_order, read_roots, read_exponents, read_end, read_blocks, read_given, read_characters, read_document}
+use Rattle.qd_doc.proofs.Names.{Bare, Block, Characters, ClassOrEnd, ConductorNumber, Document, End, EndWord, Form, Given, IfSome, Lexeme, List, NoToken, None, Number, Ok, Option, Syntax, What, WithCharacters, Word, [], add-one, after_characters, ap, arith, blocks_of, characters_of, cond, document_of, drop, drop-take, ending, expected, exponents_end, first_refusal, fold, fold-append, front_runs, get_or, get_or-drop, inl, inr, is_conductor, is_end, kind_after, length, length-drop, length-take-le, map, missing, number_at, part_of, phi_of, read, read_blocks, read_characters, read_document, read_end, read_exponents, read_given, read_number, read_numbers, read_order, read_roots, refl, runs_after, skip, stage_of, suc, sym, take, take_more, text_at, true, value, what_after, with_part, zero, ℕ, ◌*◌, ◌++◌, ◌+◌, ◌-◌, ◌<◌, ◌∙◌, ◌∷◌, ◌≡◌, ◌≤◌, ◌⊎◌}
 use Rattle.qd_doc.proofs.Loops.{missing_end, blocks_step}
 use Rattle.qd_doc.proofs.Parts.{State, Between, stage_in, blocks_in, whole, Ends as Section_ends, Goes, move}
 use Rattle.qd_doc.proofs.Ranges.{conductor_in_table, length-numbers_at}

@@ -1,41 +1,12 @@
 -- What is read has the shape of a document: its numbers are in their ranges, and its lists have their lengths.
-use Rattle.std.proofs.Common.{◌≡◌, ℕ, zero, suc, ◌-◌, ◌+◌, ◌*◌, ◌≤◌, Bool, true, false, ◌&&◌, cond, List, [], ◌∷◌, length, drop, map, Option, Some, None, Result, Ok, Err, refl, sym, ap, subst, ◌∙◌, arith}
-use Rattle.std.specs.Prelude.{nat_le, slice_set, replicate, All, IfSome, ℤ, pos, codes, ◌==◌}
-use Rattle.std.specs.List.{list_all}
-use Rattle.std.proofs.lemmas.Bool.{leb-true, eq-eqb}
-use Rattle.std.proofs.lemmas.List.{length-set, drop-replicate}
-use Rattle.std.proofs.Math.ListN.{length-replicate}
-use Rattle.scan.proofs.Places.{and_true}
-use Rattle.qd_text.specs.Tokens.{Lexeme, tokens}
-use Rattle.qd_text.specs.Numbers.{value, number_of}
-use Rattle.qd_text.specs.declared.natural.NumberFault.{NumberFault}
+use Rattle.qd_doc.proofs.Names.{All, Bare, Block, DocRefusal, Document, Err, Form, IfSome, IsGivenInRange, IsInRange, IsRead, IsValueOf, Lexeme, List, None, Ok, Plain, Result, Some, ValueFault, WithCharacters, [], ap, arith, block_of, blocks_of, characters_of, codes, coefficients, document_of, drop, drop-replicate, eq-eqb, exponents_end, is_array, is_conductor, is_nought, length, list_all, map, nought_small, number_at, phi_of, pieces, plain_or_zeros, pos, read, read_document, refl, replicate, stop_of, subst, suc, sym, tokens, true, value_of, words_before, zero, ℕ, ℤ, ◌+◌, ◌-◌, ◌==◌, ◌>>=◌, ◌∙◌, ◌∷◌, ◌≡◌}
 use Rattle.qd_text.specs.declared.natural.NumberFault.TheVariants as faults
 use Rattle.qd_doc.specs.declared.refusal.DocRefusal.TheVariants as stops
-use Rattle.qd_doc.specs.Kinds.{OrderNumber, RootsNumber, Natural, Word, FormWord, ConductorNumber, NoToken, refusal, missing, number_refusal}
-use Rattle.qd_doc.specs.Reading.{◌>>=◌, unless, skip, read, listing_of, read_number, read_entry, read_end, read_numbers, read_order, read_roots, read_entries, read_sparse, read_listing, read_exponents, read_blocks, read_given, read_characters, read_document}
-use Rattle.qd_text.specs.declared.expected.Expected.TheVariants.{Qdouble, One, Order, Table, Roots, Omega, Characters, Conductor}
-use Rattle.qd_doc.specs.declared.document.Form.TheVariants.{Bare, WithCharacters}
-use Rattle.qd_doc.specs.Grammar.{number_at, stop_of}
-use Rattle.qd_doc.specs.Contents.{words_before, pieces, block_of, blocks_of, characters_of, exponents_end, document_of, IsValueOf, IsGivenInRange, IsInRange}
-use Rattle.cyclotomic.specs.Conductors.{is_conductor, phi_of}
-use Rattle.qd_ring.specs.declared.plain.Plain.{Plain}
-use Rattle.qd_ring.specs.declared.plain.ValueFault.{ValueFault}
-use Rattle.qd_ring.specs.CycArrays.{is_array, is_nought}
-use Rattle.qd_ring.specs.ValueOutcome.{IsRead}
-use Rattle.qd_ring.proofs.ValueLaws.{nought_small}
-use Rattle.qd_doc.specs.Blocks.{Block}
-use Rattle.qd_doc.specs.Values.{plain_or_zeros, coefficients, value_of}
-use Rattle.qd_doc.specs.declared.document.Form.{Form}
-use Rattle.qd_doc.specs.declared.document.Given.{Given}
 use Rattle.qd_doc.specs.declared.part.Stage.TheVariants as stages
 use Rattle.qd_doc.proofs.Entries.{few_coefficients}
 use Rattle.qd_doc.proofs.ValueWords.{value_read}
 use Rattle.qd_doc.proofs.Places.{Reads}
 use Rattle.qd_doc.proofs.Sections.{HasConductor, HasShape, IsWhole, reads_document}
-use Rattle.qd_doc.specs.declared.document.Document.{Document}
-use Rattle.qd_doc.specs.declared.listing.Listing.{Listing}
-use Rattle.qd_doc.specs.declared.listing.Listing.TheVariants.{Trivial, Dense, Sparse}
-use Rattle.qd_doc.specs.declared.refusal.DocRefusal.{DocRefusal}
 
 shape_of : (form : Form) (bytes : List ℕ) (r : Result Document DocRefusal) → Reads form (length bytes) (tokens bytes) r (IsWhole (length bytes) (tokens bytes) form)
     → stop_of form bytes ≡ None → HasShape (document_of form (tokens bytes))

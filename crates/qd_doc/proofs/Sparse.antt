@@ -1,15 +1,5 @@
 -- Entries of a sparse list, put one after the other into a list of exponents.
-use Rattle.std.proofs.Common.{◌≡◌, ◌≢◌, ℕ, zero, suc, ◌+◌, ◌*◌, ◌<◌, Bool, true, false, nat_eq, List, length, map, Option, None, refl, sym, ap, ◌∙◌, ◌⊎◌, inl, inr, arith, zero-add}
-use Rattle.std.specs.Prelude.{slice_set, replicate, unwrap_or}
-use Rattle.std.specs.List.{range_with_len}
-use Rattle.std.proofs.lemmas.Bool.{eqb-true, eqb-false, eq-eqb, ne_eqb}
-use Rattle.std.proofs.lemmas.List.{length-set, get_or-set_other}
-use Rattle.std.proofs.lemmas.Grind.{get_or-set_at}
-use Rattle.std.proofs.lemmas.List.FromFn.{fill_by_all, length-map-range_with_len, get_or-map-range_with_len}
-use Rattle.scan.specs.First.{option_or}
-use Rattle.qd_text.specs.Tokens.{Lexeme}
-use Rattle.qd_doc.specs.Grammar.{number_at}
-use Rattle.qd_doc.specs.Contents.{last_below, entry_at, sparse_exponents}
+use Rattle.qd_doc.proofs.Names.{Bool, Lexeme, List, None, Option, ap, arith, entry_at, eq-eqb, eqb-false, eqb-true, false, fill_by_all, get_or-map-range_with_len, get_or-set_at, get_or-set_other, inl, inr, last_below, length, length-map-range_with_len, length-set, map, nat_eq, ne_eqb, number_at, option_or, range_with_len, refl, replicate, slice_set, sparse_exponents, suc, sym, true, unwrap_or, zero, zero-add, ℕ, ◌*◌, ◌+◌, ◌<◌, ◌∙◌, ◌≡◌, ◌≢◌, ◌⊎◌}
 
 by_test : (p k : ℕ) (b : Bool) → nat_eq p k ≡ b → (p ≡ k) ⊎ (p ≢ k)
 by_test p k true e = inl (eqb-true p k e)

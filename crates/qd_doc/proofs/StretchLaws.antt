@@ -1,9 +1,6 @@
 -- Stretches where items or a head are added.
-use Rattle.std.proofs.Common.{◌≡◌, ℕ, ◌-◌, ◌<◌, ◌≤◌, zero, suc, List, [], ◌∷◌, ◌++◌, length, get_or, take, drop, refl, ap, sym, ◌∙◌, subst, arith, append_assoc, length-append}
-use Rattle.std.proofs.lemmas.List.{take_all, take-append-le, drop_at, drop-append-le, length-take-le, length-drop, append-nil, take-append-drop}
-use Rattle.std.proofs.lemmas.List.Elements.{All-take, All-drop}
-use Rattle.std.specs.Prelude.{All}
-use Rattle.qd_doc.specs.Stretches.{first_start, AreInOrder, stretches}
+use Rattle.qd_doc.proofs.Names.{All, All-drop, All-take, AreInOrder, List, [], ap, append-nil, append_assoc, arith, drop, drop-append-le, drop_at, first_start, get_or, length, length-append, length-take-le, refl, stretches, subst, suc, sym, take, take-append-drop, take-append-le, take_all, zero, ℕ, ◌++◌, ◌-◌, ◌<◌, ◌∙◌, ◌∷◌, ◌≡◌, ◌≤◌}
+use Rattle.std.proofs.lemmas.List.{length-drop}
 
 module _ {H : Type 0} (start : H → ℕ) where
   first_in : (heads : List H) (end : ℕ) → AreInOrder start heads end → first_start start heads end ≤ end

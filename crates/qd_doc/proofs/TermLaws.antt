@@ -1,12 +1,5 @@
 -- Terms added at the end of the terms of values.
-use Rattle.std.proofs.Common.{◌≡◌, ℕ, ◌+◌, ◌-◌, ◌<◌, ◌≤◌, ℤ, pos, suc, List, [], ◌∷◌, ◌++◌, length, get_or, set, take, drop, replicate, refl, ap, sym, ◌∙◌, arith, append_assoc, inl, inr}
-use Rattle.std.specs.Prelude.{All, fold}
-use Rattle.std.proofs.lemmas.List.{length-take, length-take-le, take-take, take_all, take_more, append-nil, set_at, get_or-take, drop-append-le}
-use Rattle.std.proofs.lemmas.List.Elements.{All-head, All-tail, All-drop}
-use Rattle.std.proofs.lemmas.List.Sums.{fold-append}
-use Rattle.qd_doc.specs.declared.term.Term.{Term}
-use Rattle.qd_doc.specs.declared.term.Term.TheVariants.{Small, Great}
-use Rattle.qd_doc.specs.StoredValues.{IsTermOf, AddsTerm, power_of, coefficient_of, value_of_terms}
+use Rattle.qd_doc.proofs.Names.{AddsTerm, All, All-drop, All-head, All-tail, Great, IsTermOf, List, Small, Term, [], ap, append-nil, append_assoc, arith, coefficient_of, drop, drop-append-le, fold, fold-append, get_or, get_or-take, inl, inr, length, length-take, length-take-le, pos, power_of, refl, replicate, set, set_at, suc, sym, take, take-take, take_all, take_more, value_of_terms, ℕ, ℤ, ◌++◌, ◌+◌, ◌-◌, ◌<◌, ◌∙◌, ◌∷◌, ◌≡◌, ◌≤◌}
 
 module _ {A : Type 0} (a b c : List A) where
   pub longer : take (length a) b ≡ a → length a ≤ length b

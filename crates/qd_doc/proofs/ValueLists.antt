@@ -1,12 +1,8 @@
 -- Lists of stored values.
-use Rattle.std.proofs.Common.{◌≡◌, ℕ, ◌+◌, ◌<◌, ◌^◌, ℤ, List, [], ◌∷◌, ◌++◌, length, get_or, take, drop, refl, ap, sym, ◌∙◌, arith, add-one}
-use Rattle.std.specs.Prelude.{All, Result, Ok, Err, OnOk, OnErr}
-use Rattle.qd_doc.specs.declared.term.Term.{Term}
-use Rattle.qd_doc.specs.Stretches.{item_stretch}
-use Rattle.qd_doc.specs.StoredValues.{IsTermOf, AreValues, value_of_terms, values_of}
+use Rattle.qd_doc.proofs.Names.{All, AreValues, Err, IsTermOf, List, Ok, OnErr, OnOk, Result, Term, [], add-one, ap, arith, drop, get_or, item_stretch, length, refl, sym, take, take-append-drop, value_of_terms, values_of, ℕ, ℤ, ◌++◌, ◌+◌, ◌<◌, ◌^◌, ◌∙◌, ◌∷◌, ◌≡◌}
 use Rattle.qd_doc.proofs.StretchLaws.{length-stretches, stretch_at, stretches_same, stretches_pushed, order_pushed}
 use Rattle.qd_doc.proofs.TermLaws.{longer, value_kept}
-use Rattle.std.proofs.lemmas.List.{take-append-drop, length-append}
+use Rattle.std.proofs.lemmas.List.{length-append}
 
 module _ (starts : List ℕ) (terms : List Term) (great : List ℤ) where
   pub values_length : length (values_of starts terms great) ≡ length starts

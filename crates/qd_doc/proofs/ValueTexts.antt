@@ -1,22 +1,6 @@
 -- The text of a value is one word of a row, and is read as the value.
-use Rattle.std.proofs.Common.{◌≡◌, ℕ, zero, suc, ◌-◌, ◌<◌, ◌≤◌, Bool, true, false, ◌==◌, nat_le, nat_lt, List, [], ◌∷◌, ◌++◌, length, get_or, drop, replicate, codes, Ok, None, refl, sym, ap, ◌∙◌, subst, ◌⊎◌, inl, inr, arith, length-append, eqb-true, length-drop}
-use Rattle.std.specs.Prelude.{ℤ, pos, negsuc, nat_abs}
-use Rattle.std.specs.List.{list_all}
-use Rattle.std.proofs.lemmas.Bool.{cases_Bool, eqb-false, and_parts, le-leb, lt-ltb}
-use Rattle.std.proofs.lemmas.List.{get_or_append_left}
-use Rattle.std.proofs.lemmas.List.Folds.{list_all-append}
-use Rattle.cyclotomic.specs.Conductors.{is_conductor, phi_of}
-use Rattle.qd_ring.specs.CycArrays.{is_array, is_nought}
-use Rattle.qd_ring.specs.ValueText.{numeral, sign_text, power_text, term_text, terms_text, or_nought, value_text, Spells}
-use Rattle.qd_ring.proofs.NumeralLaws.{digits_numeral, leading_numeral}
-use Rattle.qd_ring.proofs.ValueTextLaws.{terms_nil, terms_nought, terms_term, numeral_nonempty}
-use Rattle.qd_text.specs.Tokens.{is_token_byte}
-use Rattle.qd_text.proofs.Decimals.{digits_are_word}
-use Rattle.qd_text.proofs.Texts.{is_plain}
-use Rattle.qd_doc.specs.Values.{begins_value, plain, value_of, plain_or_zeros}
-use Rattle.qd_doc.specs.Kinds.{ValueRowClassOrEnd, is_word, refusal}
-use Rattle.qd_doc.specs.Contents.{IsValueOf}
-use Rattle.qd_doc.specs.Section.{word_part}
+use Rattle.qd_doc.proofs.Names.{Bool, IsValueOf, List, None, Ok, Spells, ValueRowClassOrEnd, [], and_parts, ap, arith, begins_value, cases_Bool, codes, digits_are_word, digits_numeral, drop, eqb-false, false, get_or, get_or_append_left, inl, inr, is_array, is_conductor, is_nought, is_plain, is_token_byte, is_word, le-leb, leading_numeral, length, length-append, length-drop, list_all, list_all-append, lt-ltb, nat_abs, nat_le, nat_lt, negsuc, numeral, numeral_nonempty, or_nought, phi_of, plain, plain_or_zeros, pos, power_text, refl, refusal, replicate, sign_text, subst, suc, sym, term_text, terms_nil, terms_nought, terms_term, terms_text, true, value_of, value_text, word_part, zero, ℕ, ℤ, ◌++◌, ◌-◌, ◌<◌, ◌==◌, ◌∙◌, ◌∷◌, ◌≡◌, ◌≤◌, ◌⊎◌}
+use Rattle.std.proofs.Common.{eqb-true}
 use Rattle.qd_doc.specs.declared.part.Part.TheVariants as parts
 use Rattle.qd_doc.proofs.Entries.{few_coefficients}
 use Rattle.qd_doc.proofs.ValueWords.{value_is}

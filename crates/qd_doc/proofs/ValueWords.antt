@@ -1,22 +1,7 @@
 -- What a token says as a value is the value whose text it is.
-use Rattle.std.proofs.Common.{◌≡◌, ℕ, ◌-◌, ◌≤◌, Bool, true, false, cond, nat_eq, List, length, take, drop, replicate, codes, Option, Some, None, Result, Ok, Err, refl, sym, ap, ◌∙◌, subst, arith, length-append, eqb-true}
-use Rattle.std.specs.Prelude.{ℤ, pos}
-use Rattle.std.proofs.lemmas.Bool.{eq-eqb, true≢false}
-use Rattle.std.proofs.lemmas.List.{length-map, length-replicate}
-use Rattle.std.proofs.Math.Seq.{take-append_seam, drop-append_seam}
-use lib.Pointwise.{pointwise, pointwise_decides}
-use Rattle.qd_ring.specs.declared.plain.Plain.{Plain}
-use Rattle.qd_ring.specs.declared.plain.ValueFault.{ValueFault}
-use Rattle.qd_ring.specs.declared.plain.ValueFault.TheVariants.{NotValue, Wide}
-use Rattle.qd_ring.specs.CycArrays.{is_small}
-use Rattle.qd_ring.specs.ValueText.{Spells}
-use Rattle.qd_ring.specs.ValueReading.{coefficients_of}
-use Rattle.qd_ring.specs.ValueOutcome.{IsRead}
-use Rattle.qd_ring.proofs.CoefficientLaws.{coefficients_read}
-use Rattle.qd_ring.proofs.TermLaws.{capped}
-use Rattle.qd_ring.proofs.ValueLaws.{nought_spelled, nought_small, unread, found_small, found_wide}
-use Rattle.qd_ring.proofs.ValueOutcomeLaws.{outcome_value, outcome_wide, outcome_not_value}
-use Rattle.qd_doc.specs.Values.{value_of, small_value, padded, plain}
+use Rattle.qd_doc.proofs.Names.{Bool, Err, IsRead, List, None, NotValue, Ok, Option, Plain, Result, Some, Spells, ValueFault, ap, arith, capped, codes, coefficients_of, coefficients_read, cond, drop, drop-append_seam, eq-eqb, false, found_small, found_wide, is_small, length, length-append, length-map, length-replicate, nat_eq, nought_small, nought_spelled, outcome_not_value, outcome_value, outcome_wide, padded, plain, pointwise, pointwise_decides, pos, refl, replicate, small_value, subst, sym, take, take-append_seam, true, true≢false, unread, value_of, ℕ, ℤ, ◌-◌, ◌∙◌, ◌≡◌, ◌≤◌}
+use Rattle.std.proofs.Common.{eqb-true}
+use Rattle.qd_ring.specs.declared.plain.ValueFault.TheVariants.{Wide}
 
 -- a word is this one exactly where the test says so
 pub same_word : (text word : List ℕ) → pointwise nat_eq text word ≡ true → text ≡ word

@@ -1,5 +1,4 @@
-use Rattle.std.proofs.Common.{◌≡◌, ◌++◌, take}
-use Rattle.qd_doc.specs.Blocks.{block_at}
+use Rattle.qd_doc.proofs.Names.{block_at, take, ◌++◌, ◌≡◌}
 use Rattle.qd_doc.proofs.Lines.{rows_text}
 use Rattle.qd_doc.proofs.block_text.append_rows.Given as goal
 

@@ -1,6 +1,4 @@
-use Rattle.std.proofs.Common.{◌≡◌, ◌++◌, take}
-use Rattle.qd_ring.specs.RowLists.{row_at}
-use Rattle.qd_doc.specs.Blocks.{block_at}
+use Rattle.qd_doc.proofs.Names.{block_at, row_at, take, ◌++◌, ◌≡◌}
 use Rattle.qd_doc.proofs.Lines.{values_text}
 use Rattle.qd_doc.proofs.block_text.append_values.Given as goal
 

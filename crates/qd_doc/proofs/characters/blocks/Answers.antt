@@ -1,7 +1,4 @@
-use Rattle.std.proofs.Common.{sym, refl, [], length, arith}
-use Rattle.std.proofs.lemmas.Result.{err_from_is_err_and}
-use Rattle.qd_text.specs.Tokens.{tokens_from}
-use Rattle.qd_doc.specs.Reading.{read_blocks}
+use Rattle.qd_doc.proofs.Names.{[], err_from_is_err_and, length, read_blocks, refl, sym, tokens_from}
 use Rattle.qd_doc.specs.declared.part.Stage.TheVariants as stages
 use Rattle.qd_doc.proofs.Parts.{none_open, go}
 use Rattle.qd_doc.proofs.Loops.{part_read, blocks_fail, blocks_end, blocks_go_on}

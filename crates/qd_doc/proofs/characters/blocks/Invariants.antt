@@ -1,6 +1,4 @@
-use Rattle.std.proofs.Common.{◌≡◌, ◌-◌, [], length}
-use Rattle.qd_text.specs.Tokens.{tokens_from}
-use Rattle.qd_doc.specs.Reading.{IsOffset, read_blocks}
+use Rattle.qd_doc.proofs.Names.{IsOffset, [], length, read_blocks, tokens_from, ◌-◌, ◌≡◌}
 use Rattle.qd_doc.specs.declared.part.Stage.TheVariants as stages
 use Rattle.qd_doc.proofs.Parts.{IsOpen}
 use Rattle.qd_doc.proofs.characters.blocks.Given as goal

@@ -1,9 +1,4 @@
-use Rattle.std.proofs.Common.{◌∙◌, ap, Ok, length}
-use Rattle.std.proofs.lemmas.Result.{err_from_is_err_and}
-use Rattle.qd_text.specs.Tokens.{tokens_from}
-use Rattle.qd_text.specs.Numbers.{value}
-use Rattle.qd_doc.specs.Kinds.{Natural}
-use Rattle.qd_doc.specs.Reading.{◌>>=◌}
+use Rattle.qd_doc.proofs.Names.{Natural, Ok, ap, err_from_is_err_and, length, tokens_from, value, ◌>>=◌, ◌∙◌}
 use Rattle.qd_doc.specs.declared.part.Part.TheVariants as parts
 use Rattle.qd_doc.proofs.Loops.{viewed, viewed_fails}
 use Rattle.qd_doc.proofs.characters.number_part.Goals as goal

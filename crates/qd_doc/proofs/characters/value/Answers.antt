@@ -1,6 +1,5 @@
-use Rattle.qd_text.specs.Tokens.{text_of}
-use Rattle.qd_ring.specs.declared.plain.ValueFault.TheVariants.{NotValue, Wide}
-use Rattle.std.proofs.Common.{Ok, Err, refl, ap}
+use Rattle.qd_doc.proofs.Names.{Err, NotValue, Ok, ap, refl, text_of}
+use Rattle.qd_ring.specs.declared.plain.ValueFault.TheVariants.{Wide}
 use Rattle.qd_doc.proofs.ValueWords.{value_is}
 use Rattle.qd_doc.proofs.characters.value.Goals as goal
 

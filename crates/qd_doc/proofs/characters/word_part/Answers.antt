@@ -1,5 +1,4 @@
-use Rattle.std.proofs.Common.{sym, ◌∙◌, inl, inr}
-use Rattle.qd_text.specs.Tokens.{text_of}
+use Rattle.qd_doc.proofs.Names.{inl, inr, sym, text_of, ◌∙◌}
 use Rattle.qd_doc.proofs.Parts.{said_class, said_end, said_neither, said_row, said_value}
 use Rattle.qd_doc.proofs.characters.word_part.Goals as goal
 

@@ -1,7 +1,4 @@
-use Rattle.std.proofs.Common.{length}
-use Rattle.std.proofs.lemmas.Result.{err_from_is_err_and}
-use Rattle.qd_text.specs.Tokens.{tokens_from}
-use Rattle.qd_doc.specs.Reading.{read_entries}
+use Rattle.qd_doc.proofs.Names.{err_from_is_err_and, length, read_entries, tokens_from}
 use Rattle.qd_doc.proofs.Loops.{entries_go_on, entries_fail, entries_end}
 use Rattle.qd_doc.proofs.listing.entries.Goals as goal
 

@@ -1,6 +1,4 @@
-use Rattle.std.proofs.Common.{◌≡◌, ◌-◌, ◌*◌, length, vec_len}
-use Rattle.qd_text.specs.Tokens.{tokens_from}
-use Rattle.qd_doc.specs.Reading.{IsOffset, read_entries}
+use Rattle.qd_doc.proofs.Names.{IsOffset, length, read_entries, tokens_from, vec_len, ◌*◌, ◌-◌, ◌≡◌}
 use Rattle.qd_doc.proofs.listing.entries.Given as goal
 
 -- the entries that are left, put into the exponents so far, give what all give

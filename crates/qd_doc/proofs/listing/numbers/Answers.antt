@@ -1,7 +1,4 @@
-use Rattle.std.proofs.Common.{◌≡◌, ◌++◌, ◌∷◌, [], ℕ, length, length-append, arith}
-use Rattle.std.proofs.lemmas.Result.{err_from_is_err_and}
-use Rattle.qd_text.specs.Tokens.{tokens_from}
-use Rattle.qd_doc.specs.Reading.{read_numbers}
+use Rattle.qd_doc.proofs.Names.{[], arith, err_from_is_err_and, length, length-append, read_numbers, tokens_from, ℕ, ◌++◌, ◌∷◌, ◌≡◌}
 use Rattle.qd_doc.proofs.Loops.{numbers_go_on, numbers_fail, numbers_end}
 use Rattle.qd_doc.proofs.listing.numbers.Goals as goal
 

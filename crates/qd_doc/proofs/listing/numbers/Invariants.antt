@@ -1,6 +1,4 @@
-use Rattle.std.proofs.Common.{◌≡◌, ◌-◌, length}
-use Rattle.qd_text.specs.Tokens.{tokens_from}
-use Rattle.qd_doc.specs.Reading.{IsOffset, read_numbers}
+use Rattle.qd_doc.proofs.Names.{IsOffset, length, read_numbers, tokens_from, ◌-◌, ◌≡◌}
 use Rattle.qd_doc.proofs.Loops.{with_front}
 use Rattle.qd_doc.proofs.listing.numbers.Given as goal
 

@@ -1,6 +1,4 @@
-use Rattle.std.proofs.Common.{◌++◌, length, arith}
-use Rattle.std.specs.List.{flat_map}
-use Rattle.qd_doc.specs.Canonical.{line, rows}
+use Rattle.qd_doc.proofs.Names.{arith, flat_map, length, line, rows, ◌++◌}
 use Rattle.qd_doc.proofs.Lines.{rows_more, rows_all, rows_left, rows_fit}
 use Rattle.qd_doc.proofs.printing.append_rows.Goals as goal
 

@@ -1,6 +1,4 @@
-use Rattle.std.proofs.Common.{◌≡◌, ◌++◌, ◌-◌, ◌*◌, length}
-use Rattle.std.specs.List.{flat_map}
-use Rattle.qd_doc.specs.Canonical.{line, rows}
+use Rattle.qd_doc.proofs.Names.{flat_map, length, line, rows, ◌*◌, ◌++◌, ◌-◌, ◌≡◌}
 use Rattle.qd_doc.proofs.printing.append_rows.Given as goal
 
 -- the rows so far, and those of the numbers that are left, are all

@@ -1,5 +1,4 @@
-use Rattle.std.proofs.Common.{◌++◌, ◌∙◌, codes, ap}
-use Rattle.std.specs.Fmt.{decimal}
+use Rattle.qd_doc.proofs.Names.{ap, codes, decimal, ◌++◌, ◌∙◌}
 use Rattle.qd_doc.proofs.Lines.{canonical_pieces}
 use Rattle.qd_doc.proofs.printing.print.Goals as goal
 

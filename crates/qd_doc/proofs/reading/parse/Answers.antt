@@ -1,13 +1,5 @@
-use Rattle.std.proofs.Common.{◌≡◌, ℕ, List, length, None, Result, Ok, Err, subst, sym}
-use Rattle.std.specs.Prelude.{IfOk}
-use Rattle.qd_text.specs.Tokens.{tokens}
-use Rattle.qd_doc.specs.declared.document.Document.{Document}
-use Rattle.qd_doc.specs.declared.document.Form.{Form}
-use Rattle.qd_doc.specs.declared.refusal.DocRefusal.{DocRefusal}
-use Rattle.qd_doc.specs.declared.refusal.DocRefusal.TheVariants.{Syntax, Wide, Section, Order, Roots, Memory}
-use Rattle.qd_doc.specs.Grammar.{stop_of}
-use Rattle.qd_doc.specs.Contents.{Parses, document_of, IsInRange}
-use Rattle.qd_doc.specs.Reading.{Gives, read_document}
+use Rattle.qd_doc.proofs.Names.{DocRefusal, Document, Err, Form, Gives, IfOk, IsInRange, List, Memory, Ok, Parses, Result, Section, Syntax, length, read_document, stop_of, subst, sym, tokens, ℕ, ◌≡◌}
+use Rattle.qd_doc.specs.declared.refusal.DocRefusal.TheVariants.{Wide, Order, Roots}
 use Rattle.qd_doc.proofs.Places.{Reads}
 use Rattle.qd_doc.proofs.Sections.{IsWhole, reads_document}
 use Rattle.qd_doc.proofs.Shapes.{document_in_range}

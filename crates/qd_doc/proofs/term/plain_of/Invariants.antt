@@ -1,5 +1,4 @@
-use Rattle.std.proofs.Common.{◌≡◌, take}
-use Rattle.qd_doc.specs.StoredValues.{value_of_terms}
+use Rattle.qd_doc.proofs.Names.{take, value_of_terms, ◌≡◌}
 use Rattle.qd_doc.proofs.term.plain_of.Given as goal
 
 -- the terms so far were put in

@@ -1,6 +1,4 @@
-use Rattle.std.proofs.Common.{◌≡◌, ◌-◌, ◌++◌, pos, length, take, drop, replicate}
-use Rattle.std.specs.Prelude.{All}
-use Rattle.qd_doc.specs.StoredValues.{IsTermOf, value_of_terms}
+use Rattle.qd_doc.proofs.Names.{All, IsTermOf, drop, length, pos, replicate, take, value_of_terms, ◌++◌, ◌-◌, ◌≡◌}
 use Rattle.qd_doc.proofs.term.push_terms.Given as goal
 
 -- the terms of the powers so far were added

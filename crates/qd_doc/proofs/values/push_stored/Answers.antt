@@ -1,6 +1,4 @@
-use Rattle.std.proofs.Common.{◌≡◌, ◌∷◌, [], ◌++◌, ◌∙◌, length, ap, sym, subst, arith}
-use Rattle.std.proofs.lemmas.List.{take_at}
-use Rattle.qd_doc.specs.StoredValues.{AreValues, values_of}
+use Rattle.qd_doc.proofs.Names.{AreValues, [], ap, arith, length, subst, sym, take_at, values_of, ◌++◌, ◌∙◌, ◌∷◌, ◌≡◌}
 use Rattle.qd_doc.proofs.ValueLists.{values_kept, values_pushed, values_still, on_ok, on_err}
 use Rattle.qd_doc.proofs.values.push_stored.Goals as goal
 

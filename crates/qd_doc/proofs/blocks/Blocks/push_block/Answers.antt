@@ -1,6 +1,4 @@
-use Rattle.std.proofs.Common.{◌≡◌, [], ◌∷◌, ◌++◌, ◌∙◌, length, ap, sym, subst, arith}
-use Rattle.qd_doc.specs.Blocks.{block}
-use Rattle.qd_doc.specs.StoredBlocks.{AreBlocks, stored_blocks}
+use Rattle.qd_doc.proofs.Names.{AreBlocks, [], ap, arith, block, length, stored_blocks, subst, sym, ◌++◌, ◌∙◌, ◌∷◌, ◌≡◌}
 use Rattle.qd_doc.proofs.BlockLists.{block_pushed, block_still}
 use Rattle.qd_doc.proofs.blocks.Blocks.push_block.Goals as goal
 

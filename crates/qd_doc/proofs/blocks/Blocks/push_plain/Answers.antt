@@ -1,6 +1,4 @@
-use Rattle.std.proofs.Common.{◌<◌, ◌∙◌, length, ap, sym, subst}
-use Rattle.qd_doc.specs.Blocks.{last_rows, with_value}
-use Rattle.qd_doc.specs.StoredBlocks.{AreBlocks, stored_blocks}
+use Rattle.qd_doc.proofs.Names.{AreBlocks, ap, last_rows, length, stored_blocks, subst, sym, with_value, ◌<◌, ◌∙◌}
 use Rattle.qd_doc.proofs.ValueLists.{on_ok}
 use Rattle.qd_doc.proofs.BlockLists.{value_pushed, value_still, after}
 use Rattle.qd_doc.proofs.blocks.Blocks.push_plain.Goals as goal

@@ -1,6 +1,4 @@
-use Rattle.std.proofs.Common.{◌≡◌, ◌<◌, [], ◌∷◌, ◌++◌, ◌∙◌, length, ap, sym, subst, arith}
-use Rattle.qd_doc.specs.Blocks.{with_row}
-use Rattle.qd_doc.specs.StoredBlocks.{AreBlocks, stored_blocks}
+use Rattle.qd_doc.proofs.Names.{AreBlocks, [], ap, arith, length, stored_blocks, subst, sym, with_row, ◌++◌, ◌<◌, ◌∙◌, ◌∷◌, ◌≡◌}
 use Rattle.qd_doc.proofs.BlockLists.{row_pushed, row_still}
 use Rattle.qd_doc.proofs.blocks.Blocks.push_row.Goals as goal
 

@@ -1,6 +1,4 @@
-use Rattle.std.proofs.Common.{◌∙◌, ap, arith}
-use Rattle.std.proofs.lemmas.List.{get_or_read}
-use Rattle.qd_doc.specs.declared.head.Head.{Head}
+use Rattle.qd_doc.proofs.Names.{Head, ap, arith, get_or_read, ◌∙◌}
 use Rattle.qd_doc.proofs.BlockLists.{seen_by, listed, number_seen}
 use Rattle.qd_doc.proofs.blocks.Blocks.representative.Goals as goal
 

@@ -1,6 +1,4 @@
 use Rattle.std.proofs.Common.{◌≡◌, ◌+◌, ◌∙◌, [], length, get_or, ap, arith}
-use Rattle.std.specs.Prelude.{slice_index}
-use Rattle.qd_doc.specs.StoredBlocks.{head_at}
 use Rattle.qd_doc.proofs.BlockLists.{seen_by, listed, row_listed, value_inside, value_seen}
 use Rattle.qd_doc.proofs.blocks.Blocks.value.Goals as goal
 
