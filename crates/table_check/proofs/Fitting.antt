@@ -1,10 +1,10 @@
 -- A good table whose sides fit misses nothing.
-use Rattle.std.proofs.Common.{◌≡◌, ◌<◌, ◌*◌, ◌&&◌, ◌==◌, ℕ, suc, Bool, true, false, Option, Some, None, refl, ap, sym, ◌∙◌, subst, nat_le, eqb-true, eq-eqb, arith, if◌then◌else◌}
+use Rattle.std.proofs.Common.{◌≡◌, ◌<◌, ◌*◌, ◌&&◌, ℕ, suc, Bool, true, false, Option, Some, None, refl, ap, sym, ◌∙◌, nat_le, eqb-true, eq-eqb, arith}
 use Rattle.std.specs.Prelude.{is_some, IfSome}
 use Rattle.std.proofs.lemmas.Bool.{le-leb, false≢true}
 use Rattle.std.proofs.Math.Nat.{le-mul_of_pos_right}
-use Rattle.scan.specs.First.{first, option_or}
-use Rattle.scan.proofs.Places.{first_none-at, first_none, all_below-all}
+use Rattle.scan.specs.First.{first}
+use Rattle.scan.proofs.Places.{first_none-at, all_below-all}
 use Rattle.group_table.specs.Group.{identity_of}
 use Rattle.cyclotomic.specs.Cyclotomic.{cyclotomic}
 use Rattle.cyclotomic.specs.Ring.{value_one}
@@ -16,9 +16,7 @@ use Rattle.table_check.specs.Formed.{Formed, whole}
 use Rattle.table_check.specs.Sides.{unitary_left, unitary_right, twist_left, twist_right, central_left, central_right, product_left, product_right, sum_left, sum_right, column_left, column_right}
 use Rattle.table_check.specs.Good.{IsDegree, IsGood}
 use Rattle.table_check.specs.Fitting.{both_fit, SidesFit, GoodTablesMissNothing}
-use Rattle.table_check.specs.Check.{is_same, where_holds, unless_holds, agree, degree_of, twist_of, is_vacuum, has_vacuum, count_miss, degree_at, degree_miss, unitary_at, unitary_miss, twists_fit, twist_at, twist_miss, central_at, central_miss, product_at, product_miss, sum_at, sum_miss, column_at, column_miss, vacuum_miss, row_miss, algebra_miss, table_miss}
-use Rattle.table_check.specs.declared.miss.Clause.{Clause}
-use Rattle.table_check.specs.declared.miss.Clause.TheVariants.{Count, Degree, Unitary, Twist, Central, Product, Sum, Column, Vacuum}
+use Rattle.table_check.specs.Check.{is_same, where_holds, agree, degree_of, twist_of, is_vacuum, has_vacuum, twists_fit, table_miss}
 use Rattle.table_check.proofs.Found.{HoldsOfEach, holds_of_miss}
 use Rattle.table_check.proofs.Same.{is_same-Decides}
 

@@ -14,7 +14,7 @@ use Rattle.table_check.specs.Characters.{Characters}
 use Rattle.table_check.specs.Formed.{Formed, whole}
 use Rattle.table_check.specs.Sides.{unitary_left, unitary_right, twist_left, twist_right, central_left, central_right, product_left, product_right, sum_left, sum_right, column_left, column_right}
 use Rattle.table_check.specs.Good.{IsVacuum, IsGood}
-use Rattle.table_check.specs.Check.{is_same, where_holds, unless_holds, agree, degree_of, twist_of, is_vacuum, has_vacuum, count_miss, degree_at, degree_miss, unitary_at, unitary_miss, twists_fit, twist_at, twist_miss, central_at, central_miss, product_at, product_miss, sum_at, sum_miss, column_at, column_miss, vacuum_miss, row_miss, algebra_miss, table_miss}
+use Rattle.table_check.specs.Check.{is_same, where_holds, unless_holds, agree, degree_of, twist_of, is_vacuum, has_vacuum, count_miss, degree_at, degree_miss, unitary_miss, twists_fit, twist_at, twist_miss, central_miss, product_miss, sum_miss, column_miss, vacuum_miss, row_miss, algebra_miss, table_miss}
 use Rattle.table_check.specs.declared.miss.Clause.{Clause}
 use Rattle.table_check.specs.declared.miss.Clause.TheVariants.{Count, Degree, Unitary, Twist, Central, Product, Sum, Column, Vacuum}
 use Rattle.table_check.proofs.Same.{is_same-Decides}

@@ -1,4 +1,4 @@
-use Rattle.std.proofs.Common.{ap, ◌∙◌, rules}
+use Rattle.std.proofs.Common.{◌≡◌, rules, ap, ◌∙◌}
 use Rattle.twisted.specs.Twist.{size}
 use Rattle.table_check.specs.Characters.{characters_of}
 use Rattle.table_check.specs.Check.{sum_at}
@@ -9,7 +9,5 @@ pub returns : goal.returns
 returns g c =
     let s = c.args.table.now.over in
     let table = characters_of g.row.K c.args.table.now.rows in
-    record {
-      finds = finds_first s table c.first_answer.result c.size-places.result (size c.args.table.now.over) (sum_at s table) c.first_answer.ensures.first
-          (c.size-places.ensures.size ∙ ap (λ s. size s) (c.over.ensures.over ∙ ap (λ t. t.over) c.candidate.ensures.candidate)) (λ i r below is. search rules);
-    }
+    let places : c.size-places.result ≡ size s = c.size-places.ensures.size ∙ ap (λ s. size s) (c.over.ensures.over ∙ ap (λ t. t.over) c.candidate.ensures.candidate) in
+    record { finds = finds_first s table _ _ _ (sum_at s table) c.first_answer.ensures.first places (λ i r below is. search rules) }

@@ -1,4 +1,4 @@
-use Rattle.std.proofs.Common.{length, rules}
+use Rattle.std.proofs.Common.{◌≡◌, rules, length}
 use Rattle.table_check.specs.Characters.{characters_of}
 use Rattle.table_check.specs.Check.{degree_at}
 use Rattle.table_check.proofs.Walks.{finds_first}
@@ -8,7 +8,5 @@ pub returns : goal.returns
 returns g c =
     let s = c.args.table.now.over in
     let table = characters_of g.row.K c.args.table.now.rows in
-    record {
-      finds = finds_first s table c.first_answer.result c.rows-rows.result (length c.args.table.now.rows) (degree_at s table) c.first_answer.ensures.first
-          c.rows-rows.ensures.rows (λ i r below is. search rules);
-    }
+    let rows : c.rows-rows.result ≡ length c.args.table.now.rows = c.rows-rows.ensures.rows in
+    record { finds = finds_first s table _ _ _ (degree_at s table) c.first_answer.ensures.first rows (λ i r below is. search rules) }

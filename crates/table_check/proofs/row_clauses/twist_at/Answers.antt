@@ -1,4 +1,4 @@
-use Rattle.std.proofs.Common.{◌≡◌, ◌&&◌, Bool, true, false, not, ap, refl, rules}
+use Rattle.std.proofs.Common.{◌≡◌, ◌&&◌, false, ap, rules}
 use Rattle.std.specs.Prelude.{is_some}
 use Rattle.scan.proofs.Places.{and_false}
 use Rattle.table_check.specs.Characters.{characters_of}
