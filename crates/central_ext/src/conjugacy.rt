@@ -39,7 +39,8 @@ fn carries_to(twist: &Twist, a: Pair, b: Pair, c: u32) -> bool
 /// Whether the pairs over some place carry `a` to `b`.
 fn some_carries(twist: &Twist, a: Pair, b: Pair) -> bool
     requires a { IsPair twist.now a }
-    ensures some { result ≡ is_some (first (size twist.now) (λ c. if carries_to twist.now a b c then Some c else None)) }
+    ensures some { result ≡ is_some (first (size twist.now)
+        (λ c. if carries_to twist.now a b c then Some c else None)) }
     ensures twist { IsTwist twist.now }
 {
     first_below(
@@ -58,7 +59,8 @@ pub fn lifts_conjugate(twist: &Twist, p: u32, i: u32, j: u32) -> bool
     requires p_below { p < size twist.now }
     requires i_below { i < twist.now.modulus }
     requires j_below { j < twist.now.modulus }
-    ensures conjugate { result ≡ are_conjugate twist.now (record { place = p; root = i }) (record { place = p; root = j }) }
+    ensures conjugate { result ≡ are_conjugate twist.now
+        (record { place = p; root = i }) (record { place = p; root = j }) }
 {
     some_carries(
         twist,
@@ -108,7 +110,8 @@ fn first_of_class(twist: &Twist, t: u32) -> u32
 /// The first pair has the number 0, and each pair that is conjugate to none before it the next number.
 pub fn ext_classes(alloc: Global, twist: &Twist) -> Result<Nats, Memory>
     ensures size { IfOk result (λ numbers. length numbers ≡ pair_count twist.now) }
-    ensures numbers { IfOk result (λ numbers. (t : ℕ) → t < pair_count twist.now → slice_index numbers t ≡ class_number twist.now t) }
+    ensures numbers { IfOk result (λ numbers. (t : ℕ) → t < pair_count twist.now
+        → slice_index numbers t ≡ class_number twist.now t) }
 {
     let mut numbers = Nats::empty(alloc);
     let mut next = 0;

@@ -40,9 +40,12 @@ fn lifted_value<const K: u32>(
     requires degree_below { degree < powers.now.q }
     requires degree_small { degree ≤ 60 }
     requires x_below { x < size twist.now }
-    ensures faultless { IfOk result (λ value. place_fault twist.now powers.now.q powers.now.conductor powers.now.root row ratios.now degree x ≡ None) }
-    ensures value { IfOk result (λ value. value.coefficients ≡ array_of (lifted_value twist.now powers.now.q powers.now.conductor powers.now.root ratios.now degree x)) }
-    ensures refused { IfErr result (λ why. Refuses why (place_fault twist.now powers.now.q powers.now.conductor powers.now.root row ratios.now degree x)) }
+    ensures faultless { IfOk result (λ value.
+        place_fault twist.now powers.now.q powers.now.conductor powers.now.root row ratios.now degree x ≡ None) }
+    ensures value { IfOk result (λ value. value.coefficients
+        ≡ array_of (lifted_value twist.now powers.now.q powers.now.conductor powers.now.root ratios.now degree x)) }
+    ensures refused { IfErr result (λ why.
+        Refuses why (place_fault twist.now powers.now.q powers.now.conductor powers.now.root row ratios.now degree x)) }
 {
     let values = power_values(alloc, twist, powers, ratios, degree, x)?;
     let counts = multiplicities(alloc, powers, &values)?;
@@ -75,9 +78,14 @@ fn push_row<const K: u32>(
     requires degree_below { degree < powers.now.q }
     requires degree_small { degree ≤ 60 }
     requires room { length rows.old + 1 < 2 ^ 32 }
-    ensures faultless { OnOk result (first (size twist.now) (place_fault twist.now powers.now.q powers.now.conductor powers.now.root row ratios.now degree) ≡ None) }
-    ensures added { OnOk result (rows.new ≡ rows.old ++ table_of (size twist.now) (λ x. array_of (lifted_value twist.now powers.now.q powers.now.conductor powers.now.root ratios.now degree x)) ∷ []) }
-    ensures refused { IfErr result (λ why. Refuses why (first (size twist.now) (place_fault twist.now powers.now.q powers.now.conductor powers.now.root row ratios.now degree))) }
+    ensures faultless { OnOk result (first (size twist.now)
+        (place_fault twist.now powers.now.q powers.now.conductor powers.now.root row ratios.now degree) ≡ None) }
+    ensures added { OnOk result (rows.new ≡ rows.old
+        ++ table_of (size twist.now) (λ x.
+        array_of (lifted_value twist.now powers.now.q powers.now.conductor powers.now.root ratios.now degree x)) ∷ []) }
+    ensures refused { IfErr result (λ why.
+        Refuses why (first (size twist.now)
+        (place_fault twist.now powers.now.q powers.now.conductor powers.now.root row ratios.now degree))) }
 {
     rows.push_row()?;
     for x in 0..twist.size() {
@@ -102,8 +110,10 @@ fn lift_row<const K: u32>(
     requires over { size twist.now < powers.now.q }
     requires room { length rows.old + 1 < 2 ^ 32 }
     ensures faultless { OnOk result (row_fault twist.now powers.now.q powers.now.conductor powers.now.root row ratios.now ≡ None) }
-    ensures added { OnOk result (rows.new ≡ rows.old ++ lifted_row twist.now powers.now.q powers.now.conductor powers.now.root ratios.now ∷ []) }
-    ensures refused { IfErr result (λ why. Refuses why (row_fault twist.now powers.now.q powers.now.conductor powers.now.root row ratios.now)) }
+    ensures added { OnOk result (rows.new ≡ rows.old
+        ++ lifted_row twist.now powers.now.q powers.now.conductor powers.now.root ratios.now ∷ []) }
+    ensures refused { IfErr result (λ why. Refuses why
+        (row_fault twist.now powers.now.q powers.now.conductor powers.now.root row ratios.now)) }
 {
     let s = degree_sum(twist, powers, ratios);
     let Some(degree) = least_degree(powers, twist.size(), s) else {
@@ -127,10 +137,17 @@ pub fn lift<const K: u32>(
     requires multiple { K % twist.now.modulus ≡ 0 }
     requires over { size twist.now < ring.now.q }
     requires width { central.now.width ≡ rank twist.now }
-    requires values { (i t : ℕ) → i < length central.now.lists → t < rank twist.now → central_value central.now i t < ring.now.q }
-    ensures faultless { IfOk result (λ rows. lift_fault twist.now ring.now.q ring.now.conductor ring.now.root (length central.now.lists) (central_value central.now) ≡ None) }
-    ensures rows { IfOk result (λ rows. rows ≡ lifted_rows twist.now ring.now.q ring.now.conductor ring.now.root (length central.now.lists) (central_value central.now)) }
-    ensures refused { IfErr result (λ why. Refuses why (lift_fault twist.now ring.now.q ring.now.conductor ring.now.root (length central.now.lists) (central_value central.now))) }
+    requires values { (i t : ℕ) → i < length central.now.lists
+        → t < rank twist.now → central_value central.now i t < ring.now.q }
+    ensures faultless { IfOk result (λ rows.
+        lift_fault twist.now ring.now.q ring.now.conductor ring.now.root
+        (length central.now.lists) (central_value central.now) ≡ None) }
+    ensures rows { IfOk result (λ rows. rows
+        ≡ lifted_rows twist.now ring.now.q ring.now.conductor ring.now.root
+        (length central.now.lists) (central_value central.now)) }
+    ensures refused { IfErr result (λ why.
+        Refuses why (lift_fault twist.now ring.now.q ring.now.conductor ring.now.root
+        (length central.now.lists) (central_value central.now))) }
 {
     let powers = RootPowers::of(alloc, ring)?;
     let shares = Shares::of(alloc, twist, &powers)?;

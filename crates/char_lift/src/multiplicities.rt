@@ -26,7 +26,9 @@ pub(crate) fn power_values(
     requires below { AreBelow powers.now.q ratios.now }
     requires degree_below { degree < powers.now.q }
     requires x_below { x < size twist.now }
-    ensures values { IfOk result (λ values. values ≡ table_of powers.now.conductor (λ j. power_value twist.now powers.now.q powers.now.conductor powers.now.root ratios.now degree x j % powers.now.q)) }
+    ensures values { IfOk result (λ values. values
+        ≡ table_of powers.now.conductor (λ j.
+        power_value twist.now powers.now.q powers.now.conductor powers.now.root ratios.now degree x j % powers.now.q)) }
 {
     let group = twist.group();
     let mut values = Nats::empty(alloc);
@@ -48,7 +50,8 @@ fn inverse_transform(powers: &RootPowers, inverse: u32, values: &Nats, i: u32) -
     requires count { length values.now ≡ powers.now.conductor }
     requires below { AreBelow powers.now.q values.now }
     requires i_below { i < powers.now.conductor }
-    ensures transform { result ≡ inverse_transform powers.now.q powers.now.conductor powers.now.root (slice_index values.now) i }
+    ensures transform { result ≡ inverse_transform powers.now.q powers.now.conductor powers.now.root
+        (slice_index values.now) i }
     ensures below { result < powers.now.q }
 {
     let conductor = powers.conductor();
@@ -67,7 +70,8 @@ pub(crate) fn multiplicities(
 ) -> Result<Nats, Memory>
     requires count { length values.now ≡ powers.now.conductor }
     requires below { AreBelow powers.now.q values.now }
-    ensures multiplicities { IfOk result (λ numbers. numbers ≡ table_of powers.now.conductor (inverse_transform powers.now.q powers.now.conductor powers.now.root (slice_index values.now))) }
+    ensures multiplicities { IfOk result (λ numbers. numbers
+        ≡ table_of powers.now.conductor (inverse_transform powers.now.q powers.now.conductor powers.now.root (slice_index values.now))) }
 {
     let inverse = powers.inverse(powers.conductor());
     tabulate(

@@ -67,8 +67,10 @@ pub(crate) struct Shares {
 impl Shares {
     /// The class numbers and factors of all places of the twist.
     pub(crate) fn of(alloc: Global, twist: &Twist, powers: &RootPowers) -> Result<Shares, Memory>
-        ensures numbers { IfOk result (λ shares. shares.numbers ≡ table_of (size twist.now) (regular_number twist.now)) }
-        ensures factors { IfOk result (λ shares. shares.factors ≡ table_of (size twist.now) (class_factor twist.now powers.now.q powers.now.conductor powers.now.root)) }
+        ensures numbers { IfOk result (λ shares. shares.numbers
+            ≡ table_of (size twist.now) (regular_number twist.now)) }
+        ensures factors { IfOk result (λ shares. shares.factors ≡ table_of (size twist.now)
+            (class_factor twist.now powers.now.q powers.now.conductor powers.now.root)) }
     {
         let classes = Classes::of(alloc, twist.group())?;
         let representatives = regular_reps(alloc, twist)?;
@@ -96,11 +98,13 @@ fn character_ratio(
     y: u32,
 ) -> u32
     requires numbers { shares.now.numbers ≡ table_of (size twist.now) (regular_number twist.now) }
-    requires factors { shares.now.factors ≡ table_of (size twist.now) (class_factor twist.now powers.now.q powers.now.conductor powers.now.root) }
+    requires factors { shares.now.factors ≡ table_of (size twist.now)
+        (class_factor twist.now powers.now.q powers.now.conductor powers.now.root) }
     requires some { 0 < rank twist.now }
     requires width { central.now.width ≡ rank twist.now }
     requires row_below { row < length central.now.lists }
-    requires values { (t : ℕ) → t < rank twist.now → central_value central.now row t < powers.now.q }
+    requires values { (t : ℕ) → t < rank twist.now
+        → central_value central.now row t < powers.now.q }
     requires y_below { y < size twist.now }
     ensures ratio { result ≡ character_ratio twist.now powers.now.q powers.now.conductor powers.now.root (central_value central.now row) y }
     ensures below { result < powers.now.q }
@@ -121,12 +125,16 @@ pub(crate) fn character_ratios(
     row: u32,
 ) -> Result<Nats, Memory>
     requires numbers { shares.now.numbers ≡ table_of (size twist.now) (regular_number twist.now) }
-    requires factors { shares.now.factors ≡ table_of (size twist.now) (class_factor twist.now powers.now.q powers.now.conductor powers.now.root) }
+    requires factors { shares.now.factors ≡ table_of (size twist.now)
+        (class_factor twist.now powers.now.q powers.now.conductor powers.now.root) }
     requires some { 0 < rank twist.now }
     requires width { central.now.width ≡ rank twist.now }
     requires row_below { row < length central.now.lists }
-    requires values { (t : ℕ) → t < rank twist.now → central_value central.now row t < powers.now.q }
-    ensures ratios { IfOk result (λ ratios. ratios ≡ character_ratios twist.now powers.now.q powers.now.conductor powers.now.root (central_value central.now row)) }
+    requires values { (t : ℕ) → t < rank twist.now
+        → central_value central.now row t < powers.now.q }
+    ensures ratios { IfOk result (λ ratios. ratios
+        ≡ character_ratios twist.now powers.now.q powers.now.conductor powers.now.root
+        (central_value central.now row)) }
 {
     tabulate(
         alloc,

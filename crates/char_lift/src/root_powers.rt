@@ -26,7 +26,8 @@ impl Model for RootPowers {
 
     ghost view = { λ table. table.field };
 
-    ghost invariant = { λ table. ListsPowers table.field.q table.field.root (suc table.field.conductor) table.powers };
+    ghost invariant = { λ table.
+        ListsPowers table.field.q table.field.root (suc table.field.conductor) table.powers };
 }
 
 impl RootPowers {
@@ -83,7 +84,8 @@ impl RootPowers {
     /// The inverse of the residue of the root of unity with the exponent `v`.
     pub(crate) fn inverse_root(&self, twist: &Twist, v: u32) -> u32
         requires at_most { v ≤ twist.now.modulus }
-        ensures inverse { result ≡ inverse_root twist.now self.now.q self.now.conductor self.now.root v }
+        ensures inverse { result
+            ≡ inverse_root twist.now self.now.q self.now.conductor self.now.root v }
         ensures below { result < self.now.q }
     {
         self.root(twist, twist.modulus() - v)

@@ -11,7 +11,8 @@ pub(crate) fn tabulate<F: Fn(u32) -> u32>(alloc: Global, n: u32, at: F) -> Resul
 where
     F: Drop,
     requires callable { (i : ℕ) → i < n → F.pre at i }
-    ensures table { (value : ℕ → ℕ) → ((i r : ℕ) → i < n → F.post at i r → r ≡ value i) → IfOk result (λ numbers. numbers ≡ table_of n value) }
+    ensures table { (value : ℕ → ℕ) → ((i r : ℕ) → i < n → F.post at i r → r ≡ value i)
+        → IfOk result (λ numbers. numbers ≡ table_of n value) }
 {
     let mut numbers = Nats::empty(alloc);
     for i in 0..n {

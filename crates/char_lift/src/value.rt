@@ -17,7 +17,9 @@ use qd_ring::{Cyc, Root};
 fn plus_copies<const K: u32>(value: &Cyc<K>, count: u32, e: u32) -> Cyc<K>
     requires conductor { is_conductor K ≡ true }
     requires small { value_size (cyclotomic_value K value.now.coefficients) + count ≤ 60 }
-    ensures sum { cyclotomic_value K result.coefficients ≡ value_sum (cyclotomic_value K value.now.coefficients) (multiple (cyclotomic_ring K) count (root K e)) }
+    ensures sum { cyclotomic_value K result.coefficients
+        ≡ value_sum (cyclotomic_value K value.now.coefficients)
+        (multiple (cyclotomic_ring K) count (root K e)) }
 {
     let copy = Cyc::from_root(Root::new(e));
     let mut sum = *value;
@@ -35,7 +37,8 @@ pub(crate) fn with_multiplicities<const K: u32>(multiplicities: &Nats) -> Cyc<K>
     requires conductor { is_conductor K ≡ true }
     requires count { length multiplicities.now ≡ K }
     requires few { sum_of K (slice_index multiplicities.now) ≤ 60 }
-    ensures value { result.coefficients ≡ array_of (with_multiplicities K (slice_index multiplicities.now)) }
+    ensures value { result.coefficients
+        ≡ array_of (with_multiplicities K (slice_index multiplicities.now)) }
 {
     let mut value = Cyc::zero();
     for i in 0..K {

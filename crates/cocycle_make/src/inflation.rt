@@ -55,7 +55,8 @@ fn image_value(group: &Group, map: &Nats, w: &Cocycle, x: u32, y: u32, z: u32) -
     requires x_below { x < group.now.order }
     requires y_below { y < group.now.order }
     requires z_below { z < group.now.order }
-    ensures exponent { result ≡ value w.now (slice_index map.now x) (slice_index map.now y) (slice_index map.now z) }
+    ensures exponent { result ≡ value w.now (slice_index map.now x)
+        (slice_index map.now y) (slice_index map.now z) }
 {
     w.value(map.at(x), map.at(y), map.at(z))
 }
@@ -73,7 +74,8 @@ pub fn inflate(
     requires elements { (g : ℕ) → g < group.order → slice_index map.now g < from.now.group.order }
     ensures made { IfOk result (λ w.
         (map_fault group map.now from.now.group ≡ None) × (w ≡ inflated group map.now from.now)) }
-    ensures refused { IfErr result (λ refusal. RefusesMap refusal (map_fault group map.now from.now.group)) }
+    ensures refused { IfErr result (λ refusal.
+        RefusesMap refusal (map_fault group map.now from.now.group)) }
 {
     match map_fault(&group, map, from.group()) {
         Some(refusal) => Err(refusal),

@@ -74,7 +74,8 @@ pub fn type_two(alloc: Global, a: u32, b: u32, p: u32) -> Result<Cocycle, MakeRe
 /// common divisor of `t` and `p`, the exponent at three triples is `(p/g) x1 y2 z3` modulo `t/g`. It is refused
 /// exactly where the order is not from 1 to 60.
 pub fn type_three(alloc: Global, a: u32, b: u32, c: u32, p: u32) -> Result<Cocycle, MakeRefusal>
-    ensures made { IfOk result (λ w. (size_fault (a * b * c) ≡ None) × (w ≡ type_three_cocycle a b c p)) }
+    ensures made { IfOk result (λ w. (size_fault (a * b * c) ≡ None)
+        × (w ≡ type_three_cocycle a b c p)) }
     ensures refused { IfErr result (λ refusal. Refuses refusal (size_fault (a * b * c))) }
 {
     let group = product(alloc, a, b, c)?;

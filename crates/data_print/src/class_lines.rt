@@ -26,8 +26,10 @@ fn class_line(alloc: Global, classes: &Classes, c: u32, rank: u32) -> Result<Str
 /// Adds the lines of all classes. After `Memory` some of them are added.
 fn append_class_lines(out: &mut Vec<u8>, classes: &Classes, ranks: &Nats) -> Result<(), Memory>
     requires one_each { length ranks.now ≡ length (representatives classes.now) }
-    ensures added { OnOk result (out.new.items ≡ out.old.items ++ class_lines classes.now ranks.now) }
-    ensures front { OnErr result (AddsFront out.old.items out.new.items (class_lines classes.now ranks.now)) }
+    ensures added { OnOk result (out.new.items ≡ out.old.items
+        ++ class_lines classes.now ranks.now) }
+    ensures front { OnErr result (AddsFront out.old.items out.new.items
+        (class_lines classes.now ranks.now)) }
 {
     let alloc = *out.allocator();
     for c in 0..classes.count() {
@@ -64,8 +66,10 @@ fn append_simples(out: &mut Vec<u8>, ranks: &Nats) -> Result<(), Memory>
 pub fn append_classes(out: &mut Vec<u8>, classes: &Classes, ranks: &Nats) -> Result<(), Memory>
     requires one_each { length ranks.now ≡ length (representatives classes.now) }
     requires small { All (λ rank. rank ≤ 60) ranks.now }
-    ensures added { OnOk result (out.new.items ≡ out.old.items ++ classes_text classes.now ranks.now) }
-    ensures front { OnErr result (AddsFront out.old.items out.new.items (classes_text classes.now ranks.now)) }
+    ensures added { OnOk result (out.new.items ≡ out.old.items
+        ++ classes_text classes.now ranks.now) }
+    ensures front { OnErr result (AddsFront out.old.items out.new.items
+        (classes_text classes.now ranks.now)) }
 {
     // The classes promise here that they are at most 60, which bounds the sum of the ranks.
     let _count = classes.count();

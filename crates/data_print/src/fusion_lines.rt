@@ -19,7 +19,8 @@ fn number_line(alloc: Global, i: u32, j: u32, k: u32, count: u32) -> Result<Stri
 fn append_product(text: &mut Vec<u8>, web: &Web, i: u32, j: u32) -> Result<(), Memory>
     requires i_below { i < web.now.simples }
     requires j_below { j < web.now.simples }
-    ensures added { OnOk result (text.new.items ≡ text.old.items ++ product_text web.now.simples (count_of web.now) i j) }
+    ensures added { OnOk result (text.new.items ≡ text.old.items
+        ++ product_text web.now.simples (count_of web.now) i j) }
 {
     let alloc = *text.allocator();
     for (k, count) in web.row(i, j) {
@@ -32,7 +33,8 @@ fn append_product(text: &mut Vec<u8>, web: &Web, i: u32, j: u32) -> Result<(), M
 /// Adds the lines of the products of `i` with each simple.
 fn append_products(text: &mut Vec<u8>, web: &Web, i: u32) -> Result<(), Memory>
     requires i_below { i < web.now.simples }
-    ensures added { OnOk result (text.new.items ≡ text.old.items ++ products_text web.now.simples (count_of web.now) i) }
+    ensures added { OnOk result (text.new.items ≡ text.old.items
+        ++ products_text web.now.simples (count_of web.now) i) }
 {
     for j in 0..web.simples() {
         append_product(text, web, i, j)?;
@@ -42,7 +44,8 @@ fn append_products(text: &mut Vec<u8>, web: &Web, i: u32) -> Result<(), Memory>
 
 /// The lines of all numbers.
 fn fusion_text(alloc: Global, web: &Web) -> Result<Vec<u8>, Memory>
-    ensures text { IfOk result (λ text. text.items ≡ fusion_text web.now.simples (count_of web.now)) }
+    ensures text { IfOk result (λ text. text.items
+        ≡ fusion_text web.now.simples (count_of web.now)) }
 {
     let mut text = Vec::new(alloc);
     for i in 0..web.simples() {
@@ -53,7 +56,8 @@ fn fusion_text(alloc: Global, web: &Web) -> Result<Vec<u8>, Memory>
 
 /// Adds a line for each fusion number that is not 0, by i, then j, then k. After `Memory` the text is as before.
 pub fn append_fusion(out: &mut Vec<u8>, web: &Web) -> Result<(), Memory>
-    ensures added { OnOk result (out.new.items ≡ out.old.items ++ fusion_text web.now.simples (count_of web.now)) }
+    ensures added { OnOk result (out.new.items ≡ out.old.items
+        ++ fusion_text web.now.simples (count_of web.now)) }
     ensures unchanged { OnErr result (out.new.items ≡ out.old.items) }
 {
     let alloc = *out.allocator();

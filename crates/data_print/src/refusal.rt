@@ -49,7 +49,8 @@ fn name_word(name: IdentityName) -> &'static str
 
 /// The line of a token where another was expected.
 fn syntax_line(alloc: Global, offset: u32, expected: Expected) -> Result<String, Memory>
-    ensures line { IfOk result (λ text. string_bytes text ≡ line_of (Cause.Syntax offset expected)) }
+    ensures line { IfOk result (λ text. string_bytes text
+        ≡ line_of (Cause.Syntax offset expected)) }
 {
     let word = expected.text();
     format!(in alloc; "refused 3 syntax {offset} {word}\n")
@@ -85,7 +86,8 @@ fn cocycle_line(alloc: Global, fault: CocycleFault) -> Result<String, Memory>
 
 /// The line of a stated conductor that is not the one that is needed.
 fn stated_line(alloc: Global, stated: u32, needed: u32) -> Result<String, Memory>
-    ensures line { IfOk result (λ text. string_bytes text ≡ line_of (Cause.Conductor stated needed)) }
+    ensures line { IfOk result (λ text. string_bytes text
+        ≡ line_of (Cause.Conductor stated needed)) }
 {
     format!(in alloc; "refused 6 stated {stated} needed {needed}\n")
 }
@@ -208,7 +210,8 @@ fn identity_start(
 /// The two sides of an equation after what stands before them, and the end of the line.
 #[tactic(auto, using(std::proofs::Common::append_assoc))]
 fn with_sides(start: String, left: &Plain, right: &Plain) -> Result<Vec<u8>, Memory>
-    ensures line { IfOk result (λ text. text.items ≡ string_bytes start ++ sides_text left.now right.now) }
+    ensures line { IfOk result (λ text. text.items ≡ string_bytes start
+        ++ sides_text left.now right.now) }
 {
     let mut line = start.into_bytes();
     append_plain(&mut line, left)?;
@@ -220,7 +223,8 @@ fn with_sides(start: String, left: &Plain, right: &Plain) -> Result<Vec<u8>, Mem
 
 /// The bytes of a line that was made.
 fn bytes(line: Result<String, Memory>) -> Result<Vec<u8>, Memory>
-    ensures same { (text : List ℕ) → IfOk line (λ made. string_bytes made ≡ text) → IfOk result (λ bytes. bytes.items ≡ text) }
+    ensures same { (text : List ℕ) → IfOk line (λ made. string_bytes made ≡ text)
+        → IfOk result (λ bytes. bytes.items ≡ text) }
 {
     Ok(line?.into_bytes())
 }

@@ -24,7 +24,8 @@ fn s_head(alloc: Global, n: u32, i: u32) -> Result<String, Memory>
 #[tactic(auto, using(std::proofs::Common::append_assoc))]
 fn s_line<const K: u32>(alloc: Global, values: &Rows<K>, i: u32) -> Result<Vec<u8>, Memory>
     requires i_below { i < length values.now }
-    ensures line { IfOk result (λ text. text.items ≡ s_line i (map (λ coefficients. cyclotomic_value K coefficients) (row_at values.now i))) }
+    ensures line { IfOk result (λ text. text.items
+        ≡ s_line i (map (λ coefficients. cyclotomic_value K coefficients) (row_at values.now i))) }
 {
     let mut line = format!(in alloc; "S {i}")?.into_bytes();
     append_row(&mut line, values, i)?;

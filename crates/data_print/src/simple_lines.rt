@@ -40,7 +40,8 @@ fn append_values<const K: u32>(
     i: u32,
 ) -> Result<(), Memory>
     requires i_below { i < count K simples.now }
-    ensures added { OnOk result (text.new.items ≡ text.old.items ++ value_words (first_values K simples.now i (size (over_at K simples.now i)))) }
+    ensures added { OnOk result (text.new.items ≡ text.old.items
+        ++ value_words (first_values K simples.now i (size (over_at K simples.now i)))) }
 {
     for p in 0..places(simples, i) {
         append_value(text, &simples.value(i, p))?;
@@ -72,7 +73,8 @@ fn append_simple<const K: u32>(
     i: u32,
 ) -> Result<(), Memory>
     requires i_below { i < count K simples.now }
-    ensures added { OnOk result (text.new.items ≡ text.old.items ++ (simple_line K simples.now i ⧺ character_line K simples.now i)) }
+    ensures added { OnOk result (text.new.items ≡ text.old.items
+        ++ (simple_line K simples.now i ⧺ character_line K simples.now i)) }
 {
     let alloc = *text.allocator();
     let numbers = simple_line(alloc, simples, i)?;

@@ -14,7 +14,9 @@ pub(crate) fn plus_product(q: u32, a: u32, x: u32, y: u32) -> u32
     requires a_below { a < q }
     requires x_below { x < q }
     requires y_below { y < q }
-    ensures residue { (listed : is_modulus q ≡ true) → result ≡ ((field q listed).add (field_residue q listed a) ((field q listed).mul (field_residue q listed x) (field_residue q listed y))).value }
+    ensures residue { (listed : is_modulus q ≡ true) → result
+        ≡ ((field q listed).add (field_residue q listed a)
+        ((field q listed).mul (field_residue q listed x) (field_residue q listed y))).value }
     ensures below { result < q }
 {
     let product = x * y;
@@ -29,7 +31,8 @@ pub(crate) fn minus(q: u32, a: u32, b: u32) -> u32
     requires modulus { is_modulus q ≡ true }
     requires a_below { a < q }
     requires b_below { b < q }
-    ensures residue { (listed : is_modulus q ≡ true) → result ≡ ((field q listed).add (field_residue q listed a) ((field q listed).neg (field_residue q listed b))).value }
+    ensures residue { (listed : is_modulus q ≡ true) → result ≡ ((field q listed).add
+        (field_residue q listed a) ((field q listed).neg (field_residue q listed b))).value }
     ensures below { result < q }
 {
     (a + (q - b) % q) % q
@@ -50,7 +53,8 @@ pub(crate) fn tabulate<F: Fn(u32) -> u32>(alloc: Global, n: u32, at: F) -> Resul
 where
     F: Drop,
     requires callable { (i : ℕ) → i < n → F.pre at i }
-    ensures values { (value : ℕ → ℕ) → ((i r : ℕ) → i < n → F.post at i r → r ≡ value i) → IfOk result (λ numbers. IsTabulated n value numbers.items) }
+    ensures values { (value : ℕ → ℕ) → ((i r : ℕ) → i < n → F.post at i r → r ≡ value i)
+        → IfOk result (λ numbers. IsTabulated n value numbers.items) }
 {
     let mut numbers = Vec::new(alloc);
     for i in 0..n {

@@ -22,7 +22,8 @@ impl Model for Central {
 
     ghost view = { λ central. central_lists central.width central.values };
 
-    ghost invariant = { λ central. (1 ≤ central.width) × (length central.values % central.width ≡ 0) };
+    ghost invariant = { λ central. (1 ≤ central.width)
+        × (length central.values % central.width ≡ 0) };
 }
 
 impl Central {

@@ -74,7 +74,8 @@ fn class_sums(
 ) -> Result<Vec<u32>, Memory>
     requires places { places.now ≡ regular_representatives twist.now }
     requires count { count ≡ rank twist.now * size twist.now }
-    ensures sums { IfOk result (λ sums. IsTabulated count (sum_number ring.now twist.now) sums.items) }
+    ensures sums { IfOk result (λ sums.
+        IsTabulated count (sum_number ring.now twist.now) sums.items) }
 {
     tabulate(alloc, count, |n| sum_at(ring, twist, places, n))
 }
@@ -97,7 +98,9 @@ fn plus_term(ring: &ModRing, twist: &Twist, a: &[u32], b: &[u32], x: u32, y: u32
     requires x_below { x < size twist.now }
     requires y_below { y < size twist.now }
     requires sum_below { sum < ring.now.q }
-    ensures sum { result ≡ ((residue_field ring.now).add (field_residue ring.now.q ring.now.listed sum) (term_at ring.now twist.now a.now b.now x y)).value }
+    ensures sum { result ≡ ((residue_field ring.now).add
+        (field_residue ring.now.q ring.now.listed sum)
+        (term_at ring.now twist.now a.now b.now x y)).value }
     ensures below { result < ring.now.q }
 {
     let first = a[y as usize];
@@ -135,7 +138,8 @@ fn product_at(ring: &ModRing, twist: &Twist, a: &[u32], b: &[u32], x: u32) -> u3
 // The number of a class sum in the product of two, for the three that `n` stands for.
 fn constant_at(ring: &ModRing, twist: &Twist, places: &Nats, sums: &[u32], n: u32) -> u32
     requires places { places.now ≡ regular_representatives twist.now }
-    requires sums { IsTabulated (rank twist.now * size twist.now) (sum_number ring.now twist.now) sums.now }
+    requires sums { IsTabulated (rank twist.now * size twist.now)
+        (sum_number ring.now twist.now) sums.now }
     requires n_below { n < rank twist.now * rank twist.now * rank twist.now }
     ensures value { result ≡ constant_number ring.now twist.now n }
     ensures below { result < ring.now.q }
@@ -157,9 +161,11 @@ fn constants(
     count: u32,
 ) -> Result<Vec<u32>, Memory>
     requires places { places.now ≡ regular_representatives twist.now }
-    requires sums { IsTabulated (rank twist.now * size twist.now) (sum_number ring.now twist.now) sums.now }
+    requires sums { IsTabulated (rank twist.now * size twist.now)
+        (sum_number ring.now twist.now) sums.now }
     requires count { count ≡ rank twist.now * rank twist.now * rank twist.now }
-    ensures constants { IfOk result (λ constants. IsTabulated count (constant_number ring.now twist.now) constants.items) }
+    ensures constants { IfOk result (λ constants.
+        IsTabulated count (constant_number ring.now twist.now) constants.items) }
 {
     tabulate(alloc, count, |n| constant_at(ring, twist, places, sums, n))
 }

@@ -47,7 +47,8 @@ pub(crate) fn image_at(algebra: &Structure, t: u32, e: &[u32], k: u32) -> u32
 fn image_numbers(alloc: Global, algebra: &Structure, t: u32, e: &[u32]) -> Result<Vec<u32>, Memory>
     requires t_below { t < algebra.now.rank }
     requires element { IsElement algebra.now.q algebra.now.rank e.now }
-    ensures values { IfOk result (λ next. IsTabulated algebra.now.rank (image_value algebra.now t e.now) next.items) }
+    ensures values { IfOk result (λ next.
+        IsTabulated algebra.now.rank (image_value algebra.now t e.now) next.items) }
 {
     tabulate(alloc, algebra.rank, |k| image_at(algebra, t, e, k))
 }
@@ -62,7 +63,9 @@ pub(crate) fn image(
     requires t_below { t < algebra.now.rank }
     requires element { IsElement algebra.now.q algebra.now.rank e.now }
     ensures element { IfOk result (λ next. IsElement algebra.now.q algebra.now.rank next.items) }
-    ensures image { (Z : CommRing (Element algebra.now.q algebra.now.rank)) (H : HasStructure algebra.now Z) → IfOk result (λ next. residues algebra.now next.items ≡ Z.mul (H.basis t) (residues algebra.now e.now)) }
+    ensures image { (Z : CommRing (Element algebra.now.q algebra.now.rank))
+        (H : HasStructure algebra.now Z) → IfOk result
+        (λ next. residues algebra.now next.items ≡ Z.mul (H.basis t) (residues algebra.now e.now)) }
 {
     let next = image_numbers(alloc, algebra, t, e)?;
     Ok(next)
@@ -86,7 +89,8 @@ pub(crate) fn is_multiple(q: u32, rank: u32, image: &[u32], v: u32, e: &[u32]) -
     requires v_below { v < q }
     requires image { IsElement q rank image.now }
     requires element { IsElement q rank e.now }
-    ensures multiple { result ≡ all_below rank (λ k. slice_index image.now k == (v * slice_index e.now k) % q) }
+    ensures multiple { result ≡ all_below rank
+        (λ k. slice_index image.now k == (v * slice_index e.now k) % q) }
 {
     holds_below(rank, |k| is_multiple_at(q, rank, image, v, e, k))
 }

@@ -19,7 +19,8 @@ use std::alloc::Global;
 // The first place at which the element isn't 0.
 fn first_place(algebra: &Structure, e: &[u32]) -> Option<u32>
     requires element { IsElement algebra.now.q algebra.now.rank e.now }
-    ensures first { result ≡ first algebra.now.rank (λ k. if slice_index e.now k == 0 then None else Some k) }
+    ensures first { result ≡ first algebra.now.rank
+        (λ k. if slice_index e.now k == 0 then None else Some k) }
 {
     first_below(algebra.rank, |k| {
         if e[k as usize] == 0 { None } else { Some(k) }
@@ -31,7 +32,8 @@ fn quotient(q: u32, product: u32, factor: u32) -> u32
     requires modulus { is_modulus q ≡ true }
     requires factor_below { factor < q }
     ensures below { result < q }
-    ensures quotient { (v : ℕ) → v < q → product ≡ (v * factor) % q → product ≡ (result * factor) % q }
+    ensures quotient { (v : ℕ) → v < q → product ≡ (v * factor) % q → product
+        ≡ (result * factor) % q }
 {
     let least = first_below(q, |v| {
         if is_product(q, product, v, factor) {
@@ -49,7 +51,10 @@ fn value_of(algebra: &Structure, t: u32, e: &[u32]) -> u32
     requires t_below { t < algebra.now.rank }
     requires element { IsElement algebra.now.q algebra.now.rank e.now }
     ensures below { result < algebra.now.q }
-    ensures acts { (Z : CommRing (Element algebra.now.q algebra.now.rank)) (H : HasStructure algebra.now Z) → Acts Z algebra.now.q (H.basis t) (residues algebra.now e.now) → Z.mul (H.basis t) (residues algebra.now e.now) ≡ Z.mul (number Z result) (residues algebra.now e.now) }
+    ensures acts { (Z : CommRing (Element algebra.now.q algebra.now.rank))
+        (H : HasStructure algebra.now Z)
+        → Acts Z algebra.now.q (H.basis t) (residues algebra.now e.now) → Z.mul (H.basis t)
+        (residues algebra.now e.now) ≡ Z.mul (number Z result) (residues algebra.now e.now) }
 {
     match first_place(algebra, e) {
         Some(k) => quotient(algebra.q, image_at(algebra, t, e, k), e[k as usize]),
@@ -64,8 +69,10 @@ pub(crate) fn values(
     pieces: &[Vec<u32>],
 ) -> Result<Nats, Memory>
     requires count { length pieces.now ≡ algebra.now.rank }
-    requires elements { All (λ piece. IsElement algebra.now.q algebra.now.rank piece.items) pieces.now }
-    ensures values { IfOk result (AreValues algebra.now (map (λ piece. piece.items) pieces.now) (algebra.now.rank * algebra.now.rank)) }
+    requires elements { All (λ piece.
+        IsElement algebra.now.q algebra.now.rank piece.items) pieces.now }
+    ensures values { IfOk result (AreValues algebra.now
+        (map (λ piece. piece.items) pieces.now) (algebra.now.rank * algebra.now.rank)) }
 {
     let rank = algebra.rank;
     let mut values = Nats::empty(alloc);

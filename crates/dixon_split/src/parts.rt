@@ -21,7 +21,8 @@ use std::alloc::Global;
 fn powers(alloc: Global, algebra: &Structure, t: u32, e: &[u32]) -> Result<Vec<u32>, Memory>
     requires t_below { t < algebra.now.rank }
     requires element { IsElement algebra.now.q algebra.now.rank e.now }
-    ensures powers { IfOk result (λ powers. ArePowers algebra.now t e.now algebra.now.q powers.items) }
+    ensures powers { IfOk result (λ powers.
+        ArePowers algebra.now t e.now algebra.now.q powers.items) }
 {
     let mut powers = Vec::new(alloc);
     let mut power = Vec::from_slice(alloc, e)?;
@@ -59,7 +60,8 @@ fn part_numbers(
     requires count { length powers.now ≡ algebra.now.q * algebra.now.rank }
     requires below { AreBelow algebra.now.q powers.now }
     requires v_below { v < algebra.now.q }
-    ensures values { IfOk result (λ part. IsTabulated algebra.now.rank (part_value algebra.now powers.now v) part.items) }
+    ensures values { IfOk result (λ part.
+        IsTabulated algebra.now.rank (part_value algebra.now powers.now v) part.items) }
 {
     tabulate(alloc, algebra.rank, |k| part_at(algebra, powers, v, k))
 }
@@ -70,7 +72,11 @@ fn part(alloc: Global, algebra: &Structure, powers: &[u32], v: u32) -> Result<Ve
     requires below { AreBelow algebra.now.q powers.now }
     requires v_below { v < algebra.now.q }
     ensures element { IfOk result (λ part. IsElement algebra.now.q algebra.now.rank part.items) }
-    ensures part { (Z : CommRing (Element algebra.now.q algebra.now.rank)) (H : HasStructure algebra.now Z) (t : ℕ) (e : List ℕ) → ArePowers algebra.now t e algebra.now.q powers.now → IfOk result (λ numbers. residues algebra.now numbers.items ≡ part Z algebra.now.q (H.basis t) (residues algebra.now e) v) }
+    ensures part { (Z : CommRing (Element algebra.now.q algebra.now.rank))
+        (H : HasStructure algebra.now Z) (t : ℕ) (e : List ℕ)
+        → ArePowers algebra.now t e algebra.now.q powers.now
+        → IfOk result (λ numbers. residues algebra.now numbers.items
+        ≡ part Z algebra.now.q (H.basis t) (residues algebra.now e) v) }
 {
     let part = part_numbers(alloc, algebra, powers, v)?;
     Ok(part)
@@ -95,9 +101,18 @@ fn push_part(
     requires count { length powers.now ≡ algebra.now.q * algebra.now.rank }
     requires below { AreBelow algebra.now.q powers.now }
     requires v_below { v < algebra.now.q }
-    requires elements { All (λ piece. IsElement algebra.now.q algebra.now.rank piece.items) pieces.old.items }
-    ensures elements { OnOk result (All (λ piece. IsElement algebra.now.q algebra.now.rank piece.items) pieces.new.items) }
-    ensures part { (Z : CommRing (Element algebra.now.q algebra.now.rank)) (T : ZeroTest Z) (H : HasStructure algebra.now Z) (t : ℕ) (e : List ℕ) (before : List (Element algebra.now.q algebra.now.rank)) → ArePowers algebra.now t e algebra.now.q powers.now → map (λ piece. residues algebra.now piece.items) pieces.old.items ≡ before ++ parts_below Z T algebra.now.q (H.basis t) (residues algebra.now e) v → OnOk result (map (λ piece. residues algebra.now piece.items) pieces.new.items ≡ before ++ parts_below Z T algebra.now.q (H.basis t) (residues algebra.now e) (suc v)) }
+    requires elements { All (λ piece.
+        IsElement algebra.now.q algebra.now.rank piece.items) pieces.old.items }
+    ensures elements { OnOk result (All (λ piece.
+        IsElement algebra.now.q algebra.now.rank piece.items) pieces.new.items) }
+    ensures part { (Z : CommRing (Element algebra.now.q algebra.now.rank))
+        (T : ZeroTest Z) (H : HasStructure algebra.now Z)
+        (t : ℕ) (e : List ℕ) (before : List (Element algebra.now.q algebra.now.rank))
+        → ArePowers algebra.now t e algebra.now.q powers.now
+        → map (λ piece. residues algebra.now piece.items) pieces.old.items
+        ≡ before ++ parts_below Z T algebra.now.q (H.basis t) (residues algebra.now e) v
+        → OnOk result (map (λ piece. residues algebra.now piece.items) pieces.new.items
+        ≡ before ++ parts_below Z T algebra.now.q (H.basis t) (residues algebra.now e) (suc v)) }
 {
     let part = part(alloc, algebra, powers, v)?;
     if is_zero(algebra.rank, part.as_slice()) {
@@ -117,9 +132,15 @@ pub(crate) fn push_all_parts(
 ) -> Result<(), Memory>
     requires t_below { t < algebra.now.rank }
     requires element { IsElement algebra.now.q algebra.now.rank e.now }
-    requires elements { All (λ piece. IsElement algebra.now.q algebra.now.rank piece.items) pieces.old.items }
-    ensures elements { OnOk result (All (λ piece. IsElement algebra.now.q algebra.now.rank piece.items) pieces.new.items) }
-    ensures parts { (Z : CommRing (Element algebra.now.q algebra.now.rank)) (T : ZeroTest Z) (H : HasStructure algebra.now Z) → OnOk result (map (λ piece. residues algebra.now piece.items) pieces.new.items ≡ map (λ piece. residues algebra.now piece.items) pieces.old.items ++ parts_below Z T algebra.now.q (H.basis t) (residues algebra.now e.now) algebra.now.q) }
+    requires elements { All (λ piece.
+        IsElement algebra.now.q algebra.now.rank piece.items) pieces.old.items }
+    ensures elements { OnOk result (All (λ piece.
+        IsElement algebra.now.q algebra.now.rank piece.items) pieces.new.items) }
+    ensures parts { (Z : CommRing (Element algebra.now.q algebra.now.rank))
+        (T : ZeroTest Z) (H : HasStructure algebra.now Z)
+        → OnOk result (map (λ piece. residues algebra.now piece.items) pieces.new.items
+        ≡ map (λ piece. residues algebra.now piece.items) pieces.old.items
+        ++ parts_below Z T algebra.now.q (H.basis t) (residues algebra.now e.now) algebra.now.q) }
 {
     let powers = powers(alloc, algebra, t, e)?;
     for v in 0..algebra.q {

@@ -21,7 +21,9 @@ use std::alloc::Global;
 fn multiple_of(algebra: &Structure, image: &[u32], e: &[u32]) -> Option<u32>
     requires image { IsElement algebra.now.q algebra.now.rank image.now }
     requires element { IsElement algebra.now.q algebra.now.rank e.now }
-    ensures least { result ≡ first algebra.now.q (λ v. if all_below algebra.now.rank (λ k. slice_index image.now k == (v * slice_index e.now k) % algebra.now.q) then Some v else None) }
+    ensures least { result ≡ first algebra.now.q
+        (λ v. if all_below algebra.now.rank (λ k. slice_index image.now k ==
+        (v * slice_index e.now k) % algebra.now.q) then Some v else None) }
 {
     first_below(algebra.q, |v| {
         if is_multiple(algebra.q, algebra.rank, image, v, e) {
@@ -37,8 +39,13 @@ fn multiplier(alloc: Global, algebra: &Structure, t: u32, e: &[u32]) -> Result<O
     requires t_below { t < algebra.now.rank }
     requires element { IsElement algebra.now.q algebra.now.rank e.now }
     ensures below { IfOk result (λ found. IfSome found (λ v. v < algebra.now.q)) }
-    ensures acts { (Z : CommRing (Element algebra.now.q algebra.now.rank)) (H : HasStructure algebra.now Z) → IfOk result (λ found. IfSome found (λ v. Z.mul (H.basis t) (residues algebra.now e.now) ≡ Z.mul (number Z v) (residues algebra.now e.now))) }
-    ensures none { (Z : CommRing (Element algebra.now.q algebra.now.rank)) (H : HasStructure algebra.now Z) → IfOk result (λ found. IfNone found (Acts Z algebra.now.q (H.basis t) (residues algebra.now e.now) → ⊥)) }
+    ensures acts { (Z : CommRing (Element algebra.now.q algebra.now.rank))
+        (H : HasStructure algebra.now Z)
+        → IfOk result (λ found. IfSome found (λ v. Z.mul (H.basis t) (residues algebra.now e.now)
+        ≡ Z.mul (number Z v) (residues algebra.now e.now))) }
+    ensures none { (Z : CommRing (Element algebra.now.q algebra.now.rank))
+        (H : HasStructure algebra.now Z) → IfOk result (λ found.
+        IfNone found (Acts Z algebra.now.q (H.basis t) (residues algebra.now e.now) → ⊥)) }
 {
     let image = image(alloc, algebra, t, e)?;
     Ok(multiple_of(algebra, image.as_slice(), e))
@@ -54,9 +61,18 @@ fn push_parts(
 ) -> Result<(), Memory>
     requires t_below { t < algebra.now.rank }
     requires element { IsElement algebra.now.q algebra.now.rank e.now }
-    requires elements { All (λ piece. IsElement algebra.now.q algebra.now.rank piece.items) pieces.old.items }
-    ensures elements { OnOk result (All (λ piece. IsElement algebra.now.q algebra.now.rank piece.items) pieces.new.items) }
-    ensures parts { (Z : CommRing (Element algebra.now.q algebra.now.rank)) (T : ZeroTest Z) (H : HasStructure algebra.now Z) → IsFixed Z algebra.now.q → residues algebra.now e.now ≢ Z.nought → Z.mul (residues algebra.now e.now) (residues algebra.now e.now) ≡ residues algebra.now e.now → OnOk result (map (λ piece. residues algebra.now piece.items) pieces.new.items ≡ map (λ piece. residues algebra.now piece.items) pieces.old.items ++ parts_below Z T algebra.now.q (H.basis t) (residues algebra.now e.now) algebra.now.q) }
+    requires elements { All (λ piece.
+        IsElement algebra.now.q algebra.now.rank piece.items) pieces.old.items }
+    ensures elements { OnOk result (All (λ piece.
+        IsElement algebra.now.q algebra.now.rank piece.items) pieces.new.items) }
+    ensures parts { (Z : CommRing (Element algebra.now.q algebra.now.rank))
+        (T : ZeroTest Z) (H : HasStructure algebra.now Z)
+        → IsFixed Z algebra.now.q → residues algebra.now e.now ≢ Z.nought
+        → Z.mul (residues algebra.now e.now) (residues algebra.now e.now)
+        ≡ residues algebra.now e.now
+        → OnOk result (map (λ piece. residues algebra.now piece.items) pieces.new.items
+        ≡ map (λ piece. residues algebra.now piece.items) pieces.old.items
+        ++ parts_below Z T algebra.now.q (H.basis t) (residues algebra.now e.now) algebra.now.q) }
 {
     match multiplier(alloc, algebra, t, e)? {
         Some(_v) => {
@@ -76,9 +92,19 @@ fn refined(
     pieces: &[Vec<u32>],
 ) -> Result<Vec<Vec<u32>>, Memory>
     requires t_below { t < algebra.now.rank }
-    requires elements { All (λ piece. IsElement algebra.now.q algebra.now.rank piece.items) pieces.now }
-    ensures elements { IfOk result (λ next. All (λ piece. IsElement algebra.now.q algebra.now.rank piece.items) next.items) }
-    ensures parts { (Z : CommRing (Element algebra.now.q algebra.now.rank)) (T : ZeroTest Z) (H : HasStructure algebra.now Z) → IsFixed Z algebra.now.q → All (λ piece. (residues algebra.now piece.items ≢ Z.nought) × (Z.mul (residues algebra.now piece.items) (residues algebra.now piece.items) ≡ residues algebra.now piece.items)) pieces.now → IfOk result (λ next. map (λ piece. residues algebra.now piece.items) next.items ≡ flat_map (λ e. parts_below Z T algebra.now.q (H.basis t) e algebra.now.q) (map (λ piece. residues algebra.now piece.items) pieces.now)) }
+    requires elements { All (λ piece.
+        IsElement algebra.now.q algebra.now.rank piece.items) pieces.now }
+    ensures elements { IfOk result (λ next.
+        All (λ piece. IsElement algebra.now.q algebra.now.rank piece.items) next.items) }
+    ensures parts { (Z : CommRing (Element algebra.now.q algebra.now.rank))
+        (T : ZeroTest Z) (H : HasStructure algebra.now Z)
+        → IsFixed Z algebra.now.q
+        → All (λ piece. (residues algebra.now piece.items ≢ Z.nought)
+        × (Z.mul (residues algebra.now piece.items) (residues algebra.now piece.items)
+        ≡ residues algebra.now piece.items)) pieces.now
+        → IfOk result (λ next. map (λ piece. residues algebra.now piece.items) next.items
+        ≡ flat_map (λ e. parts_below Z T algebra.now.q (H.basis t) e algebra.now.q)
+        (map (λ piece. residues algebra.now piece.items) pieces.now)) }
 {
     let mut next = Vec::new(alloc);
     for piece in pieces {
@@ -89,15 +115,21 @@ fn refined(
 
 // The numbers of the first element of the basis.
 fn first_element(alloc: Global, algebra: &Structure) -> Result<Vec<u32>, Memory>
-    ensures values { IfOk result (λ e. IsTabulated algebra.now.rank (λ k. if k == 0 then 1 else 0) e.items) }
+    ensures values { IfOk result (λ e.
+        IsTabulated algebra.now.rank (λ k. if k == 0 then 1 else 0) e.items) }
 {
     tabulate(alloc, algebra.rank, |k| u32::from(k == 0))
 }
 
 // The pieces of one under the whole basis, in the order of the numbers by which it multiplies them.
 pub(crate) fn all_pieces(alloc: Global, algebra: &Structure) -> Result<Vec<Vec<u32>>, Memory>
-    ensures elements { IfOk result (λ pieces. All (λ piece. IsElement algebra.now.q algebra.now.rank piece.items) pieces.items) }
-    ensures pieces { (Z : CommRing (Element algebra.now.q algebra.now.rank)) (T : ZeroTest Z) (H : HasStructure algebra.now Z) → IsFixed Z algebra.now.q → IfOk result (λ found. map (λ piece. residues algebra.now piece.items) found.items ≡ pieces Z T algebra.now.q H.basis algebra.now.rank) }
+    ensures elements { IfOk result (λ pieces.
+        All (λ piece. IsElement algebra.now.q algebra.now.rank piece.items) pieces.items) }
+    ensures pieces { (Z : CommRing (Element algebra.now.q algebra.now.rank))
+        (T : ZeroTest Z) (H : HasStructure algebra.now Z)
+        → IsFixed Z algebra.now.q
+        → IfOk result (λ found. map (λ piece. residues algebra.now piece.items) found.items
+        ≡ pieces Z T algebra.now.q H.basis algebra.now.rank) }
 {
     let first = first_element(alloc, algebra)?;
     let mut found = Vec::new(alloc);

@@ -25,7 +25,8 @@ pub fn split(alloc: Global, twist: &Twist, ring: &ModRing) -> Result<Central, Me
     requires period { ring.now.conductor % unit_period twist.now ≡ 0 }
     requires over { size twist.now < ring.now.q }
     ensures width { IfOk result (λ central. central.width ≡ rank twist.now) }
-    ensures characters { IfOk result (λ central. AreCentralCharacters ring.now twist.now central.lists) }
+    ensures characters { IfOk result (λ central.
+        AreCentralCharacters ring.now twist.now central.lists) }
 {
     let algebra = centre(alloc, ring, twist)?;
     let pieces = all_pieces(alloc, &algebra)?;

@@ -42,7 +42,8 @@ fn meets<const K: u32>(simples: &Simples<K>, j: u32, g: u32, x: u32, h: u32) -> 
 /// is 0.
 fn is_made<const K: u32>(simples: &Simples<K>, i: u32, j: u32, g: u32, x: u32) -> bool
     requires place { IsTensorPlace K simples.now i j g x }
-    ensures nought { result ≡ false → (tensor_character K simples.now i j g x).value ≡ value_nought }
+    ensures nought { result ≡ false → (tensor_character K simples.now i j g x).value
+        ≡ value_nought }
 {
     let _order = order(simples);
     let _count = simples.count();

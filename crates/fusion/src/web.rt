@@ -57,7 +57,8 @@ fn add_pair<const K: u32>(
     requires numbers { ArePairNumbers K simples.now i j numbers.now.items }
     requires whole { pair_fault K simples.now i j ≡ None }
     requires front { IsFront K simples.now (triple (count K simples.now) i j 0) web.old }
-    ensures front { OnOk result (IsFront K simples.now (triple (count K simples.now) i (j + 1) 0) web.new) }
+    ensures front { OnOk result (IsFront K simples.now
+        (triple (count K simples.now) i (j + 1) 0) web.new) }
 {
     let _order = order(simples);
     for l in 0..simples.count() {
@@ -79,7 +80,8 @@ fn add_simple<const K: u32>(
     requires i_below { i < count K simples.now }
     requires before { first i (simple_fault K simples.now) ≡ None }
     requires front { IsFront K simples.now (triple (count K simples.now) i 0 0) web.old }
-    ensures front { OnOk result (IsFront K simples.now (triple (count K simples.now) (i + 1) 0 0) web.new) }
+    ensures front { OnOk result (IsFront K simples.now
+        (triple (count K simples.now) (i + 1) 0 0) web.new) }
     ensures whole { OnOk result (simple_fault K simples.now i ≡ None) }
     ensures refused { IfErr result (λ refusal. Refuses K simples.now refusal) }
 {

@@ -12,7 +12,8 @@ use crate::side::Side;
 /// Changes the link of the node at a place.
 fn set_next(nodes: &mut [Node], side: Side, place: u32, next: u32)
     requires place { place < length nodes.old }
-    ensures changed { nodes.new ≡ slice_set nodes.old place (with_next side (node_at nodes.old place) next) }
+    ensures changed { nodes.new
+        ≡ slice_set nodes.old place (with_next side (node_at nodes.old place) next) }
 {
     let node = nodes[place as usize];
     nodes[place as usize] = side.with_next(&node, next);
@@ -22,11 +23,16 @@ fn set_next(nodes: &mut [Node], side: Side, place: u32, next: u32)
 fn place_before(nodes: &[Node], side: Side, simples: u32, place: u32, last: u32) -> u32
     requires few { simples ≤ 256 }
     requires inside { place < length nodes.now }
-    requires entries { (p : ℕ) → p < length nodes.now → IsEntry simples (entry_of (node_at nodes.now p)) }
-    requires distinct { AreDistinct (ring_at side simples nodes.now) (key_at side simples nodes.now) (place + 1) }
-    requires linked { (p : ℕ) → p < place → IsNext (ring_at side simples nodes.now) (key_at side simples nodes.now) place p (next_at side nodes.now p) }
-    requires last { IsLast (ring_at side simples nodes.now) (key_at side simples nodes.now) place (ring_at side simples nodes.now place) last }
-    ensures before { IsPlaceBefore (ring_at side simples nodes.now) (key_at side simples nodes.now) place (next_at side nodes.now) result }
+    requires entries { (p : ℕ) → p < length nodes.now
+        → IsEntry simples (entry_of (node_at nodes.now p)) }
+    requires distinct { AreDistinct (ring_at side simples nodes.now)
+        (key_at side simples nodes.now) (place + 1) }
+    requires linked { (p : ℕ) → p < place → IsNext (ring_at side simples nodes.now)
+        (key_at side simples nodes.now) place p (next_at side nodes.now p) }
+    requires last { IsLast (ring_at side simples nodes.now)
+        (key_at side simples nodes.now) place (ring_at side simples nodes.now place) last }
+    ensures before { IsPlaceBefore (ring_at side simples nodes.now)
+        (key_at side simples nodes.now) place (next_at side nodes.now) result }
 {
     let key = side.key(simples, &nodes[place as usize]);
     if side.key(simples, &nodes[last as usize]) < key {
@@ -45,13 +51,16 @@ fn place_before(nodes: &[Node], side: Side, simples: u32, place: u32, last: u32)
 fn link(nodes: &mut [Node], lasts: &mut [Option<u32>], side: Side, simples: u32, place: u32)
     requires few { simples ≤ 256 }
     requires place { place + 1 ≡ length nodes.old }
-    requires entries { (p : ℕ) → p < length nodes.old → IsEntry simples (entry_of (node_at nodes.old p)) }
+    requires entries { (p : ℕ) → p < length nodes.old
+        → IsEntry simples (entry_of (node_at nodes.old p)) }
     requires ring { ring_at side simples nodes.old place < length lasts.old }
-    requires distinct { AreDistinct (ring_at side simples nodes.old) (key_at side simples nodes.old) (place + 1) }
+    requires distinct { AreDistinct (ring_at side simples nodes.old)
+        (key_at side simples nodes.old) (place + 1) }
     requires linked { AreLinked side simples nodes.old place lasts.old }
     ensures linked { AreLinked side simples nodes.new (length nodes.new) lasts.new }
     ensures entries { map entry_of nodes.new ≡ map entry_of nodes.old }
-    ensures others { (p : ℕ) → with_next side (node_at nodes.new p) 0 ≡ with_next side (node_at nodes.old p) 0 }
+    ensures others { (p : ℕ) → with_next side (node_at nodes.new p) 0
+        ≡ with_next side (node_at nodes.old p) 0 }
 {
     let ring = side.ring(simples, &nodes[place as usize]) as usize;
     let Some(last) = lasts[ring] else {

@@ -34,7 +34,8 @@ impl Model for Web {
 
     ghost view = { λ web. web_of web.simples web.nodes.items };
 
-    ghost invariant = { λ web. IsLinkedWeb web.simples web.nodes.items web.row_lasts.items web.into_lasts.items };
+    ghost invariant = { λ web.
+        IsLinkedWeb web.simples web.nodes.items web.row_lasts.items web.into_lasts.items };
 }
 
 impl Web {
@@ -62,7 +63,10 @@ impl Web {
         requires k_below { k < self.old.simples }
         requires some { 1 ≤ count }
         requires absent { count_of self.old i j k ≡ 0 }
-        ensures added { OnOk result (self.new ≡ record self.old { entries = self.old.entries ++ record { i = i; j = j; k = k; count = count } ∷ [] }) }
+        ensures added { OnOk result (self.new ≡ record self.old {
+          entries = self.old.entries
+              ++ record { i = i; j = j; k = k; count = count } ∷ [];
+        }) }
         ensures full { (result ≡ Err WebRefusal.Full) ↔ (length self.old.entries ≡ most_nodes) }
         ensures unchanged { OnErr result (self.new ≡ self.old) }
     {

@@ -15,7 +15,8 @@ use std::alloc::Global;
 
 /// This order as that of a group, which is from 1 to 60.
 fn small_order(order: u128) -> Result<u32, MakeRefusal>
-    ensures small { IfOk result (λ small. (size_fault order ≡ None) × (small ≡ order) × IsSmall order) }
+    ensures small { IfOk result (λ small. (size_fault order ≡ None)
+        × (small ≡ order) × IsSmall order) }
     ensures refused { IfErr result (λ refusal. size_fault order ≡ Some refusal) }
 {
     if 1 <= order && order <= 60 {
@@ -62,7 +63,8 @@ pub fn dicyclic(alloc: Global, n: u32) -> Result<Group, MakeRefusal>
 /// The product of the cyclic groups of orders `a`, `b` and `c`: the triples `(x, y, z)` with the numbers
 /// `(x b + y) c + z`, multiplied at each place. It is refused exactly where its order is not from 1 to 60.
 pub fn product(alloc: Global, a: u32, b: u32, c: u32) -> Result<Group, MakeRefusal>
-    ensures made { IfOk result (λ group. (size_fault (a * b * c) ≡ None) × (group ≡ product_group a b c)) }
+    ensures made { IfOk result (λ group. (size_fault (a * b * c) ≡ None)
+        × (group ≡ product_group a b c)) }
     ensures refused { IfErr result (λ refusal. Refuses refusal (size_fault (a * b * c))) }
 {
     let order = small_order(a as u128 * b as u128 * c as u128)?;
@@ -74,7 +76,8 @@ pub fn product(alloc: Global, a: u32, b: u32, c: u32) -> Result<Group, MakeRefus
 /// `x + n i`, where `(x,i)(y,j)` is `(x + r^i y, i + j)`. It is refused with its order exactly where that is not
 /// from 1 to 60, and else with the power `r^m` modulo `n` exactly where that is not 1 modulo `n`.
 pub fn semidirect(alloc: Global, n: u32, m: u32, r: u32) -> Result<Group, MakeRefusal>
-    ensures made { IfOk result (λ group. (semidirect_fault n m r ≡ None) × (group ≡ semidirect_group n m r)) }
+    ensures made { IfOk result (λ group. (semidirect_fault n m r ≡ None)
+        × (group ≡ semidirect_group n m r)) }
     ensures refused { IfErr result (λ refusal. Refuses refusal (semidirect_fault n m r)) }
 {
     let order = small_order(n as u128 * m as u128)?;

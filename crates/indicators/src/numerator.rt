@@ -64,9 +64,12 @@ fn with_term<const K: u32>(
     requires plane { length plane.now ≡ length dims.now * length dims.now }
     requires below { All (λ t. t < K) twists.now }
     requires q_below { q < length plane.now }
-    requires total { IsTotal (term_at K plane.now dims.now twists.now m) q (cyclotomic_value K total.sum.coefficients) total.sizes }
-    ensures more { IfSome result (λ total. IsTotal (term_at K plane.now dims.now twists.now m) (q + 1) (cyclotomic_value K total.sum.coefficients) total.sizes) }
-    ensures overflow { IfNone result (Forms (indicator_sum K plane.now dims.now twists.now m) None) }
+    requires total { IsTotal (term_at K plane.now dims.now twists.now m) q
+        (cyclotomic_value K total.sum.coefficients) total.sizes }
+    ensures more { IfSome result (λ total. IsTotal (term_at K plane.now dims.now twists.now m)
+        (q + 1) (cyclotomic_value K total.sum.coefficients) total.sizes) }
+    ensures overflow { IfNone result (Forms
+        (indicator_sum K plane.now dims.now twists.now m) None) }
 {
     let number = plane.at(q);
     if number == 0 {
@@ -91,7 +94,8 @@ pub fn indicator<const K: u32>(
     requires plane { length plane.now ≡ length dims.now * length dims.now }
     requires below { All (λ t. t < K) twists.now }
     ensures fits { is_ok result ≡ (indicator_sum K plane.now dims.now twists.now m).fits }
-    ensures sum { IfOk result (λ value. cyclotomic_value K value.coefficients ≡ (indicator_sum K plane.now dims.now twists.now m).value) }
+    ensures sum { IfOk result (λ value. cyclotomic_value K value.coefficients
+        ≡ (indicator_sum K plane.now dims.now twists.now m).value) }
     ensures site { IfErr result (λ site. site ≡ indicator_site k) }
 {
     let mut total: Total<K> = Total::zero();

@@ -34,7 +34,8 @@ pub struct KeptConjugates<const K: u32> {
 
 /// The sparse form of a value, where the magnitudes of its coefficients don't add up to too much.
 fn small_terms<const K: u32>(value: &Cyc<K>) -> Option<Terms<K>>
-    ensures value { IfSome result (λ terms. value_of_terms K terms ≡ cyclotomic_value K value.now.coefficients) }
+    ensures value { IfSome result (λ terms. value_of_terms K terms
+        ≡ cyclotomic_value K value.now.coefficients) }
     ensures small { IfSome result (λ terms. total_of_terms terms < 2 ^ 54) }
 {
     let terms = Terms::of(value);
@@ -58,8 +59,10 @@ fn kept_conjugate<const K: u32>(simples: &Simples<K>, i: u32, pair: Pair) -> Opt
     requires i_below { i < count K simples.now }
     requires g_below { pair.g < simples.now.cocycle.group.order }
     requires h_below { pair.h < simples.now.cocycle.group.order }
-    requires commute { product simples.now.cocycle.group pair.g pair.h ≡ product simples.now.cocycle.group pair.h pair.g }
-    ensures value { IfSome result (λ terms. value_of_terms K terms ≡ conjugate_at K simples.now i pair) }
+    requires commute { product simples.now.cocycle.group pair.g pair.h
+        ≡ product simples.now.cocycle.group pair.h pair.g }
+    ensures value { IfSome result (λ terms. value_of_terms K terms
+        ≡ conjugate_at K simples.now i pair) }
     ensures small { IfSome result (λ terms. IsSmall K (conjugate_at K simples.now i pair)) }
 {
     let _order = order(simples);
@@ -94,7 +97,8 @@ fn kept_row<const K: u32>(
 ) -> Result<Option<Vec<Terms<K>>>, Memory>
     requires commute { AreCommuting simples.now.cocycle.group pairs.now }
     requires i_below { i < count K simples.now }
-    ensures row { IfOk result (λ found. IfSome found (λ row. IsKeptRow K simples.now pairs.now i d row.items)) }
+    ensures row { IfOk result (λ found.
+        IfSome found (λ row. IsKeptRow K simples.now pairs.now i d row.items)) }
 {
     let mut row = Vec::new(alloc);
     for m in 0..pairs.len() {
@@ -116,7 +120,8 @@ fn kept_rows<const K: u32>(
     pairs: &[Pair],
 ) -> Result<Option<Vec<Vec<Terms<K>>>>, Memory>
     requires commute { AreCommuting simples.now.cocycle.group pairs.now }
-    ensures rows { IfOk result (λ found. IfSome found (λ rows. AreKeptRows K simples.now pairs.now rows.items)) }
+    ensures rows { IfOk result (λ found.
+        IfSome found (λ rows. AreKeptRows K simples.now pairs.now rows.items)) }
 {
     let classes = simples.classes().count();
     let mut rows = Vec::new(alloc);

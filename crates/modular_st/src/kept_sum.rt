@@ -19,7 +19,8 @@ use transport::Simples;
 fn dot_product<const K: u32>(left: &Vec<Terms<K>>, right: &Vec<Terms<K>>) -> Option<Cyc<K>>
     requires conductor { is_conductor K ≡ true }
     requires width { length left.now.items ≡ length right.now.items }
-    ensures forms { IfSome result (λ sum. Forms (dot_product K left.now.items right.now.items) (Some sum)) }
+    ensures forms { IfSome result (λ sum.
+        Forms (dot_product K left.now.items right.now.items) (Some sum)) }
 {
     let mut folded = Folded::zero();
     for q in 0..left.len() {
@@ -37,10 +38,12 @@ fn row_at<'a, const K: u32>(
     i: u32,
     d: u32,
 ) -> &'a Vec<Terms<K>>
-    requires count { length rows.now.items ≡ count K simples.now * length (representatives simples.now.cocycle.group) }
+    requires count { length rows.now.items
+        ≡ count K simples.now * length (representatives simples.now.cocycle.group) }
     requires i_below { i < count K simples.now }
     requires d_below { d < length (representatives simples.now.cocycle.group) }
-    ensures row { (pairs : List Pair) → AreKeptRows K simples.now pairs rows.now.items → IsKeptRow K simples.now pairs i d result.now.items }
+    ensures row { (pairs : List Pair) → AreKeptRows K simples.now pairs rows.now.items
+        → IsKeptRow K simples.now pairs i d result.now.items }
 {
     let _count = simples.count();
     let classes = simples.classes().count();

@@ -1,3 +1,5 @@
+//! The matrix S, as its numerators over the order of the group.
+
 ghost use Rattle.std.specs.Prelude.{ℕ, ◌≡◌, ◌<◌, ◌+◌, ◌^◌, [], ◌∷◌, ◌++◌, length, slice_index_or, IfOk, IfErr, IfSome, OnOk};
 ghost use Rattle.cyclotomic.specs.CyclotomicRing.{cyclotomic_value};
 ghost use Rattle.qd_ring.specs.RowLists.{row_at};
@@ -60,7 +62,8 @@ fn entry<const K: u32>(
     requires kept { IfSome conjugates.now (AreKept K simples.now) }
     requires i_below { i < count K simples.now }
     requires j_below { j < count K simples.now }
-    ensures entry { IfOk result (λ value. cyclotomic_value K value.coefficients ≡ (s_sum K simples.now i j).value) }
+    ensures entry { IfOk result (λ value. cyclotomic_value K value.coefficients
+        ≡ (s_sum K simples.now i j).value) }
     ensures refused { IfErr result (λ refusal. Refuses K simples.now refusal) }
 {
     match kept_sum(simples, conjugates, i, j) {
@@ -79,7 +82,8 @@ fn append_row<const K: u32>(
     requires kept { IfSome conjugates.now (AreKept K simples.now) }
     requires i_below { i < count K simples.now }
     requires room { length rows.old + 1 < 2 ^ 32 }
-    ensures added { OnOk result (values_of_rows K rows.new ≡ values_of_rows K rows.old ++ s_front K simples.now i (count K simples.now) ∷ []) }
+    ensures added { OnOk result (values_of_rows K rows.new
+        ≡ values_of_rows K rows.old ++ s_front K simples.now i (count K simples.now) ∷ []) }
     ensures refused { IfErr result (λ refusal. Refuses K simples.now refusal) }
 {
     rows.push_row()?;
@@ -113,13 +117,17 @@ fn numerator_rows<const K: u32>(
 pub fn s_matrix<const K: u32>(alloc: Global, simples: &Simples<K>) -> Result<SMatrix<K>, StRefusal>
     ensures matrix { IfOk result (λ matrix. values_of_rows K matrix ≡ s_rows K simples.now) }
     ensures rows { IfOk result (λ matrix. length matrix ≡ count K simples.now) }
-    ensures columns { IfOk result (λ matrix. (i : ℕ) → i < count K simples.now → length (row_at matrix i) ≡ count K simples.now) }
-    ensures entries { IfOk result (λ matrix. (i j : ℕ) → i < count K simples.now → j < count K simples.now → cyclotomic_value K (slice_index_or (row_at matrix i) j []) ≡ (s_sum K simples.now i j).value) }
+    ensures columns { IfOk result (λ matrix. (i : ℕ) → i < count K simples.now
+        → length (row_at matrix i) ≡ count K simples.now) }
+    ensures entries { IfOk result (λ matrix. (i j : ℕ) → i < count K simples.now
+        → j < count K simples.now → cyclotomic_value K (slice_index_or (row_at matrix i) j [])
+        ≡ (s_sum K simples.now i j).value) }
     ensures refused { IfErr result (λ refusal. Refuses K simples.now refusal) }
 
     // The theory of modular data, of these very entries.
     ensures symmetric { IfOk result (λ matrix. IsSymmetric K simples.now (entries_of K matrix)) }
-    ensures dimensions { IfOk result (λ matrix. HoldsDimensions K simples.now (entries_of K matrix)) }
+    ensures dimensions { IfOk result (λ matrix.
+        HoldsDimensions K simples.now (entries_of K matrix)) }
     ensures unitary { IfOk result (λ matrix. IsUnitary K simples.now (entries_of K matrix)) }
 {
     let _count = simples.count();

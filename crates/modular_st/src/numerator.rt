@@ -37,7 +37,8 @@ pub fn conjugate<const K: u32>(simples: &Simples<K>, i: u32, g: u32, h: u32) -> 
     requires i_below { i < count K simples.now }
     requires g_below { g < simples.now.cocycle.group.order }
     requires h_below { h < simples.now.cocycle.group.order }
-    requires commute { product simples.now.cocycle.group g h ≡ product simples.now.cocycle.group h g }
+    requires commute { product simples.now.cocycle.group g h
+        ≡ product simples.now.cocycle.group h g }
     ensures forms { Forms (conjugated K (full_character K simples.now i g h)) result }
 {
     match simples.ch(i, g, h) {
@@ -52,7 +53,8 @@ fn pair_term<const K: u32>(simples: &Simples<K>, i: u32, j: u32, g: u32, h: u32)
     requires j_below { j < count K simples.now }
     requires g_below { g < simples.now.cocycle.group.order }
     requires h_below { h < simples.now.cocycle.group.order }
-    requires commute { product simples.now.cocycle.group g h ≡ product simples.now.cocycle.group h g }
+    requires commute { product simples.now.cocycle.group g h
+        ≡ product simples.now.cocycle.group h g }
     ensures forms { Forms (pair_term K simples.now i j g h) result }
 {
     let Some(left) = conjugate(simples, i, g, h) else {

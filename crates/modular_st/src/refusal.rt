@@ -1,3 +1,5 @@
+//! Why a numerator of S is refused.
+
 ghost use Rattle.std.specs.Prelude.{◌≡◌};
 ghost use Rattle.modular_st.specs.declared.refusal.StRefusal.TheVariants as refusals;
 

@@ -1,3 +1,5 @@
+//! The twist of a simple.
+
 ghost use Rattle.std.specs.Prelude.{◌≡◌, ◌<◌};
 ghost use Rattle.transport.specs.Simples.{count, twist_at};
 

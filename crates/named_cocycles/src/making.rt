@@ -16,7 +16,8 @@ use std::alloc::Global;
 
 /// The trivial cocycle of the product of the cyclic groups of orders `a`, `b` and `c`.
 fn plain_product(alloc: Global, a: u32, b: u32, c: u32) -> Result<Cocycle, MakeRefusal>
-    ensures made { IfOk result (λ w. (size_fault (a * b * c) ≡ None) × (w ≡ trivial_cocycle (product_group a b c) 1)) }
+    ensures made { IfOk result (λ w. (size_fault (a * b * c) ≡ None)
+        × (w ≡ trivial_cocycle (product_group a b c) 1)) }
     ensures refused { IfErr result (λ refusal. Refuses refusal (size_fault (a * b * c))) }
 {
     let group = product(alloc, a, b, c)?;
@@ -25,7 +26,8 @@ fn plain_product(alloc: Global, a: u32, b: u32, c: u32) -> Result<Cocycle, MakeR
 
 /// The trivial cocycle of the dihedral group of order `2 n`.
 fn plain_dihedral(alloc: Global, n: u32) -> Result<Cocycle, MakeRefusal>
-    ensures made { IfOk result (λ w. (size_fault (2 * n) ≡ None) × (w ≡ trivial_cocycle (dihedral_group n) 1)) }
+    ensures made { IfOk result (λ w. (size_fault (2 * n) ≡ None)
+        × (w ≡ trivial_cocycle (dihedral_group n) 1)) }
     ensures refused { IfErr result (λ refusal. Refuses refusal (size_fault (2 * n))) }
 {
     let group = dihedral(alloc, n)?;
@@ -34,7 +36,8 @@ fn plain_dihedral(alloc: Global, n: u32) -> Result<Cocycle, MakeRefusal>
 
 /// A cocycle of the dihedral group of order `2 n`: the trivial one, or that of the reflections.
 fn dihedral_cocycle(alloc: Global, n: u32, twisted: bool) -> Result<Cocycle, MakeRefusal>
-    ensures made { IfOk result (λ w. (size_fault (2 * n) ≡ None) × (w ≡ dihedral_cocycle n twisted)) }
+    ensures made { IfOk result (λ w. (size_fault (2 * n) ≡ None)
+        × (w ≡ dihedral_cocycle n twisted)) }
     ensures refused { IfErr result (λ refusal. Refuses refusal (size_fault (2 * n))) }
 {
     if twisted {
@@ -47,7 +50,8 @@ fn dihedral_cocycle(alloc: Global, n: u32, twisted: bool) -> Result<Cocycle, Mak
 /// The trivial cocycle of the dicyclic group of order `4 n`, with values in so many roots of unity.
 pub fn plain_dicyclic(alloc: Global, n: u32, roots: u32) -> Result<Cocycle, MakeRefusal>
     requires roots { IsRoots roots }
-    ensures made { IfOk result (λ w. (size_fault (4 * n) ≡ None) × (w ≡ trivial_cocycle (dicyclic_group n) roots)) }
+    ensures made { IfOk result (λ w. (size_fault (4 * n) ≡ None)
+        × (w ≡ trivial_cocycle (dicyclic_group n) roots)) }
     ensures refused { IfErr result (λ refusal. Refuses refusal (size_fault (4 * n))) }
 {
     let group = dicyclic(alloc, n)?;
@@ -56,7 +60,8 @@ pub fn plain_dicyclic(alloc: Global, n: u32, roots: u32) -> Result<Cocycle, Make
 
 /// The trivial cocycle of the semidirect product of the cyclic groups of orders `n` and `m`.
 fn plain_semidirect(alloc: Global, n: u32, m: u32, r: u32) -> Result<Cocycle, MakeRefusal>
-    ensures made { IfOk result (λ w. (semidirect_fault n m r ≡ None) × (w ≡ trivial_cocycle (semidirect_group n m r) 1)) }
+    ensures made { IfOk result (λ w. (semidirect_fault n m r ≡ None)
+        × (w ≡ trivial_cocycle (semidirect_group n m r) 1)) }
     ensures refused { IfErr result (λ refusal. Refuses refusal (semidirect_fault n m r)) }
 {
     let group = semidirect(alloc, n, m, r)?;

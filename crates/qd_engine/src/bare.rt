@@ -29,7 +29,8 @@ fn bare_document(alloc: Global, w: &Cocycle) -> Result<Document, Memory>
 
 /// Adds the document of a cocycle and of its group, as a text that is read as it.
 pub fn append_bare(out: &mut Vec<u8>, w: &Cocycle) -> Result<(), Memory>
-    ensures added { OnOk result (out.new.items ≡ out.old.items ++ canonical_text (bare_document w.now)) }
+    ensures added { OnOk result (out.new.items ≡ out.old.items
+        ++ canonical_text (bare_document w.now)) }
 {
     let alloc = *out.allocator();
     let document = bare_document(alloc, w)?;

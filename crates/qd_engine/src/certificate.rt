@@ -61,7 +61,8 @@ fn push_row_of<const K: u32>(
     requires i_below { i < count K simples.now }
     requires begun { 0 < length blocks.old }
     requires room { length (last_rows blocks.old) + 1 < 2 ^ 32 }
-    ensures added { OnOk result (blocks.new ≡ with_last_rows blocks.old (last_rows blocks.old ++ row_of K simples.now i ∷ [])) }
+    ensures added { OnOk result (blocks.new
+        ≡ with_last_rows blocks.old (last_rows blocks.old ++ row_of K simples.now i ∷ [])) }
     ensures values { OnOk result (All (IsValueOf K) (row_of K simples.now i)) }
 {
     let places = simples.classes().centraliser(simples.class(i)).len();
@@ -81,8 +82,10 @@ fn push_rows_of<const K: u32>(
     requires members { All (λ i. i < count K simples.now) members.now }
     requires begun { 0 < length blocks.old }
     requires empty { last_rows blocks.old ≡ [] }
-    ensures added { OnOk result (blocks.new ≡ with_last_rows blocks.old (map (row_of K simples.now) members.now)) }
-    ensures values { OnOk result (All (λ row. All (IsValueOf K) row) (map (row_of K simples.now) members.now)) }
+    ensures added { OnOk result (blocks.new
+        ≡ with_last_rows blocks.old (map (row_of K simples.now) members.now)) }
+    ensures values { OnOk result (All (λ row. All (IsValueOf K) row)
+        (map (row_of K simples.now) members.now)) }
 {
     for place in 0..members.len() {
         push_row_of(blocks, simples, members.at(place))?;
@@ -100,7 +103,8 @@ fn push_class<const K: u32>(
     requires c_below { c < length (representatives simples.now.cocycle.group) }
     requires few { length blocks.old < 60 }
     ensures added { OnOk result (blocks.new ≡ blocks.old ++ certified_block K simples.now c ∷ []) }
-    ensures values { OnOk result (All (λ row. All (IsValueOf K) row) (certified_block K simples.now c).rows) }
+    ensures values { OnOk result (All (λ row. All (IsValueOf K) row)
+        (certified_block K simples.now c).rows) }
 {
     let members = simples_in(alloc, simples, c)?;
     blocks.push_block(simples.classes().representative(c))?;
@@ -110,7 +114,8 @@ fn push_class<const K: u32>(
 /// The blocks of all classes.
 fn blocks_of<const K: u32>(alloc: Global, simples: &Simples<K>) -> Result<Blocks, Memory>
     ensures blocks { IfOk result (λ blocks. blocks ≡ certified_blocks K simples.now) }
-    ensures values { IfOk result (λ blocks. All (λ (block : Block). All (λ row. All (IsValueOf K) row) block.rows) blocks) }
+    ensures values { IfOk result (λ blocks.
+        All (λ (block : Block). All (λ row. All (IsValueOf K) row) block.rows) blocks) }
 {
     let mut blocks = Blocks::empty(alloc);
     for c in 0..simples.classes().count() {

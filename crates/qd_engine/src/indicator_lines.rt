@@ -55,7 +55,8 @@ fn append_simple<const K: u32>(
     requires twists { exponents.now ≡ twists K simples.now }
     requires below { All (λ t. t < K) exponents.now }
     requires l_below { l < count K simples.now }
-    ensures added { OnOk result (out.new.items ≡ out.old.items ++ indicator_line l (indicator_of K simples.now m l)) }
+    ensures added { OnOk result (out.new.items ≡ out.old.items
+        ++ indicator_line l (indicator_of K simples.now m l)) }
 {
     let _count = simples.count();
     let plane = plane(*out.allocator(), web, l)?;
@@ -85,7 +86,8 @@ fn append_all<const K: u32>(
 ) -> Result<(), AllocError>
     requires web { IsWebOf K simples.now web.now }
     ensures added { OnOk result (out.new.items ≡ out.old.items
-        ++ first_lines (λ l. indicator_line l (indicator_of K simples.now m l)) (count K simples.now)) }
+        ++ first_lines (λ l. indicator_line l (indicator_of K simples.now m l))
+        (count K simples.now)) }
 {
     let alloc = *out.allocator();
     let dims = dimensions(alloc, simples)?;
@@ -119,7 +121,8 @@ pub fn append_indicators<const K: u32>(
     m: u32,
 ) -> Result<(), AllocError>
     requires web { HasWeb K simples.now rows.now web.now }
-    ensures added { OnOk result (out.new.items ≡ out.old.items ++ where_lifted (source_of rows.now) (indicators_text K simples.now m)) }
+    ensures added { OnOk result (out.new.items ≡ out.old.items
+        ++ where_lifted (source_of rows.now) (indicators_text K simples.now m)) }
 {
     match web {
         Some(web) => append_web_indicators(out, simples, web, m),

@@ -32,7 +32,8 @@ fn whole<S: Source>(alloc: Global, source: &mut S) -> Result<Vec<u8>, Stop>
 /// What a command reads of the source: all its bytes, or nothing.
 pub fn input<S: Source>(alloc: Global, command: &Command, source: &mut S) -> Result<Vec<u8>, Stop>
     ensures reads { Reads (if is_read command.now.input then S.left source.old else Some [])
-        ((is_read command.now.input ≡ true) × Rises (S.faults source.old) (S.faults source.new)) result }
+        ((is_read command.now.input ≡ true)
+        × Rises (S.faults source.old) (S.faults source.new)) result }
     ensures taken { Takes (S.left source.old) (S.left source.new) result }
     ensures drained { is_read command.now.input ≡ true → OnOk result (IsAtEnd (S.left source.new)) }
     ensures untouched { is_read command.now.input ≡ false → source.new ≡ source.old }

@@ -23,7 +23,8 @@ use transport::Simples;
 fn whole_web<const K: u32>(alloc: Global, simples: &Simples<K>) -> Result<Web, Stop>
     requires rooted { HasRootRows K simples.now }
     requires few { count K simples.now ≤ 64 }
-    ensures tested { Tests (whole_test K simples.now) (λ (web : WebEntries). IsWebOf K simples.now web) result }
+    ensures tested { Tests (whole_test K simples.now)
+        (λ (web : WebEntries). IsWebOf K simples.now web) result }
 {
     let _count = simples.count();
     match numbers(alloc, simples) {
@@ -48,7 +49,8 @@ fn lifted_web<const K: u32>(
     requires rooted { HasRootRows K simples.now }
     requires few { have_numbers parts.now ≡ true → count K simples.now ≤ 64 }
     ensures tested { Tests (numbers_test K simples.now parts.now)
-        (λ (web : Option WebEntries). have_numbers parts.now ≡ true → HoldsNumbers K simples.now web) result }
+        (λ (web : Option WebEntries). have_numbers parts.now
+        ≡ true → HoldsNumbers K simples.now web) result }
 {
     if have_numbers(parts) {
         Ok(Some(whole_web(alloc, simples)?))
@@ -67,7 +69,8 @@ pub fn web_of<const K: u32>(
     requires rooted { AreRooted K simples.now rows.now }
     requires few { have_numbers parts.now ≡ true → count K simples.now ≤ 64 }
     ensures tested { Tests (numbers_cause K simples.now rows.now parts.now)
-        (λ (web : Option WebEntries). have_numbers parts.now ≡ true → HasWeb K simples.now rows.now web) result }
+        (λ (web : Option WebEntries). have_numbers parts.now
+        ≡ true → HasWeb K simples.now rows.now web) result }
 {
     match rows {
         Rows::Stated(_) => Ok(None),
@@ -83,7 +86,8 @@ pub fn append_fusion_numbers<const K: u32>(
     web: &Option<Web>,
 ) -> Result<(), AllocError>
     requires web { HasWeb K simples.now rows.now web.now }
-    ensures added { OnOk result (out.new.items ≡ out.old.items ++ where_lifted (source_of rows.now) (numbers_text K simples.now)) }
+    ensures added { OnOk result (out.new.items ≡ out.old.items
+        ++ where_lifted (source_of rows.now) (numbers_text K simples.now)) }
 {
     match web {
         Some(web) => append_fusion(out, web),

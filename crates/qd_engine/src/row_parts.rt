@@ -71,7 +71,8 @@ fn append_conductor(out: &mut Vec<u8>, k: u32) -> Result<(), AllocError>
 
 /// Adds the line of the modulus of a field.
 fn append_modulus(out: &mut Vec<u8>, ring: &ModRing) -> Result<(), AllocError>
-    ensures added { OnOk result (out.new.items ≡ out.old.items ++ modulus_line ring.now.q ring.now.conductor) }
+    ensures added { OnOk result (out.new.items ≡ out.old.items
+        ++ modulus_line ring.now.q ring.now.conductor) }
 {
     let alloc = *out.allocator();
     let q = ring.q();
@@ -83,7 +84,8 @@ fn append_modulus(out: &mut Vec<u8>, ring: &ModRing) -> Result<(), AllocError>
 /// Adds the line of the modulus of these rows, where they have one.
 fn append_modulus_of(out: &mut Vec<u8>, k: u32, rows: &Rows) -> Result<(), AllocError>
     requires over { IsOver k rows.now }
-    ensures added { OnOk result (out.new.items ≡ out.old.items ++ modulus_text (source_of rows.now) k) }
+    ensures added { OnOk result (out.new.items ≡ out.old.items
+        ++ modulus_text (source_of rows.now) k) }
 {
     match rows {
         Rows::Stated(_) => Ok(()),
@@ -101,7 +103,8 @@ fn append_row_part<const K: u32>(
 ) -> Result<(), Stop>
     requires over { IsOver K rows.now }
     requires web { has_numbers part ≡ true → HasWeb K simples.now rows.now web.now }
-    ensures added { OnOk result (out.new.items ≡ out.old.items ++ row_part_text (source_of rows.now) K simples.now part) }
+    ensures added { OnOk result (out.new.items ≡ out.old.items
+        ++ row_part_text (source_of rows.now) K simples.now part) }
     ensures refused { IfErr result (StopsLate (LatePart K simples.now part)) }
 {
     match part {
@@ -129,7 +132,8 @@ pub fn append_row_parts<const K: u32>(
     requires over { IsOver K rows.now }
     requires web { have_numbers parts.now ≡ true → HasWeb K simples.now rows.now web.now }
     ensures added { OnOk result
-        (out.new.items ≡ out.old.items ++ parts_text (row_part_text (source_of rows.now) K simples.now) parts.now) }
+        (out.new.items ≡ out.old.items
+        ++ parts_text (row_part_text (source_of rows.now) K simples.now) parts.now) }
     ensures refused { IfErr result (StopsLate (LateIn K simples.now parts.now)) }
 {
     for part in parts {

@@ -28,7 +28,8 @@ fn prepare<S: Source>(alloc: Global, words: &Vec<String>, source: &mut S) -> Res
     ensures prepares { Prepares (texts words.now.items) (S.left source.old)
         (Rises (S.faults source.old) (S.faults source.new)) result }
     ensures taken { Takes (S.left source.old) (S.left source.new) result }
-    ensures drained { reads_by (texts words.now.items) ≡ true → OnOk result (IsAtEnd (S.left source.new)) }
+    ensures drained { reads_by (texts words.now.items) ≡ true
+        → OnOk result (IsAtEnd (S.left source.new)) }
     ensures untouched { reads_by (texts words.now.items) ≡ false → source.new ≡ source.old }
 {
     let Some(command) = read_words(alloc, words)? else {

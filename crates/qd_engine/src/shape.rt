@@ -66,7 +66,8 @@ fn width_fault_in(classes: &Classes, blocks: &Blocks, b: u32) -> Option<ShapeFau
 /// The first number of a block that is not the representative, or else the first row that has another width.
 fn block_fault(classes: &Classes, blocks: &Blocks) -> Option<ShapeFault>
     requires count { length blocks.now ≡ length (representatives classes.now) }
-    ensures fault { result ≡ option_or (representative_fault classes.now blocks.now) (width_fault classes.now blocks.now) }
+    ensures fault { result ≡ option_or (representative_fault classes.now blocks.now)
+        (width_fault classes.now blocks.now) }
 {
     let count = blocks.blocks();
     match first_below(count, |b| representative_fault_at(classes, blocks, b)) {

@@ -36,7 +36,8 @@ fn document(alloc: Global, bytes: &Vec<u8>, form: Form) -> Result<Document, Stop
     requires limit { vec_len bytes.now ≤ INPUT_LIMIT }
     ensures tested { Tests (scan_test (stop_of form bytes.now.items))
         (λ (d : Document).
-        (stop_of form bytes.now.items ≡ None) × (d ≡ document_of form (tokens bytes.now.items))) result }
+        (stop_of form bytes.now.items ≡ None)
+        × (d ≡ document_of form (tokens bytes.now.items))) result }
     ensures shaped { IfOk result IsInRange }
 {
     match parse(alloc, bytes, form) {
@@ -135,7 +136,8 @@ fn append_parts(
 
 /// The cocycle that a maker names.
 fn made(alloc: Global, maker: Maker) -> Result<Cocycle, Stop>
-    ensures tested { Tests (maker_test (maker_fault maker)) (λ (w : Cochain). w ≡ made_cocycle maker) result }
+    ensures tested { Tests (maker_test (maker_fault maker))
+        (λ (w : Cochain). w ≡ made_cocycle maker) result }
     ensures accepted { IfOk result (λ w. maker_fault maker ≡ None) }
 {
     match make(alloc, maker) {
@@ -157,7 +159,8 @@ fn report(
     requires stated { HasRowsOf command.now.rows characters.now }
     ensures follows { Follows (rows_test w (given_or_none characters.now) command.now.rows)
         (LateRows w (given_or_none characters.now) command.now.rows)
-        (λ (text : Vec ℕ). text.items ≡ cocycle_report command.now w (given_or_none characters.now)) result }
+        (λ (text : Vec ℕ). text.items
+        ≡ cocycle_report command.now w (given_or_none characters.now)) result }
 {
     let mut out = Vec::new(alloc);
     let known = append_parts(&mut out, &command.parts, &w)?;
@@ -196,7 +199,8 @@ fn answer_to_text(alloc: Global, command: &Command, bytes: &Vec<u8>) -> Result<V
 fn answer_to_maker(alloc: Global, command: &Command, maker: Maker) -> Result<Vec<u8>, Stop>
     requires made { command.now.input ≡ Input.Made maker }
     requires stated { HasRowsOf command.now.rows None }
-    ensures follows { (bytes : List ℕ) → Follows (refusal command.now bytes) (Late command.now (document_in command.now bytes))
+    ensures follows { (bytes : List ℕ)
+        → Follows (refusal command.now bytes) (Late command.now (document_in command.now bytes))
         (λ (text : Vec ℕ). Reports text.items command.now bytes) result }
 {
     let w = made(alloc, maker)?;
@@ -207,7 +211,8 @@ fn answer_to_maker(alloc: Global, command: &Command, maker: Maker) -> Result<Vec
 fn answer_to_sample(alloc: Global, command: &Command, number: u32) -> Result<Vec<u8>, Stop>
     requires sampled { command.now.input ≡ Input.Sampled number }
     requires stated { HasRowsOf command.now.rows None }
-    ensures follows { (bytes : List ℕ) → Follows (refusal command.now bytes) (Late command.now (document_in command.now bytes))
+    ensures follows { (bytes : List ℕ)
+        → Follows (refusal command.now bytes) (Late command.now (document_in command.now bytes))
         (λ (text : Vec ℕ). Reports text.items command.now bytes) result }
 {
     let w = sample(alloc, number)?;
@@ -218,7 +223,8 @@ fn answer_to_sample(alloc: Global, command: &Command, number: u32) -> Result<Vec
 pub fn answer_to(alloc: Global, command: &Command, bytes: &Vec<u8>) -> Result<Vec<u8>, Stop>
     requires limit { vec_len bytes.now ≤ INPUT_LIMIT }
     requires served { IsServed command.now }
-    ensures follows { Follows (refusal command.now bytes.now.items) (Late command.now (document_in command.now bytes.now.items))
+    ensures follows { Follows (refusal command.now bytes.now.items)
+        (Late command.now (document_in command.now bytes.now.items))
         (λ (text : Vec ℕ). Reports text.items command.now bytes.now.items) result }
 {
     match command.input {

@@ -20,7 +20,8 @@ where
     requires few { n ≤ 256 }
     requires callable { (i j l : ℕ) → i < n → j < n → l < n → F.pre number i j l }
     ensures sum { (at : ℕ → ℕ → ℕ → ℕ) →
-        ((i j l v : ℕ) → i < n → j < n → l < n → F.post number i j l v → v ≡ at i j l) → result ≡ sum_of_three n at }
+        ((i j l v : ℕ) → i < n → j < n → l < n → F.post number i j l v → v ≡ at i j l) → result
+        ≡ sum_of_three n at }
 {
     let mut total: u64 = 0;
     for p in 0..n * n * n {
@@ -79,7 +80,8 @@ fn sample_end(
     total: u64,
     exponents: u64,
 ) -> Result<String, AllocError>
-    ensures end { IfOk result (λ text. string_bytes text ≡ sample_end simples nonzero total exponents) }
+    ensures end { IfOk result (λ text. string_bytes text
+        ≡ sample_end simples nonzero total exponents) }
 {
     format!(in alloc; " simples {simples} nonzero {nonzero} total {total} twists {exponents}\n")
 }
@@ -93,7 +95,8 @@ fn append_line<const K: u32>(
     number: u32,
 ) -> Result<(), AllocError>
     requires web { IsWebOf K simples.now web.now }
-    ensures added { OnOk result (out.new.items ≡ out.old.items ++ sample_line K simples.now q number) }
+    ensures added { OnOk result (out.new.items ≡ out.old.items
+        ++ sample_line K simples.now q number) }
 {
     let alloc = *out.allocator();
     let start = sample_start(alloc, number, simples.cocycle().group().order(), K, q)?;
@@ -117,7 +120,8 @@ pub fn append_summary<const K: u32>(
     number: u32,
 ) -> Result<(), AllocError>
     requires web { HasWeb K simples.now rows.now web.now }
-    ensures added { OnOk result (out.new.items ≡ out.old.items ++ summary_text (source_of rows.now) K simples.now number) }
+    ensures added { OnOk result (out.new.items ≡ out.old.items
+        ++ summary_text (source_of rows.now) K simples.now number) }
 {
     match rows {
         Rows::Stated(_) => Ok(()),

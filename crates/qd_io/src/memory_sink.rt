@@ -30,7 +30,8 @@ impl Model for MemSink {
 
     ghost view = { λ s. record { written = s.bytes.items; room = s.room; step = s.step; fails = s.fails.items; calls = s.calls; faults = s.faults } };
 
-    ghost invariant = { λ s. (length s.bytes.items + s.room ≤ vec_capacity s.bytes) × (1 ≤ s.step) };
+    ghost invariant = { λ s. (length s.bytes.items + s.room ≤ vec_capacity s.bytes)
+        × (1 ≤ s.step) };
 }
 
 impl MemSink {
@@ -38,7 +39,8 @@ impl MemSink {
     /// numbers, from 1, stand in `fails` fail. A call past number 4,294,967,295 does not fail by that list.
     pub fn new(alloc: Global, room: usize, step: usize, fails: Vec<u32>) -> Result<MemSink, Memory>
         requires step { 1 ≤ step }
-        ensures made { IfOk result (λ sink. sink ≡ record { written = []; room = room; step = step; fails = fails.items; calls = 0; faults = 0 }) }
+        ensures made { IfOk result (λ sink. sink
+            ≡ record { written = []; room = room; step = step; fails = fails.items; calls = 0; faults = 0 }) }
     {
         Ok(MemSink {
             bytes: Vec::with_capacity(alloc, room)?,
@@ -79,12 +81,14 @@ impl Sink for MemSink {
     fn write(&mut self, piece: &[u8]) -> Result<usize, Failed>
         ensures bound { IfOk result (λ taken. taken ≤ length piece.now) }
         ensures progress { IfOk result (λ taken. 0 < length piece.now → 0 < taken) }
-        ensures bytes { WriteAppends (Some self.old.written) (Some self.new.written) result piece.now }
+        ensures bytes { WriteAppends (Some self.old.written)
+            (Some self.new.written) result piece.now }
         ensures fault { OnErr result (Rises self.old.faults self.new.faults) }
         ensures never_falls { self.old.faults ≤ self.new.faults }
         ensures promised { KeepsRoom None None result piece.now }
 
-        ensures answer { MatchBool (is_refused self.old piece.now) (IsErr result) (result ≡ Ok (accepted self.old (length piece.now))) }
+        ensures answer { MatchBool (is_refused self.old piece.now)
+            (IsErr result) (result ≡ Ok (accepted self.old (length piece.now))) }
         ensures after { self.new ≡ after_write self.old piece.now }
     {
         let due = self.begin_call();

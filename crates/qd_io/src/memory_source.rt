@@ -71,7 +71,8 @@ impl Source for MemSource {
         ensures fault { OnErr result (Rises self.old.faults self.new.faults) }
         ensures never_falls { self.old.faults ≤ self.new.faults }
 
-        ensures answer { MatchBool (is_due self.old.fails self.old.calls) (IsErr result) (result ≡ Ok (given self.old (length buf.old))) }
+        ensures answer { MatchBool (is_due self.old.fails self.old.calls)
+            (IsErr result) (result ≡ Ok (given self.old (length buf.old))) }
         ensures after { self.new ≡ after_read self.old (length buf.old) }
     {
         if self.begin_call() {

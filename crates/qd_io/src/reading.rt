@@ -43,12 +43,16 @@ impl From<AllocError> for ReadRefusal {
 /// Reads a source to its end.
 pub fn read_all<S: Source>(alloc: Global, source: &mut S) -> Result<Vec<u8>, ReadRefusal>
     // All that was left.
-    ensures whole { IfOk result (λ bytes. Consumes (S.left source.old) (S.left source.new) bytes.items × IsAtEnd (S.left source.new)) }
+    ensures whole { IfOk result (λ bytes. Consumes (S.left source.old)
+        (S.left source.new) bytes.items × IsAtEnd (S.left source.new)) }
     ensures within { IfOk result (λ bytes. vec_len bytes ≤ INPUT_LIMIT) }
 
-    ensures fault { result ≡ Err ReadRefusal.ReadFault → Rises (S.faults source.old) (S.faults source.new) × TakesUpTo INPUT_LIMIT (S.left source.old) (S.left source.new) }
-    ensures too_long { result ≡ Err ReadRefusal.TooLong → TakesOver INPUT_LIMIT (S.left source.old) (S.left source.new) }
-    ensures memory { result ≡ Err ReadRefusal.Memory → TakesUpTo INPUT_LIMIT (S.left source.old) (S.left source.new) }
+    ensures fault { result ≡ Err ReadRefusal.ReadFault → Rises (S.faults source.old)
+        (S.faults source.new) × TakesUpTo INPUT_LIMIT (S.left source.old) (S.left source.new) }
+    ensures too_long { result ≡ Err ReadRefusal.TooLong
+        → TakesOver INPUT_LIMIT (S.left source.old) (S.left source.new) }
+    ensures memory { result ≡ Err ReadRefusal.Memory
+        → TakesUpTo INPUT_LIMIT (S.left source.old) (S.left source.new) }
     ensures never_falls { S.faults source.old ≤ S.faults source.new }
 {
     let mut bytes = Vec::new(alloc);

@@ -79,7 +79,8 @@ impl Model for SureSink {
 impl SureSink {
     /// A sink that promises room for `room` bytes, which is made now.
     pub fn new(alloc: Global, room: usize) -> Result<SureSink, Memory>
-        ensures made { IfOk result (λ sink. sink ≡ record { written = []; room = room; faults = 0 }) }
+        ensures made { IfOk result (λ sink. sink
+            ≡ record { written = []; room = room; faults = 0 }) }
     {
         Ok(SureSink {
             bytes: Vec::with_capacity(alloc, room)?,
@@ -106,15 +107,22 @@ impl Sink for SureSink {
     fn write(&mut self, piece: &[u8]) -> Result<usize, Failed>
         ensures bound { IfOk result (λ taken. taken ≤ length piece.now) }
         ensures progress { IfOk result (λ taken. 0 < length piece.now → 0 < taken) }
-        ensures bytes { WriteAppends (Some self.old.written) (Some self.new.written) result piece.now }
+        ensures bytes { WriteAppends (Some self.old.written)
+            (Some self.new.written) result piece.now }
         ensures fault { OnErr result (Rises self.old.faults self.new.faults) }
         ensures never_falls { self.old.faults ≤ self.new.faults }
         ensures promised { KeepsRoom (Some self.old.room) (Some self.new.room) result piece.now }
 
         ensures sure { IsOk result ↔ (length piece.now ≤ self.old.room) }
-        ensures taken { OnOk result (self.new ≡ record { written = self.old.written ++ piece.now; room = self.old.room - length piece.now; faults = self.old.faults }) }
+        ensures taken { OnOk result (self.new ≡ record {
+          written = self.old.written
+              ++ piece.now;
+          room = self.old.room - length piece.now;
+          faults = self.old.faults;
+        }) }
         ensures all { IfOk result (λ taken. taken ≡ length piece.now) }
-        ensures refused { OnErr result (self.new ≡ record self.old { faults = next_fault self.old.faults }) }
+        ensures refused { OnErr result (self.new
+            ≡ record self.old { faults = next_fault self.old.faults }) }
     {
         if piece.len() > self.room {
             self.faults = self.faults.saturating_add(1);

@@ -60,7 +60,8 @@ fn token_start(bytes: &[u8], from: usize) -> usize
     ensures later { from ≤ result }
     ensures bound { result ≤ length bytes.now }
     ensures same { tokens_from result bytes.now ≡ tokens_from from bytes.now }
-    ensures begins { result < length bytes.now → is_separator (slice_index bytes.now result) ≡ false }
+    ensures begins { result < length bytes.now → is_separator (slice_index bytes.now result)
+        ≡ false }
 {
     let mut inside = false;
     for at in from..bytes.len() {

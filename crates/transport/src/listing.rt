@@ -22,7 +22,8 @@ use table_check::Table;
 
 /// Whether a value is 1.
 fn is_one<const K: u32>(value: &Cyc<K>) -> bool
-    ensures one { result ≡ is_same (cyclotomic_value K value.now.coefficients) (value_one (cyclotomic K)) }
+    ensures one { result ≡ is_same (cyclotomic_value K value.now.coefficients)
+        (value_one (cyclotomic K)) }
 {
     *value == Cyc::one()
 }
@@ -37,7 +38,8 @@ fn is_vacuum<const K: u32>(table: &Table<K>, r: u32) -> bool
         places,
         |x| -> bool
             requires { (r < length table.now.rows) × (x < size table.now.over) }
-            ensures { result ≡ is_same ((characters_of K table.entry.now.rows).chi r x) (value_one (cyclotomic K)) }
+            ensures { result ≡ is_same ((characters_of K table.entry.now.rows).chi r x)
+                (value_one (cyclotomic K)) }
         { is_one(&table.value(r, x)) },
     )
 }
@@ -45,7 +47,9 @@ fn is_vacuum<const K: u32>(table: &Table<K>, r: u32) -> bool
 /// The values of row `r`, place after place.
 fn values_of<const K: u32>(alloc: Global, table: &Table<K>, r: u32) -> Result<Vec<Cyc<K>>, Memory>
     requires r_below { r < length table.now.rows }
-    ensures values { IfOk result (λ values. coefficients_of K values.items ≡ map (λ p. ((characters_of K table.now.rows).chi r p).coefficients) (range_with_len 0 (size table.now.over))) }
+    ensures values { IfOk result (λ values. coefficients_of K values.items
+        ≡ map (λ p. ((characters_of K table.now.rows).chi r p).coefficients)
+        (range_with_len 0 (size table.now.over))) }
 {
     let places = table.over().size();
     let mut values = Vec::new(alloc);
@@ -93,7 +97,8 @@ fn append_rows<const K: u32>(
     c: u32,
     table: &Table<K>,
 ) -> Result<(), Memory>
-    ensures added { OnOk result (map (simple_in K) entries.new.items ≡ map (simple_in K) entries.old.items ++ rows_of K c table.now) }
+    ensures added { OnOk result (map (simple_in K) entries.new.items
+        ≡ map (simple_in K) entries.old.items ++ rows_of K c table.now) }
     ensures few { OnOk result (length table.now.rows ≤ 60) }
     ensures shaped { OnOk result (IsShaped K table.now) }
     ensures good { OnOk result (IsGood table.now.over (characters_of K table.now.rows)) }
@@ -107,7 +112,8 @@ fn append_rows<const K: u32>(
 
 /// All rows of all tables.
 fn all_rows<const K: u32>(alloc: Global, tables: &Tables<K>) -> Result<Vec<Entry<K>>, Memory>
-    ensures rows { IfOk result (λ entries. map (simple_in K) entries.items ≡ rows_below K (length tables.now) tables.now) }
+    ensures rows { IfOk result (λ entries. map (simple_in K) entries.items
+        ≡ rows_below K (length tables.now) tables.now) }
     ensures good { IfOk result (λ _. AreGood K (length tables.now) tables.now) }
     ensures few { IfOk result (λ entries. length entries.items ≤ 60 * length tables.now) }
 {
@@ -120,7 +126,8 @@ fn all_rows<const K: u32>(alloc: Global, tables: &Tables<K>) -> Result<Vec<Entry
 
 /// All rows of all tables, in the order of simples.
 pub fn listed<const K: u32>(alloc: Global, tables: &Tables<K>) -> Result<Vec<Entry<K>>, Memory>
-    ensures listed { IfOk result (λ entries. map (simple_in K) entries.items ≡ simples_of K tables.now) }
+    ensures listed { IfOk result (λ entries. map (simple_in K) entries.items
+        ≡ simples_of K tables.now) }
     ensures good { IfOk result (λ _. AreGood K (length tables.now) tables.now) }
     ensures few { IfOk result (λ entries. length entries.items ≤ 60 * length tables.now) }
 {

@@ -82,7 +82,8 @@ impl<const K: u32> Simples<K> {
     ) -> Result<Simples<K>, Memory>
         requires classes { classes ≡ w.group }
         requires tables { HasTables w tables }
-        ensures simples { IfOk result (λ simples. simples ≡ record { cocycle = w; tables = tables.entry }) }
+        ensures simples { IfOk result (λ simples. simples
+            ≡ record { cocycle = w; tables = tables.entry }) }
         ensures good { IfOk result (λ simples. AreSimples K simples) }
     {
         let entries = listed(alloc, &tables)?;
@@ -108,7 +109,8 @@ impl<const K: u32> Simples<K> {
         requires i_below { i < count K self.now }
         ensures class { result ≡ class_at K self.now i }
         ensures below { result < length (representatives self.now.cocycle.group) }
-        ensures places { size (over_at K self.now i) ≡ length (centraliser_of self.now.cocycle.group (representative_at self.now.cocycle.group result)) }
+        ensures places { size (over_at K self.now i) ≡ length (centraliser_of self.now.cocycle.group
+            (representative_at self.now.cocycle.group result)) }
     {
         self.entries[i as usize].class
     }
@@ -192,10 +194,12 @@ impl<const K: u32> Simples<K> {
         requires x_below { x < self.now.cocycle.group.order }
         requires commute { product self.now.cocycle.group g x ≡ product self.now.cocycle.group x g }
         ensures forms { Forms (full_character K self.now i g x) (result_ok result) }
-        ensures site { IfErr result (λ site. site ≡ record { part = Full; at = g; i = i; j = 0; x = x }) }
+        ensures site { IfErr result (λ site. site
+            ≡ record { part = Full; at = g; i = i; j = 0; x = x }) }
 
         // By every element that carries the representative, and orthogonal to the others.
-        ensures transporter { IfOk result (λ value. IsByEachTransporter K self.now i g x (cyclotomic_value K value.coefficients)) }
+        ensures transporter { IfOk result (λ value.
+            IsByEachTransporter K self.now i g x (cyclotomic_value K value.coefficients)) }
         ensures orthogonal { CharactersOrthogonal K self.now }
     {
         if self.classes.class_of(g) != self.class(i) {
