@@ -1,10 +1,8 @@
 -- What a degree is.
-use Rattle.std.proofs.Common.{◌≡◌, ℕ, ◌+◌, ◌*◌, ◌%◌, ◌≤◌, true, Option, Some, None, sym, subst, arith, eqb-true}
-use Rattle.std.specs.Prelude.{◌==◌, ◌&&◌, nat_le, IfSome, if◌then◌else◌}
+use Rattle.char_lift.proofs.Names.{◌≡◌, ℕ, ◌+◌, ◌*◌, ◌%◌, ◌≤◌, true, Option, Some, None, sym, subst, arith, eqb-true, ◌==◌, IfSome, if◌then◌else◌, first, first_some, where_found}
+use Rattle.std.specs.Prelude.{◌&&◌, nat_le}
 use borrow.Author.Tests.{leb-true}
-use Rattle.scan.specs.First.{first}
-use Rattle.scan.proofs.Places.{first_some, and_true}
-use Rattle.prime_field.specs.Laws.Moduli.{where_found}
+use Rattle.scan.proofs.Places.{and_true}
 use Rattle.char_lift.specs.Candidate.{is_degree, least_degree}
 
 pub record IsDegree (q m t d : ℕ) : Type 0 where

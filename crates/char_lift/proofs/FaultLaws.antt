@@ -1,11 +1,7 @@
 -- What fails first in a row, and in the rows.
-use Rattle.std.proofs.Common.{◌≡◌, ◌≢◌, ℕ, ◌+◌, ◌<◌, true, false, List, Option, Some, None, refl, sym, ap, ◌∙◌, arith, eq-eqb}
-use Rattle.std.proofs.lemmas.Bool.{ne_eqb}
-use Rattle.std.specs.Prelude.{◌==◌, ℤ, unwrap_or, if◌then◌else◌}
-use Rattle.scan.specs.First.{first}
+use Rattle.char_lift.proofs.Names.{◌≡◌, ℕ, ◌+◌, ◌<◌, true, false, List, Option, Some, None, refl, sym, ap, ◌∙◌, arith, ne_eqb, ◌==◌, ℤ, unwrap_or, if◌then◌else◌, first, array_of, TwistedSubgroup, size, element}
+use Rattle.std.proofs.Common.{◌≢◌, eq-eqb}
 use Rattle.scan.proofs.Places.{first_found}
-use Rattle.qd_ring.specs.CycArrays.{array_of}
-use Rattle.twisted.specs.Twist.{TwistedSubgroup, size, element}
 use Rattle.char_lift.specs.Sums.{table_of}
 use Rattle.char_lift.specs.Candidate.{degree_sum, degree_of, multiplicity_sum, lifted_value}
 use Rattle.char_lift.specs.Faults.{place_fault, fault_with, row_fault, lift_fault, lifted_row, Refuses}

@@ -5,5 +5,6 @@ pub mod DegreeLaws
 pub mod TransformLaws
 pub mod ValueLaws
 pub mod FaultLaws
+pub mod Names
 pub mod RowLaws
 pub mod RootRows

@@ -1,15 +1,7 @@
 -- Class numbers, class factors and character ratios.
-use Rattle.std.proofs.Common.{◌≡◌, ℕ, suc, ◌*◌, ◌%◌, ◌<◌, List, length, get_or, true, false, Bool, Option, Some, None, refl, sym, ap, ◌∙◌, subst, arith}
-use Rattle.std.proofs.Math.Nat.{mod-lt}
-use Rattle.std.specs.Prelude.{◌==◌, slice_index, unwrap_or, if◌then◌else◌}
-use Rattle.scan.specs.First.{first}
-use Rattle.scan.proofs.Places.{first_some}
-use Rattle.classes.specs.Conjugacy.{representative_of}
-use Rattle.twisted.specs.Twist.{TwistedSubgroup, size}
-use Rattle.twisted.specs.Regular.{is_regular, regular_representatives, rank}
+use Rattle.char_lift.proofs.Names.{◌≡◌, ℕ, suc, ◌*◌, ◌%◌, ◌<◌, List, length, get_or, true, false, Bool, Option, Some, None, refl, sym, ap, ◌∙◌, subst, arith, mod-lt, ◌==◌, slice_index, unwrap_or, if◌then◌else◌, first, first_some, representative_of, TwistedSubgroup, size, rank, where_found, AreBelow}
+use Rattle.twisted.specs.Regular.{is_regular, regular_representatives}
 use Rattle.twisted.proofs.Representatives.{length-regular_representatives}
-use Rattle.prime_field.specs.Laws.Moduli.{where_found}
-use Rattle.prime_field.specs.ResidueLists.{AreBelow}
 use Rattle.char_lift.specs.Sums.{table_of}
 use Rattle.char_lift.specs.Ratios.{regular_number, class_factor, character_ratio, character_ratios, inverse_residue, class_size, inverse_root, carrying_phase}
 use Rattle.char_lift.proofs.SumLaws.{length-table, table-below}

@@ -1,16 +1,8 @@
 -- Lifted values are sums of roots of unity.
-use Rattle.std.proofs.Common.{◌≡◌, ℕ, ◌*◌, ◌<◌, ◌≤◌, true, false, List, [], length, get_or, Option, Some, None, refl, sym, ap, ◌∙◌, subst, inl, inr, arith, eqb-true}
-use Rattle.std.proofs.lemmas.Bool.{cases_eq, ne_eqb}
-use Rattle.std.specs.Prelude.{◌==◌, ℤ, slice_index_or, unwrap_or, if◌then◌else◌}
-use Rattle.scan.specs.First.{first}
+use Rattle.char_lift.proofs.Names.{◌≡◌, ℕ, ◌*◌, ◌<◌, ◌≤◌, true, false, List, [], length, get_or, Option, Some, None, refl, sym, ap, ◌∙◌, subst, inl, inr, arith, eqb-true, cases_eq, ne_eqb, ◌==◌, ℤ, unwrap_or, if◌then◌else◌, first, is_conductor, CyclotomicValue, cyclotomic_value, array_of, row_at, IsSumOfRoots, TwistedSubgroup, size, element}
+use Rattle.std.specs.Prelude.{slice_index_or}
 use Rattle.scan.proofs.Places.{first_none-at}
-use Rattle.cyclotomic.specs.Conductors.{is_conductor}
-use Rattle.cyclotomic.specs.CyclotomicRing.{CyclotomicValue, cyclotomic_value}
-use Rattle.qd_ring.specs.CycArrays.{array_of}
-use Rattle.qd_ring.specs.RowLists.{row_at}
-use Rattle.qd_ring.specs.RootSums.{IsSumOfRoots}
 use Rattle.qd_ring.proofs.ProductLaws.{value-array_of}
-use Rattle.twisted.specs.Twist.{TwistedSubgroup, size, element}
 use Rattle.char_lift.specs.Sums.{sum_of, table_of}
 use Rattle.char_lift.specs.Ratios.{character_ratios}
 use Rattle.char_lift.specs.Candidate.{degree_sum, degree_of, multiplicity, multiplicity_sum, with_multiplicities, lifted_value}

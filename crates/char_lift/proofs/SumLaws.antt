@@ -1,12 +1,6 @@
 -- Sums and lists of the values of a function.
-use Rattle.std.proofs.Common.{◌≡◌, ℕ, zero, suc, ◌+◌, ◌*◌, ◌%◌, ◌<◌, ◌≤◌, List, [], ◌∷◌, ◌++◌, length, get_or, refl, sym, ap, ◌∙◌, inl, inr, arith, length-append, add-one}
-use Rattle.std.proofs.Math.Nat.{mod-mod, mod-lt, mod-add-mod, add-mod-mod}
-use Rattle.std.proofs.Math.ListN.{get_or-append}
-use Rattle.std.proofs.Math.Seq.{get_or-append_seam}
-use Rattle.std.proofs.lemmas.Bool.{cases_eq}
-use Rattle.std.proofs.lemmas.Nat.{mul-mod_first}
-use mathlib.Core.Path.{ap₂}
-use Rattle.prime_field.specs.ResidueLists.{AreBelow}
+use Rattle.char_lift.proofs.Names.{◌≡◌, ℕ, zero, suc, ◌+◌, ◌*◌, ◌%◌, ◌<◌, ◌≤◌, List, [], ◌∷◌, ◌++◌, length, get_or, refl, sym, ap, ◌∙◌, inl, inr, arith, length-append, add-one, mod-mod, mod-lt, get_or-append, get_or-append_seam, cases_eq, mul-mod_first, ap₂, AreBelow}
+use Rattle.std.proofs.Math.Nat.{mod-add-mod, add-mod-mod}
 use Rattle.char_lift.specs.Sums.{sum_of, table_of}
 
 -- ---- sums

@@ -1,16 +1,6 @@
 -- The inverse transform of values that are known modulo q, and the values at powers.
-use Rattle.std.proofs.Common.{◌≡◌, ℕ, suc, ◌+◌, ◌-◌, ◌*◌, ◌%◌, ◌<◌, ◌≤◌, List, length, get_or, refl, sym, ap, ◌∙◌, arith, add-one}
-use Rattle.std.proofs.Math.Nat.{mod-lt, mod-mod}
-use Rattle.std.proofs.lemmas.Nat.{mul-mod_first, mul-mod_second}
-use Rattle.std.specs.Prelude.{slice_index}
-use mathlib.Core.Path.{ap₂}
-use Rattle.orders.specs.Group.{power}
-use Rattle.group_table.specs.Group.{product, identity_of}
-use Rattle.twisted.specs.Twist.{TwistedSubgroup, size, phase}
-use Rattle.central_ext.specs.Extension.{place_power, power_phase}
+use Rattle.char_lift.proofs.Names.{◌≡◌, ℕ, suc, ◌+◌, ◌-◌, ◌*◌, ◌%◌, ◌<◌, ◌≤◌, List, length, get_or, refl, sym, ap, ◌∙◌, arith, add-one, mod-lt, mod-mod, mul-mod_first, mul-mod_second, slice_index, ap₂, power, product, identity_of, TwistedSubgroup, size, phase, place_power, power_phase, AreBelow, power_modulo}
 use Rattle.central_ext.proofs.PairPowers.{power_phase-suc}
-use Rattle.prime_field.specs.ResidueLists.{AreBelow}
-use Rattle.prime_field.specs.Laws.Moduli.{power_modulo}
 use Rattle.char_lift.specs.Sums.{sum_of, table_of}
 use Rattle.char_lift.specs.Ratios.{inverse_residue}
 use Rattle.char_lift.specs.Candidate.{inverse_transform, with_multiplicities}

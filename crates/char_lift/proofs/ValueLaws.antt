@@ -1,16 +1,12 @@
 -- Values with given multiplicities of roots of unity.
-use Rattle.std.proofs.Common.{◌≡◌, ℕ, zero, suc, ◌+◌, ◌-◌, ◌*◌, ◌<◌, ◌≤◌, Bool, true, false, Option, Some, None, List, length, refl, sym, ap, ◌∙◌, inl, inr, arith, add-one}
-use Rattle.std.specs.Prelude.{ℤ, slice_index, is_some}
+use Rattle.char_lift.proofs.Names.{◌≡◌, ℕ, zero, suc, ◌+◌, ◌-◌, ◌*◌, ◌<◌, ◌≤◌, Bool, true, false, Option, Some, None, List, length, refl, sym, ap, ◌∙◌, inl, inr, arith, add-one, ℤ, slice_index, ap₂, multiple, sum_zero, is_conductor, value_sum, CyclotomicValue, cyclotomic_ring, cyclotomic_value, root, value_size, IsSumOfRoots}
+use Rattle.std.specs.Prelude.{is_some}
 use borrow.Author.Tests.{le-leb}
-use mathlib.Core.Path.{ap₂}
-use Rattle.algebra.specs.Sums.{sum_below, multiple}
-use Rattle.algebra.proofs.SumLaws.{sum_zero, sum_suc, multiple_zero, multiple_suc, sum_ext}
-use Rattle.cyclotomic.specs.Conductors.{is_conductor}
-use Rattle.cyclotomic.specs.Ring.{value_sum, value_nought}
-use Rattle.cyclotomic.specs.CyclotomicRing.{CyclotomicValue, cyclotomic_ring, cyclotomic_value, root}
-use Rattle.cyclotomic.specs.Fit.{value_size, value_fits, greatest_magnitude}
+use Rattle.algebra.specs.Sums.{sum_below}
+use Rattle.algebra.proofs.SumLaws.{sum_suc, multiple_zero, multiple_suc, sum_ext}
+use Rattle.cyclotomic.specs.Ring.{value_nought}
+use Rattle.cyclotomic.specs.Fit.{value_fits, greatest_magnitude}
 use Rattle.cyclotomic.proofs.Bounds.{root_size}
-use Rattle.qd_ring.specs.RootSums.{IsSumOfRoots}
 use Rattle.qd_ring.proofs.RootSumLaws.{no_root, one_root, roots_same, roots_together, roots_copied, roots_size}
 use Rattle.qd_ring.proofs.SizeLaws.{size_sum}
 use Rattle.char_lift.specs.Sums.{sum_of}

@@ -1,10 +1,5 @@
 -- The twisted group algebra of an element: by elements, and by the places of its centraliser.
-use Rattle.std.proofs.Common.{◌≡◌, refl, sym, ◌∙◌, ap}
-use Rattle.algebra.specs.Sums.{pick, multiple}
-use Rattle.algebra.specs.Totals.{Finite, equals, total}
-use Rattle.algebra.specs.Groups.{Group}
-use Rattle.algebra.proofs.GroupLaws.{inv_op_op}
-use Rattle.algebra.proofs.TotalLaws.{total_ext, total_constant}
+use Rattle.characters.proofs.Names.{◌≡◌, refl, sym, ◌∙◌, ap, pick, multiple, Finite, equals, total, Group, inv_op_op, total_ext, total_constant}
 use Rattle.characters.specs.Setting.{Setting, Commuting, commute}
 use Rattle.characters.specs.PhaseRoots.{slant_root, conjugation_root}
 use Rattle.characters.specs.Tables.{centraliser_order, centraliser_product}

@@ -1,13 +1,5 @@
 -- Full characters do not depend on the carrier, and are covariant.
-use Rattle.std.proofs.Common.{◌≡◌, Bool, true, false, refl, sym, ◌∙◌, ap, subst}
-use mathlib.Core.Path.{ap₂}
-use Rattle.algebra.specs.Sums.{pick}
-use Rattle.algebra.specs.Totals.{equals}
-use Rattle.algebra.specs.Groups.{conj}
-use Rattle.algebra.proofs.RingLaws.{mul_nought}
-use Rattle.algebra.proofs.SumLaws.{pick_of, pick_off, pick_nought}
-use Rattle.algebra.proofs.GroupLaws.{group_rules, conj_is, conj_op, conj_of_commuting, commuting_of_conj, op_inv_op}
-use Rattle.algebra.proofs.TotalLaws.{equals_true, equals_of}
+use Rattle.characters.proofs.Names.{◌≡◌, Bool, true, false, refl, sym, ◌∙◌, ap, subst, ap₂, pick, equals, conj, mul_nought, pick_of, pick_off, pick_nought, group_rules, conj_is, conj_op, conj_of_commuting, commuting_of_conj, op_inv_op, equals_true, equals_of}
 use Rattle.characters.specs.Setting.{Setting, Classes, Commuting, commute}
 use Rattle.characters.specs.PhaseRoots.{transport_root, conjugation_root}
 use Rattle.characters.specs.Simples.{Simples}

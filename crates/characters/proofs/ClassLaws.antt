@@ -1,7 +1,5 @@
 -- Classes from representatives and elements that carry these to their conjugates.
-use Rattle.std.proofs.Common.{◌≡◌, sym, ◌∙◌, ap}
-use Rattle.algebra.specs.Groups.{Group, conj}
-use Rattle.algebra.proofs.GroupLaws.{group_rules, conj_is}
+use Rattle.characters.proofs.Names.{◌≡◌, sym, ◌∙◌, ap, Group, conj, group_rules, conj_is}
 use Rattle.characters.specs.Setting.{Classes}
 
 module _ {G : Type 0} (P : Group G) where

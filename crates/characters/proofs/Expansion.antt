@@ -1,11 +1,5 @@
 -- Covariant functions of pairs that commute are combinations of full characters.
-use Rattle.std.proofs.Common.{◌≡◌, sym, ◌∙◌, ap}
-use Rattle.algebra.specs.Sums.{pick}
-use Rattle.algebra.specs.Totals.{Finite, equals, total}
-use Rattle.algebra.specs.Groups.{conj}
-use Rattle.algebra.proofs.RingLaws.{product_rules, one_mul}
-use Rattle.algebra.proofs.SumLaws.{mul_pick}
-use Rattle.algebra.proofs.TotalLaws.{total_ext, mul_total, total_mul}
+use Rattle.characters.proofs.Names.{◌≡◌, sym, ◌∙◌, ap, pick, Finite, equals, total, conj, product_rules, one_mul, mul_pick, total_ext, mul_total, total_mul}
 use Rattle.characters.specs.Setting.{Setting, Classes, Commuting}
 use Rattle.characters.specs.PhaseRoots.{transport_root}
 use Rattle.characters.specs.Simples.{Simples}

@@ -1,13 +1,5 @@
 -- Tensor products decompose into simples.
-use Rattle.std.proofs.Common.{◌≡◌, refl, sym, ◌∙◌, ap}
-use mathlib.Core.Path.{ap₂}
-use Rattle.algebra.specs.Sums.{pick}
-use Rattle.algebra.specs.Totals.{Finite, equals, total}
-use Rattle.algebra.specs.Groups.{conj}
-use Rattle.algebra.proofs.RingLaws.{product_rules, one_mul, mul_left_comm}
-use Rattle.algebra.proofs.SumLaws.{pick_of, mul_pick, pick_mul, pick_swap}
-use Rattle.algebra.proofs.GroupLaws.{op_conj, conj_injective, conj_inv, conj_of_inv, one_conj}
-use Rattle.algebra.proofs.TotalLaws.{total_ext, total_exchange, total_pick, total_reindex, mul_total, total_mul, pick_total, equals_true, equals_of}
+use Rattle.characters.proofs.Names.{◌≡◌, refl, sym, ◌∙◌, ap, ap₂, pick, Finite, equals, total, conj, product_rules, one_mul, mul_left_comm, pick_of, mul_pick, pick_mul, pick_swap, op_conj, conj_injective, conj_inv, conj_of_inv, one_conj, total_ext, total_exchange, total_pick, total_reindex, mul_total, total_mul, pick_total, equals_true, equals_of}
 use Rattle.characters.specs.Setting.{Setting, Classes, Commuting, commute}
 use Rattle.characters.specs.PhaseRoots.{transport_root, coproduct_root}
 use Rattle.characters.specs.Simples.{Simples}

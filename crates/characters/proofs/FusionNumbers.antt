@@ -1,12 +1,6 @@
 -- Fusion numbers are tensor multiplicities, and are given by S.
 use Rattle.characters.proofs.OrthogonalityLaws.{of_whole}
-use Rattle.std.proofs.Common.{◌≡◌, ℕ, sym, ◌∙◌, ap}
-use mathlib.Core.Path.{ap₂}
-use Rattle.algebra.specs.Sums.{IsTorsionFree, pick, multiple}
-use Rattle.algebra.specs.Totals.{Finite, equals, total}
-use Rattle.algebra.proofs.RingLaws.{product_rules, mul_left_comm}
-use Rattle.algebra.proofs.SumLaws.{pick_map, multiple_map, mul_multiple, multiple_mul, mul_pick}
-use Rattle.algebra.proofs.TotalLaws.{total_ext, total_exchange, total_pick, mul_total, total_mul, total_map}
+use Rattle.characters.proofs.Names.{◌≡◌, ℕ, sym, ◌∙◌, ap, ap₂, IsTorsionFree, pick, multiple, Finite, equals, total, product_rules, mul_left_comm, pick_map, multiple_map, mul_multiple, multiple_mul, mul_pick, total_ext, total_exchange, total_pick, mul_total, total_mul, total_map}
 use Rattle.characters.specs.Setting.{Setting, Classes, Commuting}
 use Rattle.characters.specs.Simples.{Simples}
 use Rattle.characters.specs.Tables.{group_order, GoodTables}

@@ -14,5 +14,6 @@ pub mod Unitarity
 pub mod FusionLaws
 pub mod VerlindeLaws
 pub mod FusionNumbers
+pub mod Names
 pub mod TwistLaws
 pub mod Relations

@@ -1,14 +1,7 @@
 -- The orthogonality of rows and of full characters.
-use Rattle.std.proofs.Common.{◌≡◌, ℕ, ◌≤◌, Bool, true, false, refl, sym, ◌∙◌, ap}
-use mathlib.Core.Path.{ap₂}
-use Rattle.algebra.specs.Structures.{CommRing}
-use Rattle.algebra.specs.Sums.{IsTorsionFree, pick, multiple}
-use Rattle.algebra.specs.Totals.{Finite, equals, total}
-use Rattle.algebra.specs.Groups.{conj}
-use Rattle.algebra.proofs.RingLaws.{mul_nought, nought_mul, neg_unique, neg_neg}
-use Rattle.algebra.proofs.SumLaws.{pick_mul, pick_of, pick_off, pick_nought, pick_cong, pick_true, pick_false, multiple_of_add, multiple_neg, mul_multiple, multiple_is_mul}
-use Rattle.algebra.proofs.GroupLaws.{conj_op, conj_inv, conj_of_inv, inv_op_op, op_inv_op, conj_of_commuting, commuting_of_conj}
-use Rattle.algebra.proofs.TotalLaws.{total_ext, total_exchange, total_pick, total_reindex, total_nought, total_constant, equals_true, equals_of, equals_false}
+use Rattle.characters.proofs.Names.{◌≡◌, ℕ, ◌≤◌, Bool, true, false, refl, sym, ◌∙◌, ap, ap₂, CommRing, IsTorsionFree, pick, multiple, Finite, equals, total, conj, mul_nought, nought_mul, pick_mul, pick_of, pick_off, pick_nought, pick_cong, pick_true, pick_false, mul_multiple, multiple_is_mul, conj_op, conj_inv, conj_of_inv, inv_op_op, op_inv_op, conj_of_commuting, commuting_of_conj, total_ext, total_exchange, total_pick, total_reindex, total_nought, total_constant, equals_true, equals_of, equals_false, bar_nought}
+use Rattle.algebra.proofs.RingLaws.{neg_unique, neg_neg}
+use Rattle.algebra.proofs.SumLaws.{multiple_of_add, multiple_neg}
 use Rattle.characters.specs.Setting.{Setting, Classes, commute}
 use Rattle.characters.specs.PhaseRoots.{slant_root, transport_root}
 use Rattle.characters.specs.Simples.{Simples}
@@ -19,7 +12,6 @@ use Rattle.characters.proofs.SettingLaws.{same_test, commute_of, commute_true, c
 use Rattle.characters.proofs.PairLaws.{pair_sum_is, inner_product_is}
 use Rattle.characters.proofs.AlgebraLaws.{centraliser_order_is, centraliser_product_is}
 use Rattle.characters.proofs.CharacterLaws.{full_character_is, full_character_off, in_class_is, in_class_true}
-use Rattle.algebra.proofs.InvolutionLaws.{bar_nought}
 use Rattle.characters.proofs.SLaws.{degree_bar}
 
 -- equal multiples by a whole number from 1 on are those of equal elements

@@ -1,13 +1,7 @@
 -- From places to elements.
-use Rattle.std.proofs.Common.{◌≡◌, Bool, true, false, refl, sym, ◌∙◌, ap, subst}
-use mathlib.Core.Path.{ap₂}
-use Rattle.algebra.specs.Structures.{CommRing}
-use Rattle.algebra.specs.Sums.{pick}
-use Rattle.algebra.specs.Totals.{Finite, equals, total}
-use Rattle.algebra.specs.Groups.{Group}
-use Rattle.algebra.proofs.SumLaws.{pick_off, pick_true, pick_false, pick_same}
-use Rattle.algebra.proofs.GroupLaws.{inv_unique, op_cancel_left}
-use Rattle.algebra.proofs.TotalLaws.{total_ext, total_exchange, total_pick, total_nought, equals_true, equals_of}
+use Rattle.characters.proofs.Names.{◌≡◌, Bool, true, false, refl, sym, ◌∙◌, ap, subst, ap₂, CommRing, pick, Finite, equals, total, Group, pick_off, pick_true, pick_false, op_cancel_left, total_ext, total_exchange, total_pick, total_nought, equals_true, equals_of}
+use Rattle.algebra.proofs.SumLaws.{pick_same}
+use Rattle.algebra.proofs.GroupLaws.{inv_unique}
 use Rattle.characters.specs.Parts.{IsPart, IsSubgroup, extended}
 use Rattle.characters.proofs.SettingLaws.{same_test}
 

@@ -1,11 +1,5 @@
 -- A good table over the places of a centraliser is one over its elements.
-use Rattle.std.proofs.Common.{◌≡◌, sym, ◌∙◌, ap, subst}
-use mathlib.Core.Path.{ap₂}
-use Rattle.algebra.specs.Sums.{pick, multiple}
-use Rattle.algebra.specs.Totals.{Finite, equals, total}
-use Rattle.algebra.specs.Groups.{Group}
-use Rattle.algebra.proofs.SumLaws.{multiple_is_mul}
-use Rattle.algebra.proofs.TotalLaws.{equals_of}
+use Rattle.characters.proofs.Names.{◌≡◌, sym, ◌∙◌, ap, subst, ap₂, pick, multiple, Finite, equals, total, Group, multiple_is_mul, equals_of}
 use Rattle.characters.specs.Setting.{Setting, Classes, Commuting, commute}
 use Rattle.characters.specs.PhaseRoots.{slant_root, conjugation_root}
 use Rattle.characters.specs.Simples.{Simples}

@@ -1,13 +1,5 @@
 -- The relations of S and T.
-use Rattle.std.proofs.Common.{◌≡◌, refl, sym, ◌∙◌, ap}
-use mathlib.Core.Path.{ap₂}
-use Rattle.algebra.specs.Sums.{IsTorsionFree, pick}
-use Rattle.algebra.specs.Totals.{Finite, equals, total}
-use Rattle.algebra.proofs.RingLaws.{product_rules, one_mul, mul_left_comm}
-use Rattle.algebra.proofs.SumLaws.{mul_pick, pick_mul}
-use Rattle.algebra.proofs.GroupLaws.{op_op_inv}
-use Rattle.algebra.proofs.InvolutionLaws.{bar_one}
-use Rattle.algebra.proofs.TotalLaws.{total_ext, total_exchange, total_pick, mul_total, total_mul, total_map}
+use Rattle.characters.proofs.Names.{◌≡◌, refl, sym, ◌∙◌, ap, ap₂, IsTorsionFree, pick, Finite, equals, total, product_rules, one_mul, mul_left_comm, mul_pick, pick_mul, op_op_inv, bar_one, total_ext, total_exchange, total_pick, mul_total, total_mul, total_map}
 use Rattle.characters.specs.Setting.{Setting, Classes, Commuting}
 use Rattle.characters.specs.PhaseRoots.{slant_root}
 use Rattle.characters.specs.Simples.{Simples}

@@ -1,14 +1,7 @@
 -- The sum of S: its terms at conjugate pairs, its symmetry, and its row at the vacuum.
-use Rattle.std.proofs.Common.{◌≡◌, Bool, true, false, refl, sym, ◌∙◌, ap, subst, ◌*◌}
-use mathlib.Core.Path.{ap₂}
-use Rattle.algebra.specs.Sums.{pick, multiple}
-use Rattle.algebra.specs.Totals.{equals, total, Finite}
-use Rattle.algebra.specs.Groups.{conj}
-use Rattle.algebra.proofs.RingLaws.{one_mul, nought_mul}
-use Rattle.algebra.proofs.SumLaws.{pick_of, pick_off, pick_nought, pick_cong, pick_map, pick_true, pick_false, multiple_map, multiple_multiple}
-use Rattle.algebra.proofs.GroupLaws.{conj_inv, one_conj}
-use Rattle.algebra.proofs.InvolutionLaws.{bar_one, bar_nought}
-use Rattle.algebra.proofs.TotalLaws.{total_ext, total_exchange, total_pick, equals_true, equals_of, total_constant}
+use Rattle.characters.proofs.Names.{◌≡◌, Bool, true, false, refl, sym, ◌∙◌, ap, subst, ap₂, pick, multiple, equals, total, Finite, conj, one_mul, nought_mul, pick_of, pick_off, pick_nought, pick_cong, pick_map, pick_true, pick_false, multiple_map, conj_inv, one_conj, bar_one, bar_nought, total_ext, total_exchange, total_pick, equals_true, equals_of, total_constant}
+use Rattle.std.proofs.Common.{◌*◌}
+use Rattle.algebra.proofs.SumLaws.{multiple_multiple}
 use Rattle.characters.proofs.PartLaws.{total_places}
 use Rattle.characters.specs.Parts.{IsPart}
 use Rattle.characters.specs.Setting.{Setting, Classes, Commuting, commute}

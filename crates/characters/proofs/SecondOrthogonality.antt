@@ -1,14 +1,5 @@
 -- The orthogonality of full characters at two pairs of elements that commute.
-use Rattle.std.proofs.Common.{◌≡◌, Bool, true, false, refl, sym, ◌∙◌, ap}
-use mathlib.Core.Path.{ap₂}
-use Rattle.algebra.specs.Sums.{pick}
-use Rattle.algebra.specs.Totals.{Finite, equals, total}
-use Rattle.algebra.specs.Groups.{conj}
-use Rattle.algebra.proofs.RingLaws.{product_rules, mul_nought, nought_mul}
-use Rattle.algebra.proofs.SumLaws.{pick_off, pick_true, pick_false, mul_pick}
-use Rattle.algebra.proofs.GroupLaws.{group_rules, conj_is, conj_op, conj_inv, conj_of_inv, conj_of_commuting, commuting_of_conj}
-use Rattle.algebra.proofs.InvolutionLaws.{bar_nought}
-use Rattle.algebra.proofs.TotalLaws.{total_ext, total_reindex, total_nought, mul_total, equals_true, equals_of, equals_false}
+use Rattle.characters.proofs.Names.{◌≡◌, Bool, true, false, refl, sym, ◌∙◌, ap, ap₂, pick, Finite, equals, total, conj, product_rules, mul_nought, nought_mul, pick_off, pick_true, pick_false, mul_pick, group_rules, conj_is, conj_op, conj_inv, conj_of_inv, conj_of_commuting, commuting_of_conj, bar_nought, total_ext, total_reindex, total_nought, mul_total, equals_true, equals_of, equals_false}
 use Rattle.characters.specs.Setting.{Setting, Classes, Commuting, commute}
 use Rattle.characters.specs.PhaseRoots.{transport_root, conjugation_root}
 use Rattle.characters.specs.Simples.{Simples}

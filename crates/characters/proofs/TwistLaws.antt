@@ -1,14 +1,6 @@
 -- Full characters at products with their own element, and at inverses.
-use Rattle.std.proofs.Common.{◌≡◌, Bool, true, false, refl, sym, ◌∙◌, ap, subst}
-use mathlib.Core.Path.{ap₂}
-use Rattle.algebra.specs.Sums.{IsTorsionFree, pick, multiple}
-use Rattle.algebra.specs.Totals.{Finite, equals, total}
-use Rattle.algebra.specs.Groups.{conj}
-use Rattle.algebra.proofs.RingLaws.{product_rules, one_mul, mul_nought, mul_left_comm}
-use Rattle.algebra.proofs.SumLaws.{pick_of, pick_true, pick_false, mul_pick, pick_mul}
-use Rattle.algebra.proofs.GroupLaws.{conj_of_commuting, inv_op_op, op_op_inv, op_conj, inv_conj}
-use Rattle.algebra.proofs.InvolutionLaws.{bar_nought}
-use Rattle.algebra.proofs.TotalLaws.{total_ext, total_pick, mul_total, total_mul, equals_true, equals_of}
+use Rattle.characters.proofs.Names.{◌≡◌, Bool, true, false, refl, sym, ◌∙◌, ap, subst, ap₂, IsTorsionFree, pick, multiple, Finite, equals, total, conj, product_rules, one_mul, mul_nought, mul_left_comm, pick_of, pick_true, pick_false, mul_pick, pick_mul, conj_of_commuting, inv_op_op, op_op_inv, op_conj, bar_nought, total_ext, total_pick, mul_total, total_mul, equals_true, equals_of}
+use Rattle.algebra.proofs.GroupLaws.{inv_conj}
 use Rattle.characters.specs.Setting.{Setting, Classes, Commuting}
 use Rattle.characters.specs.PhaseRoots.{slant_root, transport_root, conjugation_root}
 use Rattle.characters.specs.Simples.{Simples}

@@ -1,11 +1,5 @@
 -- S is unitary.
-use Rattle.std.proofs.Common.{◌≡◌, sym, ◌∙◌, ap}
-use mathlib.Core.Path.{ap₂}
-use Rattle.algebra.specs.Sums.{IsTorsionFree, pick}
-use Rattle.algebra.specs.Totals.{Finite, equals, total}
-use Rattle.algebra.specs.Groups.{conj}
-use Rattle.algebra.proofs.SumLaws.{mul_pick}
-use Rattle.algebra.proofs.TotalLaws.{total_ext}
+use Rattle.characters.proofs.Names.{◌≡◌, sym, ◌∙◌, ap, ap₂, IsTorsionFree, pick, Finite, equals, total, conj, mul_pick, total_ext}
 use Rattle.characters.specs.Setting.{Setting, Classes}
 use Rattle.characters.specs.PhaseRoots.{transport_root}
 use Rattle.characters.specs.Simples.{Simples}

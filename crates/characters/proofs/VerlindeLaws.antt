@@ -1,13 +1,7 @@
 -- Verlinde's formula.
-use Rattle.std.proofs.Common.{◌≡◌, ◌≤◌, ◌<◌, Bool, true, false, refl, sym, ◌∙◌, ap, subst, arith}
-use mathlib.Core.Path.{ap₂}
-use Rattle.algebra.specs.Sums.{IsTorsionFree, pick, multiple}
-use Rattle.algebra.specs.Totals.{Finite, equals, total}
-use Rattle.algebra.specs.Groups.{conj}
-use Rattle.algebra.proofs.RingLaws.{product_rules, one_mul, mul_nought, nought_mul, mul_left_comm}
-use Rattle.algebra.proofs.SumLaws.{pick_of, pick_off, pick_nought, pick_cong, pick_true, pick_false, mul_pick, pick_mul, pick_swap, multiple_mul}
-use Rattle.algebra.proofs.GroupLaws.{group_rules, conj_one, conj_inv, conj_of_inv, conj_of_commuting, inv_op_op}
-use Rattle.algebra.proofs.TotalLaws.{total_ext, total_exchange, total_pick, total_reindex, total_nought, mul_total, total_mul, pick_total, equals_true, equals_of}
+use Rattle.characters.proofs.Names.{◌≡◌, ◌≤◌, Bool, true, false, refl, sym, ◌∙◌, ap, subst, ap₂, IsTorsionFree, pick, multiple, Finite, equals, total, conj, product_rules, one_mul, mul_nought, nought_mul, mul_left_comm, pick_of, pick_off, pick_nought, pick_cong, pick_true, pick_false, mul_pick, pick_mul, pick_swap, multiple_mul, group_rules, conj_inv, conj_of_inv, conj_of_commuting, inv_op_op, total_ext, total_exchange, total_pick, total_reindex, total_nought, mul_total, total_mul, pick_total, equals_true, equals_of}
+use Rattle.std.proofs.Common.{◌<◌, arith}
+use Rattle.algebra.proofs.GroupLaws.{conj_one}
 use Rattle.characters.specs.Setting.{Setting, Classes, Commuting, commute}
 use Rattle.characters.specs.PhaseRoots.{slant_root, transport_root, conjugation_root}
 use Rattle.characters.specs.Simples.{Simples}

@@ -1,28 +1,12 @@
 -- The centre of a twisted group algebra by its structure, and the lists of the numbers at its pieces.
-use Rattle.std.proofs.Common.{◌≡◌, ℕ, ◌*◌, ◌%◌, ◌<◌, ◌≤◌, true, Bool, List, [], ◌∷◌, length, get_or, refl, sym, ◌∙◌, ap, subst}
+use Rattle.dixon_split.proofs.Names.{◌≡◌, ℕ, ◌*◌, ◌%◌, ◌<◌, ◌≤◌, true, Bool, List, [], ◌∷◌, length, get_or, refl, sym, ◌∙◌, ap, subst, CommRing, sum_below, Below, sum_ext, ModRing, is_modulus, field_residue, AreBelow, residue_of_value, TwistedSubgroup, size, IsTwist, rank, regular_representatives, twisted_product, regular_sum, IsFixed, ZeroTest, number, IsSplitting, AreCentralCharacters, Zipped, residue_field}
 use Rattle.std.proofs.Math.Bool.{Bool-set}
 use Rattle.std.specs.declared.vec.Vec.{Vec}
 use Rattle.std.specs.declared.alloc.Global.{Global}
-use Rattle.algebra.specs.Structures.{CommRing}
-use Rattle.algebra.specs.Sums.{sum_below}
-use Rattle.algebra.specs.Below.{Below}
-use Rattle.algebra.proofs.SumLaws.{sum_ext}
-use Rattle.prime_field.specs.declared.mod_ring.ModRing.{ModRing}
-use Rattle.prime_field.specs.Moduli.{is_modulus}
-use Rattle.prime_field.specs.Field.{field_residue}
-use Rattle.prime_field.specs.ResidueLists.{AreBelow}
-use Rattle.prime_field.proofs.ResidueSums.{residue_of_value}
-use Rattle.twisted.specs.Twist.{TwistedSubgroup, size, IsTwist}
-use Rattle.twisted.specs.Regular.{rank, regular_representatives}
-use Rattle.twisted.specs.Algebra.{twisted_product}
-use Rattle.centre_algebra.specs.CentralCharacters.{regular_sum}
 use Rattle.centre_powers.specs.CentralPowers.{unit_period}
-use Rattle.splitting_theory.specs.Splitting.{IsFixed, ZeroTest, number, IsSplitting}
 use Rattle.splitting_theory.proofs.Counting.{splitting_counts}
-use Rattle.centre_algebra.specs.Laws.{AreCentralCharacters}
-use Rattle.centre_algebra.proofs.Numbers.{Zipped}
 use Rattle.centre_algebra.proofs.CentreRing.{unit_at_place}
-use Rattle.centre_algebra.proofs.CharacterLists.{divides, R, U, C, E, fixed, residue_field, nought_test, AreNumbers, lists_characters, number_at, image_at}
+use Rattle.centre_algebra.proofs.CharacterLists.{divides, R, U, C, E, fixed, nought_test, AreNumbers, lists_characters, number_at, image_at}
 use Rattle.dixon_split.specs.ClassSums.{constant_value}
 use Rattle.dixon_split.specs.Elements.{Element}
 use Rattle.dixon_split.specs.Structures.{constant, HasStructure}

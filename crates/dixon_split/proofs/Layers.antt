@@ -1,21 +1,9 @@
 -- Powers, Horner's sums and parts, number by number.
-use Rattle.std.proofs.Common.{◌≡◌, ℕ, zero, suc, ◌+◌, ◌-◌, ◌*◌, ◌<◌, ◌≤◌, List, [], ◌++◌, length, length-append, get_or, refl, sym, ◌∙◌, ap, subst, arith, inl, inr, ◌⊎◌}
-use Rattle.std.proofs.Math.Nat.{zero-mod, suc-mul}
-use Rattle.std.proofs.Math.Numerals.{add-one}
-use Rattle.std.proofs.lemmas.Nat.{mul-le}
-use Rattle.prime_field.specs.Laws.Moduli.{modulus_bound}
-use Rattle.std.proofs.lemmas.Bool.{cases_lt}
-use Rattle.std.proofs.lemmas.List.{get_or_append_left, get_or-append-add, get_or-append_right}
-use mathlib.Core.Path.{fun_ext, ap₂}
-use Rattle.algebra.specs.Structures.{CommRing}
-use Rattle.algebra.specs.Below.{Below}
-use Rattle.algebra.specs.Sums.{power}
+use Rattle.dixon_split.proofs.Names.{◌≡◌, ℕ, zero, suc, ◌+◌, ◌-◌, ◌*◌, ◌<◌, ◌≤◌, List, [], ◌++◌, length, length-append, get_or, refl, sym, ◌∙◌, ap, subst, arith, inl, inr, ◌⊎◌, zero-mod, suc-mul, add-one, mul-le, modulus_bound, cases_lt, get_or_append_left, get_or-append-add, fun_ext, ap₂, CommRing, Below, power, field, field_residue, IsTabulated, residue_of_value, number, part}
+use Rattle.std.proofs.lemmas.List.{get_or-append_right}
 use Rattle.algebra.proofs.RingLaws.{one_mul}
 use Rattle.algebra.proofs.SumLaws.{power_zero, power_suc}
-use Rattle.prime_field.specs.Field.{field, field_residue}
-use Rattle.prime_field.specs.ResidueLists.{IsTabulated}
-use Rattle.prime_field.proofs.ResidueSums.{residue_of_value}
-use Rattle.splitting_theory.specs.Splitting.{number, horner, part}
+use Rattle.splitting_theory.specs.Splitting.{horner}
 use Rattle.splitting_theory.proofs.Parts.{horner_zero, horner_suc, part_is}
 use Rattle.dixon_split.specs.Elements.{Element, IsElement}
 use Rattle.dixon_split.specs.Structures.{residues, HasStructure}

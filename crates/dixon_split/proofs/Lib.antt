@@ -7,4 +7,5 @@ pub mod Quotients
 pub mod Refining
 pub mod ClassSums
 pub mod Characters
+pub mod Names
 pub mod Values

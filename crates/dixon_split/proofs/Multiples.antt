@@ -1,16 +1,6 @@
 -- Numbers by which an element of the basis multiplies an element.
-use Rattle.std.proofs.Common.{◌≡◌, ℕ, ◌*◌, ◌%◌, ◌<◌, Bool, true, false, cond, Option, Some, None, IfSome, IfNone, List, get_or, refl, sym, ◌∙◌, ap, subst, arith, eqb-true}
-use Rattle.std.proofs.Math.Dec.{eqb}
-use Rattle.std.proofs.Math.Nat.{mod-eq_of_lt}
-use Rattle.std.proofs.lemmas.Bool.{eq-eqb}
+use Rattle.dixon_split.proofs.Names.{◌≡◌, ℕ, ◌*◌, ◌%◌, ◌<◌, Bool, true, false, cond, Option, Some, None, IfSome, IfNone, List, get_or, refl, sym, ◌∙◌, ap, subst, arith, eqb-true, eqb, mod-eq_of_lt, eq-eqb, fun_ext, all_below, first, all_below-at, all_below-all, first_some, first_none-at, CommRing, Below, below_equal, field, field_residue, number, Acts}
 use Rattle.std.proofs.lemmas.Nat.{mul-mod_first, mul-mod_second}
-use mathlib.Core.Path.{fun_ext}
-use Rattle.scan.specs.First.{all_below, first}
-use Rattle.scan.proofs.Places.{all_below-at, all_below-all, first_some, first_none-at}
-use Rattle.algebra.specs.Structures.{CommRing}
-use Rattle.algebra.specs.Below.{Below, below_equal}
-use Rattle.prime_field.specs.Field.{field, field_residue}
-use Rattle.splitting_theory.specs.Splitting.{number, Acts}
 use Rattle.dixon_split.specs.Elements.{Element, IsElement}
 use Rattle.dixon_split.specs.Structures.{residues, HasStructure}
 use Rattle.dixon_split.specs.declared.structure.Structure.{Structure}

@@ -1,15 +1,6 @@
 -- Parts that are added to a list, and those that are nought and left out.
-use Rattle.std.proofs.Common.{◌≡◌, ◌≢◌, ℕ, suc, true, false, List, [], ◌∷◌, ◌++◌, map, get_or, append_assoc, refl, sym, ◌∙◌, ap, arith, eqb-true}
-use Rattle.std.proofs.Math.Dec.{eqb}
-use Rattle.std.proofs.Math.Nat.{mod-eq_of_lt}
-use Rattle.std.proofs.lemmas.Bool.{eq-eqb}
-use mathlib.Core.Path.{fun_ext, ap₂}
-use Rattle.scan.specs.First.{all_below}
-use Rattle.scan.proofs.Places.{all_below-at, all_below-all}
-use Rattle.algebra.specs.Structures.{CommRing}
-use Rattle.prime_field.specs.Field.{field_residue}
+use Rattle.dixon_split.proofs.Names.{◌≡◌, ◌≢◌, ℕ, suc, true, false, List, [], ◌∷◌, ◌++◌, map, get_or, append_assoc, refl, sym, ◌∙◌, ap, arith, eqb-true, eqb, mod-eq_of_lt, eq-eqb, fun_ext, ap₂, all_below, all_below-at, all_below-all, CommRing, field_residue, ZeroTest, part, parts_below}
 use Rattle.prime_field.specs.Laws.Field.{nought_value}
-use Rattle.splitting_theory.specs.Splitting.{ZeroTest, part, parts_below}
 use Rattle.splitting_theory.proofs.Pieces.{parts_zero, parts_skip, parts_keep, test_true, test_false}
 use Rattle.dixon_split.specs.Elements.{Element, IsElement}
 use Rattle.dixon_split.specs.Structures.{residues, HasStructure}

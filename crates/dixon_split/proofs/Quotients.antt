@@ -1,18 +1,8 @@
 -- The number by which an element of the basis multiplies an element, from one place at which the element isn't 0.
-use Rattle.std.proofs.Common.{◌≡◌, ◌≢◌, ℕ, ◌*◌, ◌%◌, ◌<◌, Bool, true, false, cond, Option, Some, None, unwrap_or, List, get_or, refl, sym, ◌∙◌, ap, subst, arith, eqb-true}
-use Rattle.std.proofs.Math.Dec.{eqb}
-use Rattle.std.proofs.Math.Nat.{mod-eq_of_lt, zero-mod}
-use Rattle.std.proofs.lemmas.Bool.{eq-eqb}
-use mathlib.Core.Path.{fun_ext}
-use Rattle.scan.specs.First.{first}
-use Rattle.scan.proofs.Places.{first_some, first_none-at}
-use Rattle.algebra.specs.Structures.{CommRing}
-use Rattle.algebra.specs.Below.{Below, below_equal}
-use Rattle.algebra.proofs.RingLaws.{mul_nought}
+use Rattle.dixon_split.proofs.Names.{◌≡◌, ◌≢◌, ℕ, ◌*◌, ◌%◌, ◌<◌, Bool, true, false, cond, Option, Some, None, List, get_or, refl, sym, ◌∙◌, ap, subst, arith, eqb-true, eqb, mod-eq_of_lt, zero-mod, eq-eqb, fun_ext, first, first_some, first_none-at, CommRing, Below, below_equal, mul_nought, field, field_residue, number, Acts}
+use Rattle.std.proofs.Common.{unwrap_or}
 use Rattle.algebra.specs.Fields.{Field}
-use Rattle.prime_field.specs.Field.{field, field_residue}
 use Rattle.prime_field.proofs.PolynomialValues.{residue_field}
-use Rattle.splitting_theory.specs.Splitting.{number, Acts}
 use Rattle.dixon_split.specs.Elements.{Element, IsElement}
 use Rattle.dixon_split.specs.Structures.{image_value, residues, HasStructure}
 use Rattle.dixon_split.specs.declared.structure.Structure.{Structure}

@@ -1,20 +1,9 @@
 -- The parts of the pieces so far, and of one more.
-use Rattle.std.proofs.Common.{◌≡◌, ℕ, zero, suc, ◌+◌, ◌<◌, ◌≤◌, ◌≢◌, Bool, true, false, cond, All, Option, Some, None, IfSome, IfNone, List, [], ◌∷◌, ◌++◌, map, take, length, get_or, append_assoc, refl, sym, ◌∙◌, ap, subst, arith}
-use Rattle.std.specs.Prelude.{flat_map}
-use Rattle.std.proofs.Math.Numerals.{add-one}
-use Rattle.std.proofs.Math.Dec.{eqb}
-use Rattle.std.proofs.lemmas.List.Elements.{All-nil, All-cons}
-use mathlib.Core.Path.{fun_ext}
-use Rattle.algebra.specs.Structures.{CommRing}
+use Rattle.dixon_split.proofs.Names.{◌≡◌, ℕ, zero, suc, ◌+◌, ◌<◌, ◌≤◌, ◌≢◌, Bool, true, false, cond, All, Option, Some, None, IfSome, IfNone, List, [], ◌∷◌, ◌++◌, map, take, length, get_or, append_assoc, refl, sym, ◌∙◌, ap, subst, arith, flat_map, add-one, eqb, All-nil, All-cons, fun_ext, CommRing, field, field_residue, IsTabulated, modulus_positive, Each, IsFixed, ZeroTest, IsPiece, pieces, pieces_split}
 use Rattle.algebra.specs.Sums.{pick}
 use Rattle.algebra.proofs.SumLaws.{pick_true, pick_false}
-use Rattle.prime_field.specs.Field.{field, field_residue}
-use Rattle.prime_field.specs.ResidueLists.{IsTabulated}
-use Rattle.prime_field.specs.Laws.Moduli.{modulus_over_one, modulus_positive}
-use Rattle.splitting_theory.specs.Lists.{Each}
-use Rattle.splitting_theory.specs.Splitting.{IsFixed, ZeroTest, IsPiece, pieces}
+use Rattle.prime_field.specs.Laws.Moduli.{modulus_over_one}
 use Rattle.splitting_theory.proofs.Lists.{each_map}
-use Rattle.splitting_theory.proofs.Pieces.{pieces_split}
 use Rattle.dixon_split.specs.Elements.{Element, IsElement}
 use Rattle.dixon_split.specs.Structures.{residues, HasStructure}
 use Rattle.dixon_split.specs.declared.structure.Structure.{Structure}

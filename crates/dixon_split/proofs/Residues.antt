@@ -1,10 +1,6 @@
 -- Lists of residues as elements of an algebra with a structure.
-use Rattle.std.proofs.Common.{◌≡◌, ℕ, ◌+◌, ◌*◌, ◌<◌, ◌≤◌, Result, Ok, Err, IfOk, List, get_or, sym, ◌∙◌, ap, subst, arith}
-use mathlib.Core.Path.{fun_ext}
-use Rattle.algebra.specs.Structures.{CommRing}
-use Rattle.algebra.specs.Sums.{sum_below}
-use Rattle.prime_field.specs.Field.{field, field_residue}
-use Rattle.prime_field.specs.ResidueLists.{IsTabulated}
+use Rattle.dixon_split.proofs.Names.{◌≡◌, ℕ, ◌+◌, ◌*◌, ◌<◌, ◌≤◌, List, get_or, sym, ◌∙◌, ap, subst, arith, fun_ext, CommRing, sum_below, field, field_residue, IsTabulated}
+use Rattle.std.proofs.Common.{Result, Ok, Err, IfOk}
 use Rattle.dixon_split.specs.Elements.{Element, IsElement}
 use Rattle.dixon_split.specs.Structures.{constant, image_value, residues, HasStructure}
 use Rattle.dixon_split.specs.declared.structure.Structure.{Structure}

@@ -1,19 +1,8 @@
 -- Numbers by which the basis multiplies elements, one after another and as lists of one width.
-use Rattle.std.proofs.Common.{◌≡◌, ℕ, zero, suc, ◌+◌, ◌*◌, ◌/◌, ◌%◌, ◌<◌, ◌≤◌, All, List, [], ◌∷◌, ◌++◌, map, length, length-append, get_or, refl, sym, ◌∙◌, ap, subst, arith, inl, inr, ◌⊎◌}
-use Rattle.std.specs.List.{concat}
-use Rattle.std.proofs.Math.Nat.{suc-mul, eq_of_mul-eq-mul_left}
-use Rattle.std.proofs.lemmas.Bool.{cases_lt}
-use Rattle.std.proofs.lemmas.List.{get_or_push, get_or_append_left, get_or-append-add, get_or-map, length-map}
+use Rattle.dixon_split.proofs.Names.{◌≡◌, ℕ, zero, suc, ◌+◌, ◌*◌, ◌/◌, ◌%◌, ◌<◌, ◌≤◌, All, List, [], ◌∷◌, ◌++◌, map, length, length-append, get_or, refl, sym, ◌∙◌, ap, subst, arith, inl, inr, ◌⊎◌, concat, suc-mul, cases_lt, get_or_append_left, get_or-append-add, get_or-map, length-map, CommRing, ModRing, row_of, column_at, TwistedSubgroup, Each, number, Acts, IsPiece, IsSplitting, pieces, pieces_split, AreCentralCharacters, Zipped}
+use Rattle.std.proofs.Math.Nat.{eq_of_mul-eq-mul_left}
+use Rattle.std.proofs.lemmas.List.{get_or_push}
 use Rattle.std.proofs.lemmas.List.Elements.{All-head, All-tail}
-use Rattle.algebra.specs.Structures.{CommRing}
-use Rattle.prime_field.specs.declared.mod_ring.ModRing.{ModRing}
-use Rattle.prime_field.proofs.ResidueRows.{row_of, column_at}
-use Rattle.twisted.specs.Twist.{TwistedSubgroup}
-use Rattle.splitting_theory.specs.Lists.{Each}
-use Rattle.splitting_theory.specs.Splitting.{number, Acts, IsPiece, IsSplitting, pieces}
-use Rattle.splitting_theory.proofs.Pieces.{pieces_split}
-use Rattle.centre_algebra.specs.Laws.{AreCentralCharacters}
-use Rattle.centre_algebra.proofs.Numbers.{Zipped}
 use Rattle.dixon_split.specs.Elements.{Element}
 use Rattle.dixon_split.specs.Structures.{residues, HasStructure}
 use Rattle.dixon_split.specs.Values.{AreValues}

@@ -1,8 +1,7 @@
 -- Fusion numbers are small, since the dimensions of the simples are.
-use Rattle.std.proofs.Common.{◌≡◌, ℕ, zero, suc, ◌+◌, ◌*◌, ◌<◌, ◌≤◌, None, ap, arith}
-use Rattle.std.proofs.Math.Nat.{mul-le-mul}
-use mathlib.Core.Logic.{◌⊎◌, inl, inr}
-use Rattle.transport.specs.Simples.{SimplesOver, count, dimension_at, AreSimples}
+use Rattle.fusion.proofs.Names.{◌≡◌, ℕ, zero, suc, ◌+◌, ◌*◌, ◌<◌, ◌≤◌, None, ap, arith, mul-le-mul, inl, inr, SimplesOver, count, AreSimples}
+use mathlib.Core.Logic.{◌⊎◌}
+use Rattle.transport.specs.Simples.{dimension_at}
 use Rattle.transport.specs.Matrices.{sum_numbers}
 use Rattle.transport.proofs.Rows.{last_or_less}
 use Rattle.transport.proofs.DoubleSimples.{degree}

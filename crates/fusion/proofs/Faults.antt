@@ -1,11 +1,7 @@
 -- Fusion sums that are whole, and the first that isn't.
-use Rattle.std.proofs.Common.{◌≡◌, ℕ, ◌*◌, ◌<◌, Option, Some, None, refl, sym, ◌∙◌, ap}
-use Rattle.std.specs.Option.{is_some, unwrap_or}
+use Rattle.fusion.proofs.Names.{◌≡◌, ℕ, ◌*◌, ◌<◌, Option, Some, None, refl, sym, ◌∙◌, ap, is_some, if◌then◌else◌, whole, SimplesOver, count, fusion_sum, IsFusionNumber}
+use Rattle.std.specs.Option.{unwrap_or}
 use Rattle.scan.proofs.Places.{first_found, first_none-at}
-use Rattle.std.specs.Prelude.{if◌then◌else◌}
-use Rattle.table_check.specs.Formed.{whole}
-use Rattle.transport.specs.Simples.{SimplesOver, count}
-use Rattle.transport.specs.Fusion.{fusion_sum, IsFusionNumber}
 use Rattle.fusion.specs.Numbers.{quotient_at, fusion_number, sum_fault, pair_fault, simple_fault, whole_fault, SumsBeforeAreWhole}
 use Rattle.fusion.proofs.Quotients.{quotient_means}
 

@@ -1,8 +1,6 @@
 -- A number of which a fusion sum is the multiple is its fusion number.
-use Rattle.std.proofs.Common.{◌≡◌, ℕ, ◌*◌, ◌/◌, ◌<◌, Some, ap, ◌∙◌}
+use Rattle.fusion.proofs.Names.{◌≡◌, ℕ, ◌*◌, ◌/◌, ◌<◌, Some, ap, ◌∙◌, SimplesOver, AreSimples, fusion_sum, IsFusionNumber}
 use Rattle.std.proofs.Math.Nat.{mul_comm, mul-mod_right, mul-div_cancel}
-use Rattle.transport.specs.Simples.{SimplesOver, AreSimples}
-use Rattle.transport.specs.Fusion.{fusion_sum, IsFusionNumber}
 use Rattle.transport.specs.Headline.{OfAllSimples}
 use Rattle.transport.proofs.Doubles.{order_positive}
 use Rattle.transport.proofs.DoubleSimples.{divides}

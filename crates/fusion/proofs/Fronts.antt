@@ -1,12 +1,8 @@
 -- Webs while fusion numbers are added.
-use Rattle.std.proofs.Common.{◌≡◌, ℕ, ◌+◌, ◌*◌, ◌/◌, ◌%◌, ◌<◌, ◌≤◌, ◌==◌, ◌&&◌, Bool, true, false, nat_lt, [], refl, sym, ap, ap₂, ◌∙◌, subst, arith, eq-eqb}
-use Rattle.std.specs.Prelude.{if◌then◌else◌}
-use Rattle.std.proofs.Math.Nat.{mul-le-mul}
+use Rattle.fusion.proofs.Names.{◌≡◌, ℕ, ◌+◌, ◌*◌, ◌/◌, ◌%◌, ◌<◌, ◌≤◌, ◌==◌, ◌&&◌, Bool, true, false, [], refl, sym, ap, ap₂, ◌∙◌, subst, arith, eq-eqb, if◌then◌else◌, mul-le-mul, div-mul-add, mod-mul-add, and_true, WebEntries, count_of, SimplesOver, count}
+use Rattle.std.proofs.Common.{nat_lt}
 use Rattle.std.proofs.lemmas.Bool.{eqb-true, lt-ltb, le-ltb, ltb-true, ltb-false}
-use Rattle.std.proofs.lemmas.Nat.{div-mul-add, mod-mul-add}
-use Rattle.scan.proofs.Places.{and_true}
-use Rattle.fusion_web.specs.Entries.{WebEntries, count_of, most_nodes}
-use Rattle.transport.specs.Simples.{SimplesOver, count}
+use Rattle.fusion_web.specs.Entries.{most_nodes}
 use Rattle.fusion.specs.Numbers.{fusion_number}
 use Rattle.fusion.specs.Fronts.{triple, HasCount, IsFront}
 use Rattle.fusion.proofs.Places.{pair_below}

@@ -1,10 +1,10 @@
 -- The terms of fusion sums are the same at all conjugates of a pair of elements that commute.
-use Rattle.std.proofs.Common.{◌≡◌, ℕ, ◌<◌, sym, ap, ap₂, ◌∙◌}
+use Rattle.fusion.proofs.Names.{◌≡◌, ℕ, ◌<◌, sym, ap, ap₂, ◌∙◌, CyclotomicValue, SimplesOver, count, AreSimples}
 use Rattle.algebra.specs.Groups.{conj}
 use Rattle.algebra.specs.Below.{Below, below_equal}
 use Rattle.algebra.proofs.GroupLaws.{op_assoc, inv_inv, conj_is}
 use Rattle.classes.specs.Conjugacy.{conjugate}
-use Rattle.cyclotomic.specs.CyclotomicRing.{CyclotomicValue, conjugate as conjugate_value}
+use Rattle.cyclotomic.specs.CyclotomicRing.{conjugate as conjugate_value}
 use Rattle.pair_orbits.specs.Laws.{IsInvariant}
 use Rattle.slant.proofs.Instances.{group}
 use Rattle.characters.specs.Setting.{Setting, Classes, Commuting}
@@ -14,7 +14,6 @@ use Rattle.characters.specs.Fusion.{tensor_character as abstract_tensor}
 use Rattle.characters.proofs.SettingLaws.{commuting_conj, transport_root_bar, cancel_pair}
 use Rattle.characters.proofs.CharacterLaws.{covariance}
 use Rattle.characters.proofs.FusionLaws.{tensor_covariant}
-use Rattle.transport.specs.Simples.{SimplesOver, count, AreSimples}
 use Rattle.transport.proofs.Doubles.{double_classes, conjugate_value_is}
 use Rattle.transport.proofs.DoubleSimples.{setting, simples}
 use Rattle.transport.proofs.CharacterLaws.{character_is}

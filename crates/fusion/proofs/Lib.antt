@@ -1,3 +1,4 @@
+pub mod Names
 mod Lists
 mod Places
 mod MemberSums

@@ -1,10 +1,6 @@
 -- Full characters that are kept.
-use Rattle.std.proofs.Common.{◌≡◌, ◌+◌, ◌*◌, ◌/◌, ◌<◌, ℕ, List, Option, get_or, sym, ◌∙◌, ap, subst, arith}
-use Rattle.std.specs.Global.{Vec, Box}
-use Rattle.std.proofs.lemmas.Nat.{div-mul-add, mod-mul-add, row_fits}
-use Rattle.classes.specs.Conjugacy.{class_of}
-use Rattle.qd_ring.specs.declared.monomial.Monomial.{Monomial}
-use Rattle.transport.specs.Simples.{SimplesOver, count, class_at}
+use Rattle.fusion.proofs.Names.{◌≡◌, ◌+◌, ◌*◌, ◌/◌, ◌<◌, ℕ, List, Option, get_or, sym, ◌∙◌, ap, subst, arith, Vec, Box, div-mul-add, mod-mul-add, class_of, Monomial, SimplesOver, count, class_at}
+use Rattle.std.proofs.lemmas.Nat.{row_fits}
 use Rattle.fusion.specs.Kept.{IsFullRow, AreFullValues}
 
 -- a place among the pairs

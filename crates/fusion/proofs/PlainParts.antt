@@ -1,14 +1,8 @@
 -- How products and root multiples are formed.
-use Rattle.std.proofs.Common.{◌≡◌, ◌%◌, ◌&&◌, ℕ, true, Option, Some, None, sym, ◌∙◌, ap, ap₂, subst}
-use Rattle.std.specs.Option.{is_some, IfSome}
-use Rattle.cyclotomic.specs.Conductors.{is_conductor}
-use Rattle.cyclotomic.specs.Cyclotomic.{cyclotomic}
-use Rattle.cyclotomic.specs.CyclotomicRing.{cyclotomic_value, root}
+use Rattle.fusion.proofs.Names.{◌≡◌, ◌%◌, ◌&&◌, ℕ, true, Option, Some, None, sym, ◌∙◌, ap, ap₂, subst, is_some, IfSome, is_conductor, cyclotomic, cyclotomic_value, root, value_product, root_modulo, Formed, Forms, multiplied}
 use Rattle.cyclotomic.specs.Fit.{value_fits, product_fits}
-use Rattle.cyclotomic.specs.Ring.{value_product}
-use Rattle.cyclotomic.proofs.Inverses.{root_modulo}
 use Rattle.qd_ring.specs.declared.cyc.Cyc.{Cyc}
-use Rattle.qd_ring.specs.Formed.{Formed, Forms, multiplied, turned}
+use Rattle.qd_ring.specs.Formed.{turned}
 use Rattle.fusion.specs.Kept.{Answers}
 
 module _ (k : ℕ) where

@@ -1,7 +1,5 @@
 -- What is known of all fusion numbers once each fusion sum is whole.
-use Rattle.std.proofs.Common.{◌≡◌, ℕ, ◌*◌, ◌≤◌, ◌<◌, None, ap, ◌∙◌, sym, subst}
-use Rattle.table_check.specs.Formed.{whole}
-use Rattle.transport.specs.Simples.{SimplesOver, count, AreSimples}
+use Rattle.fusion.proofs.Names.{◌≡◌, ℕ, ◌*◌, ◌≤◌, ◌<◌, None, ap, ◌∙◌, sym, subst, whole, SimplesOver, count, AreSimples}
 use Rattle.transport.specs.Headline.{IsFusionRule}
 use Rattle.transport.proofs.FusionLaws.{numbers_are_rule}
 use Rattle.fusion.specs.Numbers.{fusion_number, whole_fault, HoldsSmallNumbers}

@@ -1,25 +1,14 @@
 -- Tensor characters as sums over the members of a class.
-use Rattle.std.proofs.Common.{◌≡◌, ◌+◌, ◌<◌, ◌%◌, ◌==◌, ◌&&◌, ℕ, Bool, true, false, length, get_or, refl, sym, ◌∙◌, ap, ap₂, add-one}
-use Rattle.algebra.specs.Sums.{sum_below}
-use Rattle.group_table.specs.Group.{IsGroup}
-use Rattle.classes.specs.Conjugacy.{class_of, representatives}
-use Rattle.cyclotomic.specs.Conductors.{is_conductor}
-use Rattle.cyclotomic.specs.Cyclotomic.{cyclotomic}
-use Rattle.cyclotomic.specs.Ring.{value_nought, value_sum, value_product}
-use Rattle.cyclotomic.specs.CyclotomicRing.{CyclotomicValue, cyclotomic_ring, root}
+use Rattle.fusion.proofs.Names.{◌≡◌, ◌+◌, ◌<◌, ◌%◌, ◌==◌, ◌&&◌, ℕ, Bool, true, false, length, get_or, refl, sym, ◌∙◌, ap, ap₂, sum_below, IsGroup, class_of, representatives, is_conductor, cyclotomic, value_nought, value_sum, value_product, CyclotomicValue, cyclotomic_ring, root, root_modulo, Formed, gamma, SimplesOver, class_at, root_exponent, full_character, commute, left_quotient, tensor_character}
+use Rattle.std.proofs.Common.{add-one}
 use Rattle.cyclotomic.specs.Laws.Values.{product_comm, sum_nought}
 use Rattle.cyclotomic.proofs.Images.{root-zero}
-use Rattle.cyclotomic.proofs.Inverses.{root_modulo}
 use Rattle.algebra.proofs.RingLaws.{one_mul}
 use Rattle.algebra.proofs.SumLaws.{sum_suc}
 use Rattle.qd_ring.specs.Folding.{turned_product}
-use Rattle.qd_ring.specs.Formed.{Formed, where_so}
+use Rattle.qd_ring.specs.Formed.{where_so}
 use Rattle.qd_ring.proofs.SpreadLaws.{product-nought}
-use Rattle.slant.specs.Phases.{gamma}
-use Rattle.transport.specs.Simples.{SimplesOver, class_at}
-use Rattle.transport.specs.FullCharacters.{root_exponent, full_character}
-use Rattle.transport.specs.SSums.{commute}
-use Rattle.transport.specs.Fusion.{left_quotient, tensor_term, tensor_character}
+use Rattle.transport.specs.Fusion.{tensor_term}
 use Rattle.fusion.specs.Kept.{members_at, tensor_part}
 use Rattle.fusion.proofs.MemberSums.{sum_of_members}
 

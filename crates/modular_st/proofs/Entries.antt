@@ -1,14 +1,7 @@
 -- The entries of the matrix S, from its rows.
-use Rattle.std.proofs.Common.{◌≡◌, ℕ, ◌<◌, ℤ, List, [], length, map, get_or, sym, ◌∙◌, ap, arith, zero-add}
-use Rattle.std.specs.List.{range_with_len}
+use Rattle.modular_st.proofs.Names.{◌≡◌, ℕ, ◌<◌, ℤ, List, [], length, map, get_or, sym, ◌∙◌, ap, arith, zero-add, range_with_len, length-map, get_or-map, length-map-range_with_len, cyclotomic_value, value_nought, row_at, SimplesOver, count, s_sum}
 use Rattle.std.specs.Prelude.{slice_index_or}
-use Rattle.std.proofs.lemmas.List.{length-map, get_or-map}
-use Rattle.std.proofs.lemmas.List.FromFn.{length-map-range_with_len, get_or-map-range_with_len}
-use Rattle.cyclotomic.specs.CyclotomicRing.{cyclotomic_value}
-use Rattle.cyclotomic.specs.Ring.{value_nought}
-use Rattle.qd_ring.specs.RowLists.{row_at}
-use Rattle.transport.specs.Simples.{SimplesOver, count}
-use Rattle.transport.specs.SSums.{s_sum}
+use Rattle.std.proofs.lemmas.List.FromFn.{get_or-map-range_with_len}
 use Rattle.modular_st.specs.SMatrices.{row_values, values_of_rows, s_front, s_rows}
 use Rattle.modular_st.proofs.RowsMade.{front_width}
 

@@ -1,31 +1,18 @@
 -- Where the conjugates at the listed pairs are small, all terms of the numerators fit.
-use Rattle.std.proofs.Common.{◌≡◌, ◌+◌, ◌*◌, ◌^◌, ◌<◌, ◌==◌, ◌&&◌, ℕ, Bool, true, false, List, length, map, refl, sym, ◌∙◌, ap, ap₂, subst, arith}
-use Rattle.std.specs.Global.{Vec}
+use Rattle.modular_st.proofs.Names.{◌≡◌, ◌+◌, ◌*◌, ◌^◌, ◌<◌, ◌==◌, ◌&&◌, ℕ, Bool, true, false, List, length, map, refl, sym, ◌∙◌, ap, ap₂, subst, arith, Vec, div-mul-add, mod-mul-add, length-map, get_or-map, cyclotomic, value_nought, value_product, CyclotomicValue, root, conjugate, value_size, value_fits, Table, representatives, class_of, Pair, listed_pairs, no_pair, pair_at, Monomial, conjugated, SimplesOver, count, class_at, AreSimples, full_character, pair_term}
 use Rattle.std.proofs.lemmas.Bool.{eqb-true, eq-eqb}
-use Rattle.std.proofs.lemmas.Nat.{div-mul-add, mod-mul-add}
-use Rattle.std.proofs.lemmas.List.{length-map, get_or-map}
-use Rattle.cyclotomic.specs.Cyclotomic.{cyclotomic}
-use Rattle.cyclotomic.specs.Ring.{value_nought, value_product}
-use Rattle.cyclotomic.specs.CyclotomicRing.{CyclotomicValue, root, conjugate}
-use Rattle.cyclotomic.specs.Fit.{value_size, value_fits}
 use Rattle.cyclotomic.proofs.Sizes.{size-zeros}
-use Rattle.group_table.specs.Group.{Table, product, inverse, IsGroup}
+use Rattle.group_table.specs.Group.{product, inverse, IsGroup}
 use Rattle.group_table.proofs.Sentences.{group_below, two_sided_inverse, closed}
-use Rattle.classes.specs.Conjugacy.{conjugate as conjugate_element, representatives, class_of, transporter_of}
+use Rattle.classes.specs.Conjugacy.{conjugate as conjugate_element, transporter_of}
 use Rattle.classes.proofs.Conjugacy.{class_below, class_of_conjugate, conjugate_below, conjugate_of_product}
 use Rattle.slant.specs.Phases.{carried, transport_phase}
-use Rattle.pair_orbits.specs.declared.pair.Pair.{Pair}
-use Rattle.pair_orbits.specs.PairOrbits.{listed_pairs}
-use Rattle.pair_orbits.specs.Listing.{no_pair, pair_at, Carries}
+use Rattle.pair_orbits.specs.Listing.{Carries}
 use Rattle.pair_orbits.specs.Laws.{IsInvariant}
 use Rattle.pair_orbits.specs.FormedSums.{AllFit}
 use Rattle.pair_orbits.proofs.Listings.{listed_commute, listed_cover, weight_positive}
-use Rattle.qd_ring.specs.declared.monomial.Monomial.{Monomial}
-use Rattle.qd_ring.specs.Formed.{conjugated}
 use Rattle.qd_ring.proofs.NoughtLaws.{as_so}
-use Rattle.transport.specs.Simples.{SimplesOver, count, class_at, AreSimples}
-use Rattle.transport.specs.FullCharacters.{root_exponent, carried_value, full_character}
-use Rattle.transport.specs.SSums.{pair_term}
+use Rattle.transport.specs.FullCharacters.{root_exponent, carried_value}
 use Rattle.transport.proofs.CharacterLaws.{characters_covariant, terms_invariant}
 use Rattle.modular_st.specs.declared.conjugates.KeptConjugates.{KeptConjugates}
 use Rattle.modular_st.specs.Conjugates.{exchanged, meets, IsSmall, conjugate_at, AreKeptRows, AreKept}

@@ -1,14 +1,8 @@
 -- Rows of kept conjugates, pair by pair.
-use Rattle.std.proofs.Common.{◌≡◌, ◌+◌, ◌<◌, ℕ, Bool, true, false, cond, List, [], ◌∷◌, ◌++◌, length, map, take, sym, ◌∙◌, ap, ap₂, subst, arith, inl, inr}
-use Rattle.std.proofs.lemmas.Bool.{cases_eq}
-use Rattle.std.proofs.lemmas.List.{append-nil, map-append, length-map, get_or-map, take_all}
+use Rattle.modular_st.proofs.Names.{◌≡◌, ◌+◌, ◌<◌, ℕ, Bool, true, false, cond, List, [], ◌∷◌, ◌++◌, length, map, sym, ◌∙◌, ap, ap₂, subst, arith, inl, inr, cases_eq, map-append, length-map, get_or-map, Table, Pair, no_pair, pair_at, AreCommuting, Monomial, value_of_terms, SimplesOver, class_at}
+use Rattle.std.proofs.Common.{take}
+use Rattle.std.proofs.lemmas.List.{append-nil, take_all}
 use Rattle.std.proofs.lemmas.List.Elements.{filter_more}
-use Rattle.group_table.specs.Group.{Table}
-use Rattle.pair_orbits.specs.declared.pair.Pair.{Pair}
-use Rattle.pair_orbits.specs.Listing.{no_pair, pair_at, AreCommuting}
-use Rattle.qd_ring.specs.declared.monomial.Monomial.{Monomial}
-use Rattle.qd_ring.specs.SparseValues.{value_of_terms}
-use Rattle.transport.specs.Simples.{SimplesOver, class_at}
 use Rattle.modular_st.specs.Conjugates.{exchanged, meets, IsSmall, conjugate_at, met_pairs, IsKeptRow}
 
 module _ (k : ℕ) (s : SimplesOver) (pairs : List Pair) (i d : ℕ) where

@@ -1,35 +1,18 @@
 -- The numerators from the conjugates that are kept.
-use Rattle.std.proofs.Common.{◌≡◌, ◌+◌, ◌*◌, ◌/◌, ◌<◌, ◌&&◌, ◌==◌, ℕ, Bool, true, false, cond, Option, Some, None, IfSome, List, [], ◌∷◌, length, get_or, map, refl, sym, ◌∙◌, ap, ap₂, subst, arith}
+use Rattle.modular_st.proofs.Names.{◌≡◌, ◌+◌, ◌*◌, ◌/◌, ◌<◌, ◌&&◌, ◌==◌, ℕ, Bool, true, false, cond, Option, Some, None, IfSome, List, [], ◌∷◌, length, get_or, map, refl, sym, ◌∙◌, ap, ap₂, subst, arith, Vec, div-mul-add, mod-mul-add, length-map, get_or-map, multiple, representatives, class_of, cyclotomic, value_product, value_nought, CyclotomicValue, cyclotomic_ring, conjugate, Pair, listed_pairs, no_pair, Monomial, value_of_terms, given, IsTurnedProduct, SimplesOver, count, class_at, AreSimples, full_character, pair_term, s_sum}
 use Rattle.std.specs.List.{filter}
-use Rattle.std.specs.Global.{Vec}
 use Rattle.std.proofs.lemmas.Bool.{and_cases}
-use Rattle.std.proofs.lemmas.Nat.{div-mul-add, mod-mul-add}
-use Rattle.std.proofs.lemmas.List.{length-map, get_or-map}
 use mathlib.Core.Logic.{inl, inr}
 use mathlib.Core.Path.{fun_ext}
 use Rattle.algebra.specs.Structures.{CommRing}
-use Rattle.algebra.specs.Sums.{multiple}
 use Rattle.algebra.proofs.RingLaws.{nought_mul, mul_nought, one_mul}
 use Rattle.algebra.proofs.SumLaws.{multiple_mul, multiple_one, multiple_nought}
-use Rattle.classes.specs.Conjugacy.{representatives, class_of}
-use Rattle.cyclotomic.specs.Cyclotomic.{cyclotomic}
-use Rattle.cyclotomic.specs.Ring.{value_product, value_nought}
-use Rattle.cyclotomic.specs.CyclotomicRing.{CyclotomicValue, cyclotomic_ring, conjugate}
 use Rattle.cyclotomic.proofs.Images.{root-zero}
-use Rattle.pair_orbits.specs.declared.pair.Pair.{Pair}
-use Rattle.pair_orbits.specs.PairOrbits.{listed_pairs}
-use Rattle.pair_orbits.specs.Listing.{no_pair}
 use Rattle.pair_orbits.specs.FormedSums.{added, weighted}
 use Rattle.pair_orbits.proofs.FormedSums.{formed_by_orbits}
 use Rattle.pair_orbits.proofs.AddedSums.{listed_added, added_filtered}
 use Rattle.qd_ring.specs.declared.cyc.Cyc.{Cyc}
-use Rattle.qd_ring.specs.declared.monomial.Monomial.{Monomial}
-use Rattle.qd_ring.specs.SparseValues.{value_of_terms}
-use Rattle.qd_ring.specs.Formed.{Forms, given}
-use Rattle.qd_ring.specs.Folding.{IsTurnedProduct}
-use Rattle.transport.specs.Simples.{SimplesOver, count, class_at, AreSimples}
-use Rattle.transport.specs.FullCharacters.{full_character}
-use Rattle.transport.specs.SSums.{pair_term, s_sum}
+use Rattle.qd_ring.specs.Formed.{Forms}
 use Rattle.modular_st.specs.declared.conjugates.KeptConjugates.{KeptConjugates}
 use Rattle.modular_st.specs.Dots.{product_at, dot_product}
 use Rattle.modular_st.specs.Conjugates.{exchanged, meets, conjugate_at, met_pairs, IsKeptRow, AreKeptRows, AreKept}

@@ -1,15 +1,6 @@
 -- A conjugate as it is kept: as often as its weight says, in sparse form.
-use Rattle.std.proofs.Common.{◌≡◌, ◌^◌, ◌<◌, ℕ, true, List, Option, Some, None, IfSome, ◌∙◌, ap₂}
-use Rattle.cyclotomic.specs.Conductors.{is_conductor}
-use Rattle.cyclotomic.specs.Cyclotomic.{cyclotomic}
-use Rattle.cyclotomic.specs.Ring.{value_product}
-use Rattle.cyclotomic.specs.CyclotomicRing.{CyclotomicValue, conjugate}
-use Rattle.pair_orbits.specs.declared.pair.Pair.{Pair}
-use Rattle.qd_ring.specs.declared.monomial.Monomial.{Monomial}
+use Rattle.modular_st.proofs.Names.{◌≡◌, ◌^◌, ◌<◌, ℕ, true, List, Option, Some, None, IfSome, ◌∙◌, ap₂, is_conductor, cyclotomic, value_product, CyclotomicValue, conjugate, Pair, Monomial, value_of_terms, total_of_terms, SimplesOver, full_character}
 use Rattle.qd_ring.specs.Formed.{whole}
-use Rattle.qd_ring.specs.SparseValues.{value_of_terms, total_of_terms}
-use Rattle.transport.specs.Simples.{SimplesOver}
-use Rattle.transport.specs.FullCharacters.{full_character}
 use Rattle.transport.proofs.Wholes.{times_whole}
 use Rattle.modular_st.specs.Conjugates.{IsSmall, conjugate_at}
 use Rattle.modular_st.proofs.Smalls.{small_by_terms}

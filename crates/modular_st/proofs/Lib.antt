@@ -7,4 +7,5 @@ mod KeptRows
 mod KeptSums
 mod RowsMade
 pub mod Entries
+pub mod Names
 mod MatrixLaws

@@ -1,9 +1,6 @@
 -- The matrix S whose entries are the sums of the program is symmetric and unitary, and its row at the vacuum holds the dimensions.
-use Rattle.std.proofs.Common.{◌≡◌, ℕ, ◌<◌, sym, ap₂, ◌∙◌}
+use Rattle.modular_st.proofs.Names.{◌≡◌, ℕ, ◌<◌, sym, ap₂, ◌∙◌, cyclotomic_ring, conjugate, SimplesOver, count, AreSimples, s_sum}
 use Rattle.algebra.proofs.SumLaws.{sum_ext}
-use Rattle.cyclotomic.specs.CyclotomicRing.{cyclotomic_ring, conjugate}
-use Rattle.transport.specs.Simples.{SimplesOver, count, AreSimples}
-use Rattle.transport.specs.SSums.{s_sum}
 use Rattle.transport.specs.Matrices.{Matrix}
 use Rattle.transport.proofs.GoodTables.{first}
 use Rattle.transport.proofs.SMatrixLaws.{s_symmetric, vacuum_row, s_is_unitary}

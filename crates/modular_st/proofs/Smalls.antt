@@ -1,17 +1,11 @@
 -- Values whose multiples by roots of unity are small, and which values fit by them.
-use Rattle.std.proofs.Common.{◌≡◌, ◌-◌, ◌*◌, ◌^◌, ◌<◌, ◌≤◌, ℕ, true, List, sym, ◌∙◌, ap, subst, arith}
-use Rattle.std.proofs.Math.Nat.{mul-le-mul_right, mul-le-mul}
+use Rattle.modular_st.proofs.Names.{◌≡◌, ◌-◌, ◌*◌, ◌^◌, ◌<◌, ◌≤◌, ℕ, true, List, sym, ◌∙◌, ap, subst, arith, mul-le-mul, multiple, is_conductor, cyclotomic, value_product, CyclotomicValue, cyclotomic_ring, root, conjugate, value_size, value_fits, Monomial, value_of_terms, total_of_terms}
+use Rattle.std.proofs.Math.Nat.{mul-le-mul_right}
 use Rattle.std.proofs.lemmas.Bool.{le-leb, lt-ltb}
-use Rattle.algebra.specs.Sums.{multiple}
 use Rattle.algebra.proofs.SumLaws.{mul_multiple}
-use Rattle.cyclotomic.specs.Conductors.{is_conductor, phi_of}
-use Rattle.cyclotomic.specs.Cyclotomic.{cyclotomic}
-use Rattle.cyclotomic.specs.Ring.{value_product}
-use Rattle.cyclotomic.specs.CyclotomicRing.{CyclotomicValue, cyclotomic_ring, root, conjugate}
-use Rattle.cyclotomic.specs.Fit.{value_size, value_fits, product_fits, greatest_magnitude}
+use Rattle.cyclotomic.specs.Conductors.{phi_of}
+use Rattle.cyclotomic.specs.Fit.{product_fits, greatest_magnitude}
 use Rattle.cyclotomic.proofs.Inverses.{conjugation_prime, galois_product, galois_root, conjugate_conjugate}
-use Rattle.qd_ring.specs.declared.monomial.Monomial.{Monomial}
-use Rattle.qd_ring.specs.SparseValues.{value_of_terms, total_of_terms}
 use Rattle.qd_ring.specs.ReductionSigns.{conductor_bounds}
 use Rattle.qd_ring.proofs.SizeLaws.{size_image}
 use Rattle.qd_ring.proofs.SparseLaws.{size-turned}

@@ -1,13 +1,8 @@
 -- Conjugates that are 0, and sites of numerators.
-use Rattle.std.proofs.Common.{◌≡◌, ◌+◌, ◌*◌, ◌<◌, ◌==◌, ℕ, false, refl, sym, subst, arith}
+use Rattle.modular_st.proofs.Names.{◌≡◌, ◌+◌, ◌*◌, ◌<◌, ◌==◌, ℕ, false, refl, sym, subst, arith, class_of, conjugated, SimplesOver, count, class_at, full_character, s_sum}
 use Rattle.std.proofs.lemmas.Nat.{row_fits}
-use Rattle.classes.specs.Conjugacy.{class_of}
 use Rattle.qd_ring.specs.declared.site.Site.{Site}
-use Rattle.qd_ring.specs.Formed.{conjugated}
 use Rattle.qd_ring.proofs.NoughtLaws.{IsNought, unless_so, conjugate_of_nought}
-use Rattle.transport.specs.Simples.{SimplesOver, count, class_at}
-use Rattle.transport.specs.FullCharacters.{full_character}
-use Rattle.transport.specs.SSums.{s_sum}
 use Rattle.modular_st.specs.Numerators.{s_site, IsOverflow}
 
 -- a place among the pairs

@@ -1,19 +1,6 @@
 -- The certificate of an accepted document is accepted by `verify`.
-use Rattle.std.proofs.Common.{◌≡◌, ℕ, ◌%◌, ◌≤◌, true, List, [], ◌∷◌, length, codes, Some, refl, sym, ap, subst}
-use Rattle.std.specs.Prelude.{IfSome, sum}
-use Rattle.std.proofs.lemmas.List.{append-nil}
-use Rattle.cochain.specs.Cochain.{Cochain, IsCocycle}
-use Rattle.cyclotomic.specs.Conductors.{is_conductor, least_conductor}
-use Rattle.group_table.specs.Group.{IsGroup}
-use Rattle.transport.specs.Simples.{SimplesOver, AreSimples}
-use Rattle.root_tables.specs.RootRows.{HasRootRows}
-use Rattle.twist_lift.specs.Laws.{root_order}
-use Rattle.qd_io.specs.declared.reading.TheConstants.{INPUT_LIMIT}
-use Rattle.qd_doc.specs.Blocks.{Block}
-use Rattle.qd_doc.specs.declared.document.Document.{Document}
-use Rattle.qd_doc.specs.declared.document.Given.{Given}
-use Rattle.qd_steps.specs.Tables.{simples_over}
-use Rattle.data_print.specs.declared.cause.Cause.{Cause}
+use Rattle.qd_engine.proofs.Names.{◌≡◌, ℕ, ◌%◌, ◌≤◌, true, List, [], ◌∷◌, length, codes, Some, refl, sym, ap, subst, sum, append-nil, Cochain, IsCocycle, is_conductor, least_conductor, IsGroup, SimplesOver, AreSimples, HasRootRows, root_order, INPUT_LIMIT, Block, Document, Given, simples_over, Cause, lifted_root_rows}
+use Rattle.std.specs.Prelude.{IfSome}
 use Rattle.qd_engine.specs.Words.{verify_command, certificate}
 use Rattle.qd_engine.specs.Documents.{document_in, table_of, exponents_of, given_in, conductor_of}
 use Rattle.qd_engine.specs.Sources.{lifted_by, blocks_of}
@@ -25,7 +12,6 @@ use Rattle.qd_engine.specs.Certificate.{certified_blocks, certificate_document, 
 use Rattle.qd_engine.specs.CertificateLaws.{CertificateIsAcceptable}
 use Rattle.qd_engine.specs.declared.command.RowSource.TheVariants.{Lifted}
 use Rattle.qd_engine.proofs.ConductorLaws.{least_is_conductor, multiple_of_factor}
-use Rattle.qd_steps.proofs.ModulusCauses.{lifted_root_rows}
 use Rattle.qd_engine.proofs.LiftedRows.{numbers_of_field, field_serves}
 use Rattle.qd_engine.proofs.LateLaws.{part_late}
 use Rattle.qd_engine.proofs.HeadlineLaws.{good_rows_give_simples}

@@ -1,36 +1,15 @@
 -- The rows of a certificate are good tables of the classes, and no sum of their values overflows.
-use Rattle.std.proofs.Common.{◌≡◌, ℕ, ◌<◌, true, List, [], length, All, sym, ap, ap₂, subst, ◌∙◌, arith}
-use Rattle.std.specs.Prelude.{ℤ, ◌==◌}
-use Rattle.std.specs.List.{range_with_len}
-use Rattle.std.proofs.lemmas.List.Elements.{All-map}
-use Rattle.std.proofs.lemmas.List.FromFn.{length-map-range_with_len, get_or-map-range_with_len, fill_by_all}
-use Rattle.group_table.proofs.Numbers.{passing_below-all}
-use Rattle.classes.specs.Conjugacy.{representatives, representative_at}
-use Rattle.classes.proofs.Conjugacy.{representative_at_is}
-use Rattle.cochain.specs.Cochain.{Cochain}
-use Rattle.qd_ring.specs.CycArrays.{array_of}
+use Rattle.qd_engine.proofs.Names.{◌≡◌, ℕ, ◌<◌, true, List, [], length, All, sym, ap, ap₂, subst, ◌∙◌, arith, ℤ, ◌==◌, range_with_len, All-map, length-map-range_with_len, get_or-map-range_with_len, fill_by_all, passing_below-all, representatives, representative_at, representative_at_is, Cochain, array_of, TwistedSubgroup, size, RowsOver, IsShaped, characters_of, IsGood, twist_of, twist_lawful, SimplesOver, no_table, table_at, count, class_at, value_at, AreSimples, AreRootRows, HasRootRows, root_rows_fit, degree_few, root_simples_fit, simples_in, row_of, Block, block, block_at, IsValueOf, IsMatched, class_twist, class_table, class_rows, tables_of, simples_over}
 use Rattle.qd_ring.proofs.ProductLaws.{is_array-of}
 use Rattle.qd_ring.proofs.CycLaws.{small-array_of}
 use Rattle.qd_ring.proofs.RootSumLaws.{roots_fit}
-use Rattle.twisted.specs.Twist.{TwistedSubgroup, size}
-use Rattle.table_check.specs.Characters.{RowsOver, IsShaped, characters_of}
-use Rattle.table_check.specs.Good.{IsGood}
 use Rattle.table_check.specs.Fitting.{SidesFit}
-use Rattle.slant.specs.Twists.{twist_of}
-use Rattle.slant.proofs.TwistLaws.{twist_lawful}
-use Rattle.transport.specs.Simples.{SimplesOver, no_table, table_at, count, simple_at, class_at, over_at, value_at, AreSimples}
+use Rattle.transport.specs.Simples.{simple_at, over_at}
 use Rattle.transport.specs.SSums.{s_sum}
 use Rattle.transport.proofs.Listed.{simple_is_row, over_is_twist}
-use Rattle.root_tables.specs.RootRows.{AreRootRows, HasRootRows}
-use Rattle.root_tables.proofs.TableRoots.{root_rows_fit, degree_few}
-use Rattle.root_tables.proofs.SimpleRoots.{root_simples_fit}
-use Rattle.row_order.specs.SimpleRows.{simples_in, row_of, simple_rows, in_order}
+use Rattle.row_order.specs.SimpleRows.{simple_rows, in_order}
 use Rattle.row_order.proofs.TablesInOrder.{simples_in_order, root_rows_in_order}
-use Rattle.qd_doc.specs.Blocks.{Block, block, block_at}
-use Rattle.qd_doc.specs.Contents.{IsValueOf}
 use Rattle.qd_steps.proofs.TableSteps.{tables_length, tables_at}
-use Rattle.qd_steps.specs.Matched.{IsMatched}
-use Rattle.qd_steps.specs.Tables.{class_twist, class_table, class_rows, tables_of, simples_over}
 use Rattle.qd_engine.specs.Certificate.{certified_block, certified_blocks}
 
 module _ (k : ℕ) (s : SimplesOver) (S : AreSimples k s) (roots : HasRootRows k s) where

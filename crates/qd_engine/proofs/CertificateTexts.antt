@@ -1,21 +1,13 @@
 -- The text of a certificate is a document, which is read as the certificate.
-use Rattle.std.proofs.Common.{◌≡◌, ℕ, ◌+◌, ◌*◌, ◌/◌, ◌%◌, ◌<◌, ◌^◌, List, [], ◌∷◌, length, map, get_or, All, None, Ok, refl, sym, ap, ap₂, subst, ◌∙◌, arith}
-use Rattle.std.specs.List.{range_with_len}
+use Rattle.qd_engine.proofs.Names.{◌≡◌, ℕ, ◌+◌, ◌*◌, ◌/◌, ◌%◌, ◌<◌, ◌^◌, List, [], ◌∷◌, length, map, get_or, All, None, Ok, refl, sym, ap, ap₂, subst, ◌∙◌, arith, range_with_len, All-map, Table, IsGroup, representatives, representative_at_is, Cochain, reduced, SimplesOver, AreSimples, tokens, Block, stop_of, IsValueOf, IsInRange, document_of}
 use Rattle.std.specs.Prelude.{slice_index}
 use Rattle.std.proofs.Math.Nat.{div-lt_iff_lt-mul, mod-eq_of_lt}
 use Rattle.std.proofs.lemmas.List.{get_or_default}
-use Rattle.std.proofs.lemmas.List.Elements.{All-map, All-head, All-tail}
+use Rattle.std.proofs.lemmas.List.Elements.{All-head, All-tail}
 use Rattle.std.proofs.lemmas.List.FromFn.{length-range_with_len, get_or-range_with_len}
-use Rattle.group_table.specs.Group.{Table, IsGroup, IsSmall}
+use Rattle.group_table.specs.Group.{IsSmall}
 use Rattle.group_table.proofs.Sentences.{laws_of, product_below}
-use Rattle.classes.specs.Conjugacy.{representatives}
-use Rattle.classes.proofs.Conjugacy.{representative_at_is}
-use Rattle.cochain.specs.Cochain.{Cochain, IsCochain, cochain_of, reduced}
-use Rattle.transport.specs.Simples.{SimplesOver, AreSimples}
-use Rattle.qd_text.specs.Tokens.{tokens}
-use Rattle.qd_doc.specs.Blocks.{Block}
-use Rattle.qd_doc.specs.Grammar.{stop_of}
-use Rattle.qd_doc.specs.Contents.{IsValueOf, IsInRange, document_of}
+use Rattle.cochain.specs.Cochain.{IsCochain, cochain_of}
 use Rattle.qd_doc.specs.Canonical.{IsNarrow, reduced_document}
 use Rattle.qd_doc.specs.declared.document.Form.TheVariants.{WithCharacters}
 use Rattle.qd_doc.proofs.RoundTrip.{printed_is_read}

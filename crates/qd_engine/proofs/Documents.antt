@@ -1,17 +1,8 @@
 -- The group and the cocycle of a document that passes every test, and the rows that a document has.
-use Rattle.std.proofs.Common.{◌≡◌, ℕ, ◌%◌, ◌<◌, ◌≤◌, List, length, get_or, Option, Some, None, refl, sym, subst, ◌∙◌}
-use Rattle.std.proofs.lemmas.List.{get_or-map, length-map}
-use Rattle.std.proofs.Math.Nat.{mod-lt}
-use Rattle.group_table.specs.Group.{group_fault, IsGroup}
-use Rattle.cochain.specs.Cochain.{Cochain, reduced, cocycle_fault, IsCocycle}
-use Rattle.qd_text.specs.Tokens.{Lexeme, tokens}
-use Rattle.qd_doc.specs.Grammar.{stop_of}
-use Rattle.qd_doc.specs.Contents.{document_of, characters_of}
+use Rattle.qd_engine.proofs.Names.{◌≡◌, ℕ, ◌%◌, ◌<◌, ◌≤◌, List, length, get_or, Option, Some, None, refl, sym, subst, ◌∙◌, get_or-map, length-map, mod-lt, group_fault, IsGroup, Cochain, reduced, cocycle_fault, IsCocycle, Lexeme, tokens, stop_of, document_of, Form, made_is_cocycle, sample_is_cocycle}
+use Rattle.qd_doc.specs.Contents.{characters_of}
 use Rattle.qd_doc.proofs.Shapes.{document_in_range}
 use Rattle.qd_engine.specs.Words.{form_by, form_for, form_of}
-use Rattle.qd_doc.specs.declared.document.Form.{Form}
-use Rattle.named_cocycles.proofs.Named.{made_is_cocycle}
-use Rattle.named_cocycles.proofs.Gauges.{sample_is_cocycle}
 use Rattle.qd_engine.specs.Documents.{bare_document, document_for, document_in, table_of, exponents_of}
 use Rattle.qd_engine.specs.Causes.{HasInput}
 use Rattle.qd_engine.specs.Sources.{HasRowsFor, HasRowsOf}

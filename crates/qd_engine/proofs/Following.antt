@@ -1,22 +1,6 @@
 -- What the last step of a chain answers.
-use Rattle.std.proofs.Common.{◌≡◌, ℕ, List, Option, Some, None, Result, Ok, Err, refl, sym, ap, subst, ◌∙◌, inl, inr}
-use Rattle.std.specs.Prelude.{OnOk, IfErr, slice_get}
-use Rattle.std.specs.Option.{option_map}
-use Rattle.std.specs.Global.{Vec}
-use Rattle.scan.specs.First.{option_or}
-use Rattle.group_table.specs.Group.{group_fault}
-use Rattle.cochain.specs.Cochain.{Cochain, cocycle_fault, IsCocycle}
-use Rattle.named_cocycles.specs.declared.maker.Maker.{Maker}
-use Rattle.named_cocycles.specs.Makers.{made_cocycle, maker_fault}
+use Rattle.qd_engine.proofs.Names.{◌≡◌, ℕ, List, Option, Some, None, Result, Ok, Err, refl, sym, ap, subst, ◌∙◌, inl, inr, OnOk, IfErr, slice_get, option_map, Vec, option_or, group_fault, Cochain, cocycle_fault, IsCocycle, Maker, made_cocycle, maker_fault, made_is_cocycle, sample_is_cocycle, SimplesOver, tokens, document_of, stop_of, Document, Cause}
 use Rattle.named_cocycles.specs.Samples.{sample_cocycle}
-use Rattle.named_cocycles.proofs.Named.{made_is_cocycle}
-use Rattle.named_cocycles.proofs.Gauges.{sample_is_cocycle}
-use Rattle.transport.specs.Simples.{SimplesOver}
-use Rattle.qd_text.specs.Tokens.{tokens}
-use Rattle.qd_doc.specs.Contents.{document_of}
-use Rattle.qd_doc.specs.Grammar.{stop_of}
-use Rattle.qd_doc.specs.declared.document.Document.{Document}
-use Rattle.data_print.specs.declared.cause.Cause.{Cause}
 use Rattle.data_print.specs.declared.cause.Cause.TheVariants as causes
 use Rattle.qd_engine.specs.Words.{form_of}
 use Rattle.qd_engine.specs.Documents.{bare_document, document_for, document_in, table_of, exponents_of, given_or_none, given_in}

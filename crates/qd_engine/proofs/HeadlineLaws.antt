@@ -1,25 +1,12 @@
 -- From rows that are good tables to the simples that they give, and to modular data; from whole fusion sums to a fusion rule.
-use Rattle.std.proofs.Common.{◌≡◌, ℕ, ◌*◌, ◌%◌, ◌<◌, Bool, true, false, cond, List, length, Some, None, refl, sym, subst}
-use Rattle.std.specs.Prelude.{is_some, unwrap_or}
-use Rattle.scan.proofs.Places.{first_none-at}
-use Rattle.cochain.specs.Cochain.{Cochain, IsCocycle}
-use Rattle.classes.specs.Conjugacy.{representatives}
-use Rattle.cyclotomic.specs.Conductors.{is_conductor}
-use Rattle.cyclotomic.specs.CyclotomicRing.{CyclotomicValue}
-use Rattle.table_check.specs.Characters.{RowsOver, IsShaped, characters_of}
+use Rattle.qd_engine.proofs.Names.{◌≡◌, ℕ, ◌*◌, ◌%◌, ◌<◌, Bool, true, false, cond, List, length, Some, None, refl, sym, subst, is_some, unwrap_or, first_none-at, Cochain, IsCocycle, representatives, is_conductor, CyclotomicValue, RowsOver, IsShaped, characters_of, IsGood, SimplesOver, AreSimples, count, table_at, fusion_sum, fusion_number, whole_fault, root_order, Block, Given, class_rows, tables_of, simples_over}
 use Rattle.table_check.specs.Formed.{whole}
 use Rattle.table_check.specs.Check.{is_same, where_holds}
-use Rattle.table_check.specs.Good.{IsGood}
 use Rattle.table_check.proofs.Same.{is_same-Decides}
-use Rattle.transport.specs.Simples.{SimplesOver, AreSimples, count, table_at}
-use Rattle.transport.specs.Fusion.{fusion_sum, AreFusionNumbers}
+use Rattle.transport.specs.Fusion.{AreFusionNumbers}
 use Rattle.transport.proofs.TwistRoots.{modular_data}
 use Rattle.transport.proofs.FusionLaws.{numbers_are_rule}
-use Rattle.fusion.specs.Numbers.{quotient_at, fusion_number, sum_fault, pair_fault, simple_fault, whole_fault}
-use Rattle.twist_lift.specs.Laws.{root_order}
-use Rattle.qd_doc.specs.Blocks.{Block}
-use Rattle.qd_doc.specs.declared.document.Given.{Given}
-use Rattle.qd_steps.specs.Tables.{class_rows, tables_of, simples_over}
+use Rattle.fusion.specs.Numbers.{quotient_at, sum_fault, pair_fault, simple_fault}
 use Rattle.qd_steps.proofs.TableSteps.{table_shaped, one_table_each}
 use Rattle.qd_engine.specs.Documents.{conductor_of}
 use Rattle.qd_engine.specs.Sources.{blocks_of}

@@ -1,10 +1,5 @@
 -- Nothing comes late of rows that are lifted: no numerator of S overflows.
-use Rattle.std.proofs.Common.{◌≡◌, ℕ, List, true, false, Result, Ok, Err, sym, ◌∙◌}
-use Rattle.std.specs.Prelude.{IfErr}
-use Rattle.root_tables.specs.RootRows.{HasRootRows}
-use Rattle.root_tables.proofs.SimpleRoots.{root_simples_fit}
-use Rattle.transport.specs.Simples.{SimplesOver, AreSimples}
-use Rattle.data_print.specs.declared.cause.Cause.{Cause}
+use Rattle.qd_engine.proofs.Names.{◌≡◌, ℕ, List, true, false, Result, Ok, Err, sym, ◌∙◌, IfErr, HasRootRows, root_simples_fit, SimplesOver, AreSimples, Cause}
 use Rattle.qd_engine.specs.Rows.{source_of, AreRooted}
 use Rattle.qd_engine.specs.Tests.{LatePart, LateIn, LateReport}
 use Rattle.qd_engine.specs.Follows.{StopsLate}

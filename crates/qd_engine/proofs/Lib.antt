@@ -27,3 +27,4 @@ pub mod HeadlineLaws
 pub mod Meaning
 pub mod Taken
 pub mod CertificateLaws
+pub mod Names

@@ -1,30 +1,9 @@
 -- A command with lifted rows refuses nothing for a cause that only stated rows have.
-use Rattle.std.proofs.Common.{◌≡◌, ℕ, Bool, true, false, cond, List, Option, Some, None, refl, sym, subst, inl, inr}
-use Rattle.std.specs.Prelude.{nat_le, sum}
-use Rattle.std.specs.Option.{option_map}
-use Rattle.scan.specs.First.{option_or}
-use Rattle.cochain.specs.Cochain.{Cochain, IsCocycle, cocycle_fault}
-use Rattle.group_table.specs.Group.{group_fault}
-use Rattle.cyclotomic.specs.Conductors.{least_conductor}
-use Rattle.prime_field.specs.Moduli.{modulus_fault}
-use Rattle.prime_field.specs.declared.mod_ring.ModRing.{ModRing}
-use Rattle.twist_lift.specs.Laws.{root_order}
-use Rattle.transport.specs.Simples.{SimplesOver}
-use Rattle.fusion.specs.Numbers.{whole_fault}
-use Rattle.group_make.specs.declared.refusal.MakeRefusal.{MakeRefusal}
+use Rattle.qd_engine.proofs.Names.{◌≡◌, ℕ, Bool, true, false, cond, List, Option, Some, None, refl, sym, subst, inl, inr, nat_le, sum, option_map, option_or, Cochain, IsCocycle, cocycle_fault, group_fault, least_conductor, modulus_fault, ModRing, root_order, SimplesOver, whole_fault, MakeRefusal, maker_fault, stop_of, Form, Document, Given, DocRefusal, Cause, simples_over, modulus_cause, ServesCocycle}
 use Rattle.group_make.specs.declared.refusal.MakeRefusal.TheVariants as makes
-use Rattle.named_cocycles.specs.Makers.{maker_fault}
-use Rattle.qd_doc.specs.Grammar.{stop_of}
-use Rattle.qd_doc.specs.declared.document.Form.{Form}
-use Rattle.qd_doc.specs.declared.document.Document.{Document}
-use Rattle.qd_doc.specs.declared.document.Given.{Given}
-use Rattle.qd_doc.specs.declared.refusal.DocRefusal.{DocRefusal}
 use Rattle.qd_doc.specs.declared.refusal.DocRefusal.TheVariants as stops
-use Rattle.data_print.specs.declared.cause.Cause.{Cause}
 use Rattle.data_print.specs.declared.cause.Cause.TheVariants as causes
-use Rattle.qd_steps.specs.Tables.{simples_over}
-use Rattle.qd_steps.specs.ByModulus.{modulus_cause}
-use Rattle.qd_steps.specs.Laws.{ServesCocycle, IsModulusCause}
+use Rattle.qd_steps.specs.Laws.{IsModulusCause}
 use Rattle.qd_steps.proofs.ModulusCauses.{modulus_said}
 use Rattle.qd_engine.specs.Words.{have_numbers, most_simples, form_of}
 use Rattle.qd_engine.specs.Documents.{document_in, table_of, exponents_of, given_in, conductor_of}

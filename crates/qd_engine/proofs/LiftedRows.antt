@@ -1,34 +1,14 @@
 -- The rows that are lifted by a valid modulus: its field, their causes, and that no side of the check of their tables overflows.
-use Rattle.std.proofs.Common.{◌≡◌, ℕ, ◌%◌, ◌<◌, Bool, true, false, cond, List, length, Option, Some, None, refl, sym, ap, subst, arith}
-use Rattle.std.specs.Prelude.{◌==◌, is_some}
-use Rattle.std.proofs.lemmas.Bool.{ltb-true}
-use Rattle.std.proofs.lemmas.List.FromFn.{get_or-map-range_with_len, length-map-range_with_len}
-use Rattle.scan.proofs.Places.{or_none, and_true}
-use Rattle.cochain.specs.Cochain.{Cochain, IsCocycle}
-use Rattle.classes.specs.Conjugacy.{representatives, representative_at}
-use Rattle.classes.proofs.Conjugacy.{representative_at_is}
-use Rattle.slant.specs.Twists.{twist_of}
-use Rattle.slant.proofs.TwistLaws.{twist_lawful}
-use Rattle.cyclotomic.specs.Conductors.{is_conductor, least_conductor}
-use Rattle.prime_field.specs.Moduli.{is_modulus, least_root, modulus_fault}
-use Rattle.prime_field.specs.declared.mod_ring.ModRing.{ModRing}
-use Rattle.root_tables.specs.RootRows.{AreRootRows, HasRootRows}
-use Rattle.root_tables.proofs.TableRoots.{root_rows_fit}
-use Rattle.table_check.specs.Characters.{RowsOver, characters_of}
-use Rattle.transport.specs.Simples.{SimplesOver, table_at, no_table, AreSimples}
-use Rattle.twist_lift.specs.Laws.{root_order}
-use Rattle.qd_doc.specs.Blocks.{Block}
-use Rattle.qd_steps.specs.Tables.{class_rows, class_twist, class_table, tables_of, simples_over}
-use Rattle.qd_steps.specs.ByModulus.{field_by, field_of, lifts_cause, lifted_blocks, modulus_cause}
-use Rattle.qd_steps.specs.Laws.{ServesCocycle}
+use Rattle.qd_engine.proofs.Names.{◌≡◌, ℕ, ◌%◌, ◌<◌, Bool, true, false, cond, List, length, Option, Some, None, refl, sym, ap, subst, arith, ◌==◌, is_some, ltb-true, get_or-map-range_with_len, length-map-range_with_len, or_none, Cochain, IsCocycle, representatives, representative_at, representative_at_is, twist_of, twist_lawful, is_conductor, least_conductor, modulus_fault, ModRing, AreRootRows, HasRootRows, root_rows_fit, RowsOver, characters_of, SimplesOver, table_at, no_table, AreSimples, root_order, Block, class_rows, class_twist, class_table, tables_of, simples_over, lifts_cause, lifted_blocks, modulus_cause, ServesCocycle, lifted_root_rows, option_map}
+use Rattle.scan.proofs.Places.{and_true}
+use Rattle.prime_field.specs.Moduli.{is_modulus, least_root}
+use Rattle.qd_steps.specs.ByModulus.{field_by, field_of}
 use Rattle.qd_steps.proofs.FieldOf.{field_found}
-use Rattle.qd_steps.proofs.ModulusCauses.{lifted_root_rows}
 use Rattle.qd_engine.specs.Documents.{conductor_of}
 use Rattle.qd_engine.specs.Sources.{field_for}
 use Rattle.qd_engine.specs.Acceptable.{AllFit}
 use Rattle.qd_engine.specs.Tests.{modulus_test}
 use Rattle.data_print.specs.declared.cause.Cause.TheVariants.{Modulus}
-use Rattle.std.specs.Option.{option_map}
 use Rattle.qd_engine.proofs.ConductorLaws.{least_is_conductor}
 
 -- ---- the field

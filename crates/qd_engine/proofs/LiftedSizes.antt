@@ -1,24 +1,8 @@
 -- The values of lifted rows are small: each is a sum of as many roots of unity as its row has for degree, and that is at most 7.
-use Rattle.std.proofs.Common.{◌≡◌, ℕ, ◌<◌, ◌≤◌, true, Option, Some, None, sym, subst, arith}
-use Rattle.classes.specs.Conjugacy.{representative_at}
-use Rattle.classes.proofs.Conjugacy.{representative_at_is}
-use Rattle.cochain.specs.Cochain.{Cochain, IsCocycle}
-use Rattle.cyclotomic.specs.Conductors.{is_conductor, least_conductor}
-use Rattle.cyclotomic.specs.CyclotomicRing.{CyclotomicValue}
+use Rattle.qd_engine.proofs.Names.{◌≡◌, ℕ, ◌<◌, ◌≤◌, true, Option, Some, None, sym, subst, arith, representative_at, representative_at_is, Cochain, IsCocycle, is_conductor, least_conductor, CyclotomicValue, ModRing, AreRootRows, degree_few, twist_of, twist_lawful, RowsOver, characters_of, root_order, size, class_twist, class_table, lifts_cause, lifted_blocks, ServesCocycle, lifted_root_rows}
 use Rattle.cyclotomic.specs.Fit.{value_size}
-use Rattle.prime_field.specs.declared.mod_ring.ModRing.{ModRing}
 use Rattle.qd_ring.proofs.RootSumLaws.{roots_size}
-use Rattle.root_tables.specs.RootRows.{IsRootRow, AreRootRows}
-use Rattle.root_tables.proofs.TableRoots.{degree_few}
-use Rattle.slant.specs.Twists.{twist_of}
-use Rattle.slant.proofs.TwistLaws.{twist_lawful}
-use Rattle.table_check.specs.Characters.{RowsOver, characters_of}
-use Rattle.twist_lift.specs.Laws.{root_order}
-use Rattle.twisted.specs.Twist.{size}
-use Rattle.qd_steps.specs.Tables.{class_twist, class_table}
-use Rattle.qd_steps.specs.ByModulus.{lifts_cause, lifted_blocks}
-use Rattle.qd_steps.specs.Laws.{ServesCocycle}
-use Rattle.qd_steps.proofs.ModulusCauses.{lifted_root_rows}
+use Rattle.root_tables.specs.RootRows.{IsRootRow}
 use Rattle.qd_engine.specs.Documents.{document_in, exponents_of, given_in, conductor_of}
 use Rattle.qd_engine.specs.Sources.{lifted_by}
 use Rattle.qd_engine.specs.Causes.{IsLifted, HasRows}

@@ -1,8 +1,7 @@
 -- More numbers than a family of makers or a command has.
-use Rattle.std.proofs.Common.{◌≡◌, ℕ, ◌≤◌, List, [], ◌∷◌, length, Option, Some, None, refl, arith}
+use Rattle.qd_engine.proofs.Names.{◌≡◌, ℕ, ◌≤◌, List, [], ◌∷◌, length, Option, Some, None, refl, arith, option_map, option_and_then}
 use Rattle.std.specs.Prelude.{String, string_bytes}
 use Rattle.std.specs.Global.{Global}
-use Rattle.std.specs.Option.{option_map, option_and_then}
 use Rattle.qd_engine.specs.MakerWords.{numbers_of, maker_by, maker_of_family}
 use Rattle.qd_engine.specs.NumberWords.{number_word}
 use Rattle.qd_engine.specs.Words.{texts, report_by, report_of_words}

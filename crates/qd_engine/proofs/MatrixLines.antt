@@ -1,12 +1,8 @@
 -- The lines of the matrix S, from its rows of coefficients.
-use Rattle.std.proofs.Common.{◌≡◌, ℕ, ◌<◌, List, [], length, get_or, sym, ap, subst, ◌∙◌, arith}
-use Rattle.std.specs.Prelude.{ℤ}
-use Rattle.std.proofs.lemmas.List.{get_or-map, length-map}
-use Rattle.std.proofs.lemmas.List.FromFn.{length-map-range_with_len, get_or-map-range_with_len}
+use Rattle.qd_engine.proofs.Names.{◌≡◌, ℕ, ◌<◌, List, [], length, get_or, sym, ap, subst, ◌∙◌, arith, ℤ, get_or-map, length-map, length-map-range_with_len, get_or-map-range_with_len, SimplesOver, count, values_of_rows, s_rows, first_lines}
 use Rattle.qd_ring.specs.RowLists.{row_at}
-use Rattle.transport.specs.Simples.{SimplesOver, count}
-use Rattle.modular_st.specs.SMatrices.{row_values, values_of_rows, s_front, s_rows}
-use Rattle.data_print.specs.Text.{◌⧺◌, first_lines}
+use Rattle.modular_st.specs.SMatrices.{row_values, s_front}
+use Rattle.data_print.specs.Text.{◌⧺◌}
 use Rattle.data_print.specs.SLines.{s_head, s_line, s_text}
 use Rattle.qd_engine.specs.Report.{s_lines}
 

@@ -1,13 +1,8 @@
 -- What the program's answer means, from what it had to say and how it ended.
-use Rattle.std.proofs.Common.{◌≡◌, ℕ, ◌<◌, ◌≤◌, List, length, Option, Some, None, Result, Ok, Err, refl, sym, ap, subst, ◌∙◌, ◌⊎◌, inl, inr}
-use Rattle.std.specs.Prelude.{IsSome}
+use Rattle.qd_engine.proofs.Names.{◌≡◌, ℕ, ◌<◌, ◌≤◌, List, length, Option, Some, None, Result, Ok, Err, refl, sym, ap, subst, ◌∙◌, ◌⊎◌, inl, inr, IsSome, lt-ltb, INPUT_LIMIT, memory_line, Cause, Usage, Read, TooLong}
 use Rattle.std.specs.Io.KnownBytes.{Appends}
-use Rattle.std.proofs.lemmas.Bool.{le-ltb, lt-ltb}
+use Rattle.std.proofs.lemmas.Bool.{le-ltb}
 use Rattle.qd_io.specs.Stream.{HasRoom}
-use Rattle.qd_io.specs.declared.reading.TheConstants.{INPUT_LIMIT}
-use Rattle.data_print.specs.Lines.{memory_line}
-use Rattle.data_print.specs.declared.cause.Cause.{Cause}
-use Rattle.data_print.specs.declared.cause.Cause.TheVariants.{Usage, Read, TooLong}
 use Rattle.qd_engine.specs.Words.{command_of, read_of}
 use Rattle.qd_engine.specs.Documents.{document_in, exponents_of}
 use Rattle.qd_engine.specs.Report.{report_in}

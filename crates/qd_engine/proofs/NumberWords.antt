@@ -1,12 +1,10 @@
 -- What std's `parse` reads of digits is their value as the number of a token.
-use Rattle.std.proofs.Common.{◌≡◌, ℕ, ◌^◌, ◌<◌, Bool, true, false, ◌&&◌, nat_le, nat_lt, cond, List, length, Some, None, Result, Ok, Err, refl, sym, ap, ◌∙◌}
-use Rattle.std.specs.List.{list_all}
+use Rattle.qd_engine.proofs.Names.{◌≡◌, ℕ, ◌^◌, ◌<◌, Bool, true, false, ◌&&◌, cond, List, length, Some, None, Result, Ok, Err, refl, sym, ap, ◌∙◌, list_all, le-leb, leb-true, lt-ltb, ltb-true, number_of, NumberFault}
+use Rattle.std.proofs.Common.{nat_le, nat_lt}
 use Rattle.std.specs.Result.{result_ok, OkIff}
 use Rattle.std.specs.Str.Parse.{ParsesUnsigned}
-use Rattle.std.proofs.lemmas.Bool.{le-leb, leb-true, lt-ltb, ltb-true}
 use Rattle.std.proofs.lemmas.Str.Parse.{IsDigitsTest, IsNumeralModel, numerals_by_fold, parse_digits}
-use Rattle.qd_text.specs.Numbers.{is_digit, value_after, value, number_of}
-use Rattle.qd_text.specs.declared.natural.NumberFault.{NumberFault}
+use Rattle.qd_text.specs.Numbers.{is_digit, value_after, value}
 use Rattle.qd_text.specs.declared.natural.NumberFault.TheVariants.{Wide}
 use Rattle.std.specs.Int.{IsInRange}
 

@@ -1,26 +1,8 @@
 -- No test says anything of an acceptable input, and what its rows give.
-use Rattle.std.proofs.Common.{◌≡◌, ℕ, ◌≤◌, Bool, true, false, cond, List, length, Option, Some, None, refl, sym, ap, subst}
-use Rattle.std.specs.Prelude.{sum}
-use Rattle.std.specs.Option.{option_map}
-use Rattle.std.proofs.lemmas.Bool.{eq-eqb, le-leb}
-use Rattle.scan.specs.First.{option_or}
-use Rattle.scan.proofs.Places.{first_none}
-use Rattle.classes.specs.Conjugacy.{representatives, representative_at}
-use Rattle.classes.proofs.Conjugacy.{representative_at_is}
-use Rattle.cyclotomic.specs.Conductors.{is_conductor, least_conductor}
-use Rattle.prime_field.specs.declared.mod_ring.ModRing.{ModRing}
-use Rattle.twist_lift.specs.Laws.{root_order}
-use Rattle.qd_steps.specs.ByModulus.{lifted_blocks, modulus_cause}
-use Rattle.cochain.specs.Cochain.{Cochain, IsCocycle}
-use Rattle.slant.specs.Twists.{twist_of}
-use Rattle.slant.proofs.TwistLaws.{twist_lawful}
+use Rattle.qd_engine.proofs.Names.{◌≡◌, ℕ, ◌≤◌, Bool, true, false, cond, List, length, Option, Some, None, refl, sym, ap, subst, sum, option_map, eq-eqb, le-leb, option_or, first_none, representatives, representative_at, representative_at_is, is_conductor, least_conductor, ModRing, root_order, lifted_blocks, modulus_cause, Cochain, IsCocycle, twist_of, twist_lawful, Block, Given, Cause, class_twist, class_table, table_cause, tables_cause, cause_of_miss, simples_over}
 use Rattle.table_check.proofs.Fitting.{good_misses_nothing}
 use Rattle.table_check.proofs.Idempotents.{good_tables_give_idempotents}
-use Rattle.qd_doc.specs.Blocks.{Block}
-use Rattle.qd_doc.specs.declared.document.Given.{Given}
-use Rattle.data_print.specs.declared.cause.Cause.{Cause}
 use Rattle.data_print.specs.declared.cause.Cause.TheVariants as causes
-use Rattle.qd_steps.specs.Tables.{class_twist, class_table, table_cause, tables_cause, cause_of_miss, simples_over}
 use Rattle.qd_engine.specs.Documents.{document_in, exponents_of, given_in, conductor_of}
 use Rattle.qd_engine.specs.Sources.{field_for, lifted_by, blocks_of}
 use Rattle.qd_engine.specs.Report.{class_ranks}

@@ -1,17 +1,9 @@
 -- The ranks of the classes are as many as these, few and small.
-use Rattle.std.proofs.Common.{◌≡◌, All, ◌<◌, ◌≤◌, length, sym, ap, subst, ◌∙◌, arith}
-use Rattle.std.proofs.lemmas.List.{length-map}
-use Rattle.std.proofs.lemmas.List.Elements.{All-map}
+use Rattle.qd_engine.proofs.Names.{◌≡◌, All, ◌<◌, ◌≤◌, length, sym, ap, subst, ◌∙◌, arith, length-map, All-map, Table, Cochain, IsCocycle, representatives, representative_at, representative_at_is, TwistedSubgroup, rank, twist_lawful, class_twists}
 use Rattle.std.proofs.lemmas.List.Sums.{count_by-le-length}
-use Rattle.group_table.specs.Group.{Table}
-use Rattle.cochain.specs.Cochain.{Cochain, IsCocycle}
-use Rattle.classes.specs.Conjugacy.{representatives, representative_at}
-use Rattle.classes.proofs.Conjugacy.{representative_at_is}
 use Rattle.classes.proofs.Counting.{classes_at_most}
-use Rattle.twisted.specs.Twist.{TwistedSubgroup, IsTwist}
-use Rattle.twisted.specs.Regular.{rank, is_regular}
-use Rattle.slant.proofs.TwistLaws.{twist_lawful}
-use Rattle.qd_steps.specs.ClassTwists.{class_twists}
+use Rattle.twisted.specs.Twist.{IsTwist}
+use Rattle.twisted.specs.Regular.{is_regular}
 use Rattle.qd_steps.proofs.TwistLists.{length-class_twists, twist_at}
 use Rattle.qd_engine.specs.Report.{class_ranks}
 use Rattle.qd_engine.specs.ClassLists.{IsListOf}

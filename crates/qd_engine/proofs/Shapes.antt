@@ -1,15 +1,8 @@
 -- Blocks have no fault exactly where they match the classes.
-use Rattle.std.proofs.Common.{◌≡◌, ℕ, Bool, true, false, cond, List, length, Option, Some, None, refl}
-use Rattle.std.specs.Prelude.{◌==◌}
-use Rattle.std.proofs.lemmas.Bool.{eqb-true, eq-eqb}
-use Rattle.scan.proofs.Places.{or_none, first_none, first_none-at}
-use Rattle.scan.specs.First.{option_or}
-use Rattle.group_table.specs.Group.{Table}
-use Rattle.qd_doc.specs.Blocks.{Block, block_at}
+use Rattle.qd_engine.proofs.Names.{◌≡◌, ℕ, Bool, true, false, cond, List, length, Option, Some, None, refl, ◌==◌, eqb-true, eq-eqb, or_none, first_none, first_none-at, option_or, Table, Block, block_at, IsMatched}
 use Rattle.data_print.specs.declared.cause.ShapeFault.{ShapeFault}
 use Rattle.data_print.specs.declared.cause.ShapeFault.TheVariants.{Blocks, Representative, Width}
 use Rattle.qd_engine.specs.Shape.{unless_same, representative_fault_at, width_fault_in, width_fault_at, shape_fault}
-use Rattle.qd_steps.specs.Matched.{IsMatched}
 
 none_where : (same : Bool) (fault : ShapeFault) → cond same None (Some fault) ≡ None → same ≡ true
 none_where true fault e = refl

@@ -1,21 +1,10 @@
 -- There are as many simples as the ranks of the classes add up to.
-use Rattle.std.proofs.Common.{◌≡◌, ℕ, zero, suc, ◌+◌, ◌<◌, List, [], ◌∷◌, ◌++◌, length, map, refl, sym, ap, ap₂, ◌∙◌, arith, length-append}
-use Rattle.std.specs.Prelude.{sum}
-use Rattle.std.proofs.lemmas.List.Sums.{sum_by_push}
-use Rattle.std.specs.List.{range_with_len}
-use Rattle.std.proofs.lemmas.List.FromFn.{length-map-range_with_len, map-range_with_len_more}
+use Rattle.qd_engine.proofs.Names.{◌≡◌, ℕ, zero, suc, ◌+◌, ◌<◌, List, [], ◌∷◌, ◌++◌, length, map, refl, sym, ap, ap₂, ◌∙◌, arith, length-append, sum, sum_by_push, range_with_len, length-map-range_with_len, map-range_with_len_more, representatives, representative_at, Cochain, rank, twist_of, RowsOver, SimplesOver, AreSimples, count, table_at, class_twist, class_twists}
 use Rattle.std.proofs.lemmas.List.Sorted.{length_permutation}
-use Rattle.classes.specs.Conjugacy.{representatives, representative_at}
-use Rattle.cochain.specs.Cochain.{Cochain}
-use Rattle.twisted.specs.Regular.{rank}
-use Rattle.slant.specs.Twists.{twist_of}
-use Rattle.table_check.specs.Characters.{RowsOver}
-use Rattle.transport.specs.Simples.{SimplesOver, AreSimples, count, simples_of, rows_of, rows_below, table_at, ascending}
+use Rattle.transport.specs.Simples.{simples_of, rows_of, rows_below, ascending}
 use Rattle.transport.proofs.Order.{ascending_permutes}
 use Rattle.transport.proofs.Rows.{rows_below-zero, rows_below-suc}
 use Rattle.dixon_split.proofs.Values.{map_twice}
-use Rattle.qd_steps.specs.Tables.{class_twist}
-use Rattle.qd_steps.specs.ClassTwists.{class_twists}
 use Rattle.qd_engine.specs.Report.{class_ranks}
 
 module _ (k : ℕ) (w : Cochain) (tables : List RowsOver) where

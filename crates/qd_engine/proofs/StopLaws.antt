@@ -1,23 +1,15 @@
 -- Want of memory is no reason why a text is no document.
-use Rattle.std.proofs.Common.{◌≢◌, ℕ, Bool, true, false, cond, List, length, ◌+◌, Option, Some, None, Result, Ok, Err, subst}
-use Rattle.std.specs.Prelude.{◌&&◌, nat_le, nat_lt, take, slice_get, codes}
-use Rattle.scan.proofs.Places.{first_some}
-use Rattle.cyclotomic.specs.Conductors.{is_conductor}
-use Rattle.qd_text.specs.Tokens.{Lexeme, tokens}
-use Rattle.qd_text.specs.Numbers.{number_of}
+use Rattle.qd_engine.proofs.Names.{◌≢◌, ℕ, Bool, true, false, cond, List, length, ◌+◌, Option, Some, None, Result, Ok, Err, subst, nat_le, nat_lt, slice_get, first_some, is_conductor, Lexeme, tokens, number_of, NumberFault, Plain, is_word, stop_of, Form, DocRefusal}
+use Rattle.std.specs.Prelude.{◌&&◌, take, codes}
 use Rattle.qd_text.specs.Words.{word_of}
 use Rattle.qd_text.specs.declared.expected.Expected.TheVariants.{Element, Conductor, End}
 use Rattle.qd_text.specs.declared.expected.Expected.TheVariants as expecteds
-use Rattle.qd_text.specs.declared.natural.NumberFault.{NumberFault}
 use Rattle.qd_text.specs.declared.natural.NumberFault.TheVariants as numbers
-use Rattle.qd_ring.specs.declared.plain.Plain.{Plain}
 use Rattle.qd_ring.specs.declared.plain.ValueFault.{ValueFault}
 use Rattle.qd_ring.specs.declared.plain.ValueFault.TheVariants as faults
 use Rattle.qd_doc.specs.Values.{begins_value, value_of}
-use Rattle.qd_doc.specs.Kinds.{What, Word, OrderNumber, RootsNumber, FormWord, ElementBelow, EndWord, NoToken, ConductorNumber, ClassOrEnd, RowClassOrEnd, ValueRowClassOrEnd, is_word, is_form, is_class_or_end, is_row_class_or_end, value_refusal, number_refusal, fault_refusal, refusal, missing, judgement}
-use Rattle.qd_doc.specs.Grammar.{expected, refusal_at, first_refusal, stop_of}
-use Rattle.qd_doc.specs.declared.document.Form.{Form}
-use Rattle.qd_doc.specs.declared.refusal.DocRefusal.{DocRefusal}
+use Rattle.qd_doc.specs.Kinds.{What, Word, OrderNumber, RootsNumber, FormWord, ElementBelow, EndWord, NoToken, ConductorNumber, ClassOrEnd, RowClassOrEnd, ValueRowClassOrEnd, is_form, is_class_or_end, is_row_class_or_end, value_refusal, number_refusal, fault_refusal, refusal, missing, judgement}
+use Rattle.qd_doc.specs.Grammar.{expected, refusal_at, first_refusal}
 use Rattle.qd_doc.specs.declared.refusal.DocRefusal.TheVariants.{Syntax, Section, Order, Roots, Memory}
 
 -- no reason, or one of the text

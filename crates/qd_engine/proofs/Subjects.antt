@@ -1,17 +1,9 @@
 -- Cocycles that are made, as documents; and what the test of an input says.
-use Rattle.std.proofs.Common.{◌≡◌, ◌≢◌, ℕ, Bool, true, false, cond, List, Option, Some, None, refl, ap}
-use Rattle.std.specs.Prelude.{◌==◌, ◌*◌, ◌%◌, ◌^◌, ◌&&◌, nat_le}
-use Rattle.scan.specs.First.{option_or}
-use Rattle.cochain.specs.Cochain.{Cochain, IsCocycle}
+use Rattle.qd_engine.proofs.Names.{◌≡◌, ◌≢◌, ℕ, Bool, true, false, cond, List, Option, Some, None, refl, ap, ◌==◌, nat_le, option_or, Cochain, IsCocycle, MakeRefusal, Maker, maker_fault, stop_of, Form, DocRefusal}
+use Rattle.std.specs.Prelude.{◌*◌, ◌%◌, ◌^◌, ◌&&◌}
 use Rattle.group_make.specs.Refusal.{size_fault, action_fault}
-use Rattle.group_make.specs.declared.refusal.MakeRefusal.{MakeRefusal}
 use Rattle.group_make.specs.declared.refusal.MakeRefusal.TheVariants as makes
-use Rattle.named_cocycles.specs.declared.maker.Maker.{Maker}
 use Rattle.named_cocycles.specs.declared.maker.Maker.TheVariants.{Cyclic, Product, TypeTwo, TypeThree, Dihedral, Dicyclic, Semidirect}
-use Rattle.named_cocycles.specs.Makers.{maker_fault}
-use Rattle.qd_doc.specs.Grammar.{stop_of}
-use Rattle.qd_doc.specs.declared.document.Form.{Form}
-use Rattle.qd_doc.specs.declared.refusal.DocRefusal.{DocRefusal}
 use Rattle.qd_doc.specs.declared.refusal.DocRefusal.TheVariants as stops
 use Rattle.qd_engine.specs.Documents.{bare_document, exponents_of}
 use Rattle.qd_engine.specs.Tests.{scan_test, maker_test, input_test}

@@ -1,13 +1,8 @@
 -- What comes of the steps, and what becomes of the source, by how the program ends.
-use Rattle.std.proofs.Common.{◌≡◌, ℕ, ◌<◌, ◌≤◌, true, cond, List, [], length, Option, Some, Result, Ok, Err, refl, sym, ap, subst, ◌∙◌, ◌⊎◌, inl, inr}
-use Rattle.std.specs.Prelude.{OnOk, IsSome}
-use Rattle.std.specs.Global.{Vec}
+use Rattle.qd_engine.proofs.Names.{◌≡◌, ℕ, ◌<◌, ◌≤◌, true, cond, List, [], length, Option, Some, Result, Ok, Err, refl, sym, ap, subst, ◌∙◌, ◌⊎◌, inl, inr, OnOk, IsSome, Vec, INPUT_LIMIT, memory_line, Cause, Usage, Read, TooLong}
 use Rattle.std.specs.Io.KnownBytes.{IsAtEnd}
 use Rattle.qd_io.specs.Stream.{TakesUpTo}
-use Rattle.qd_io.specs.declared.reading.TheConstants.{INPUT_LIMIT}
-use Rattle.data_print.specs.Lines.{line_of, memory_line}
-use Rattle.data_print.specs.declared.cause.Cause.{Cause}
-use Rattle.data_print.specs.declared.cause.Cause.TheVariants.{Usage, Read, TooLong}
+use Rattle.data_print.specs.Lines.{line_of}
 use Rattle.qd_engine.specs.Words.{command_of, is_read, reads_by, read_of}
 use Rattle.qd_engine.specs.Documents.{document_in}
 use Rattle.qd_engine.specs.Tests.{refusal, Late}

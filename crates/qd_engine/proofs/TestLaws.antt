@@ -1,46 +1,21 @@
 -- What the tests of an input say: nothing, or a cause of their own; and what holds where none says anything.
-use Rattle.std.proofs.Common.{◌≡◌, ℕ, ◌<◌, ◌≤◌, Bool, true, false, cond, List, [], ◌∷◌, length, Option, Some, None, refl, sym, subst}
-use Rattle.std.specs.Prelude.{◌==◌, nat_le, sum, unwrap_or}
-use Rattle.std.specs.Option.{option_map, option_and_then}
-use Rattle.std.proofs.lemmas.Bool.{eqb-true, leb-true}
-use Rattle.scan.specs.First.{option_or}
-use Rattle.scan.proofs.Places.{or_none, first_some, first_none-at}
-use Rattle.classes.specs.Conjugacy.{representatives}
-use Rattle.cochain.specs.Cochain.{Cochain, IsCocycle, cocycle_fault}
-use Rattle.group_table.specs.Group.{group_fault}
-use Rattle.cyclotomic.specs.Conductors.{least_conductor}
-use Rattle.prime_field.specs.Moduli.{modulus_fault}
-use Rattle.prime_field.specs.declared.mod_ring.ModRing.{ModRing}
-use Rattle.twist_lift.specs.Laws.{root_order}
-use Rattle.twisted.specs.Twist.{TwistedSubgroup}
-use Rattle.transport.specs.Simples.{SimplesOver}
-use Rattle.group_make.specs.declared.refusal.MakeRefusal.{MakeRefusal}
+use Rattle.qd_engine.proofs.Names.{◌≡◌, ℕ, ◌<◌, ◌≤◌, Bool, true, false, cond, List, [], ◌∷◌, length, Option, Some, None, refl, sym, subst, ◌==◌, nat_le, sum, unwrap_or, option_map, option_and_then, eqb-true, leb-true, option_or, or_none, first_some, first_none-at, representatives, Cochain, IsCocycle, cocycle_fault, group_fault, least_conductor, modulus_fault, ModRing, root_order, TwistedSubgroup, SimplesOver, MakeRefusal, maker_fault, stop_of, Form, Block, Document, Given, DocRefusal, IsGood, Cause, cause_of_miss, table_cause, class_twist, class_table, tables_cause, simples_over, lifts_cause, lifted_blocks, modulus_cause, whole_fault}
 use Rattle.group_make.specs.declared.refusal.MakeRefusal.TheVariants as makes
-use Rattle.named_cocycles.specs.Makers.{maker_fault}
-use Rattle.qd_doc.specs.Grammar.{stop_of}
-use Rattle.qd_doc.specs.declared.document.Form.{Form}
-use Rattle.qd_doc.specs.Blocks.{Block}
-use Rattle.qd_doc.specs.declared.document.Document.{Document}
-use Rattle.qd_doc.specs.declared.document.Given.{Given}
-use Rattle.qd_doc.specs.declared.refusal.DocRefusal.{DocRefusal}
 use Rattle.qd_doc.specs.declared.refusal.DocRefusal.TheVariants as stops
 use Rattle.table_check.specs.Characters.{Characters}
 use Rattle.table_check.specs.Answers.{fit_at, site_of}
 use Rattle.table_check.specs.Check.{table_miss}
-use Rattle.table_check.specs.Good.{IsGood}
 use Rattle.table_check.proofs.Good.{nothing_missed}
 use Rattle.table_check.specs.declared.miss.Clause.{Clause}
 use Rattle.table_check.specs.declared.miss.Clause.TheVariants as clauses
 use Rattle.table_check.specs.declared.miss.Miss.{Miss}
-use Rattle.data_print.specs.declared.cause.Cause.{Cause}
 use Rattle.data_print.specs.declared.cause.Cause.TheVariants as causes
-use Rattle.qd_steps.specs.Tables.{failure, cause_of_miss, table_cause, class_twist, class_table, tables_cause, simples_over}
-use Rattle.qd_steps.specs.ByModulus.{cause_of_lift, lift_cause, lifts_cause, lifted_blocks, modulus_cause}
+use Rattle.qd_steps.specs.Tables.{failure}
+use Rattle.qd_steps.specs.ByModulus.{cause_of_lift, lift_cause}
 use Rattle.qd_steps.proofs.LiftedRows.{lifted_matched}
 use Rattle.twist_lift.specs.TwistRows.{twist_fault}
 use Rattle.char_lift.specs.declared.refusal.LiftRefusal.{LiftRefusal}
 use Rattle.char_lift.specs.declared.refusal.LiftRefusal.TheVariants as lifts
-use Rattle.fusion.specs.Numbers.{whole_fault}
 use Rattle.qd_engine.specs.Words.{have_numbers, most_simples, form_of}
 use Rattle.qd_engine.specs.Documents.{document_in, table_of, exponents_of, given_in, conductor_of}
 use Rattle.qd_engine.specs.Sources.{field_for, lifted_by, blocks_of}

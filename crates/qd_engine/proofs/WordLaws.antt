@@ -1,11 +1,6 @@
 -- Words that begin with `-`, and empty ones, are no names of commands or of families, and no numbers.
-use Rattle.std.proofs.Common.{◌≡◌, ℕ, zero, suc, Bool, true, false, not, ◌&&◌, nat_eq, cond, List, [], ◌∷◌, codes, Option, Some, None, refl, ap, ◌∙◌}
-use Rattle.std.specs.Prelude.{slice_get}
-use Rattle.std.specs.List.{list_all}
-use Rattle.std.specs.Option.{option_map, option_and_then}
-use Rattle.std.proofs.lemmas.Bool.{eqb-true}
-use Rattle.qd_text.specs.Numbers.{number_of}
-use Rattle.qd_doc.specs.Kinds.{is_word}
+use Rattle.qd_engine.proofs.Names.{◌≡◌, ℕ, zero, suc, Bool, true, false, ◌&&◌, nat_eq, cond, List, [], ◌∷◌, codes, Option, Some, None, refl, ap, ◌∙◌, slice_get, list_all, option_map, option_and_then, eqb-true, number_of, is_word}
+use Rattle.std.proofs.Common.{not}
 use Rattle.command_words.specs.PlainWords.{is_plain}
 use Rattle.qd_engine.specs.NumberWords.{number_word}
 use Rattle.qd_engine.specs.MakerWords.{numbers_of, maker_by, maker_of}

@@ -5,4 +5,5 @@ pub mod FieldOf
 pub mod LiftedRows
 pub mod ModulusCauses
 pub mod LiftSteps
+pub mod Names
 pub mod TwistLists

@@ -1,9 +1,5 @@
 -- The steps of the lift of all classes, and of what comes after it.
-use Rattle.std.proofs.Common.{◌≡◌, ℕ, List, None, sym, ap, ◌∙◌}
-use Rattle.scan.specs.First.{option_or}
-use Rattle.cochain.specs.Cochain.{Cochain}
-use Rattle.prime_field.specs.declared.mod_ring.ModRing.{ModRing}
-use Rattle.table_check.specs.Characters.{RowsOver}
+use Rattle.qd_steps.proofs.Names.{◌≡◌, ℕ, List, None, sym, ap, ◌∙◌, option_or, Cochain, ModRing, RowsOver}
 use Rattle.qd_steps.specs.declared.refusal.StepRefusal.{StepRefusal}
 use Rattle.qd_steps.specs.declared.refusal.StepRefusal.TheVariants as steps
 use Rattle.qd_steps.specs.Tables.{first_cause, tables_cause, tables_of}

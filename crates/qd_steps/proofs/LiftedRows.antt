@@ -1,28 +1,14 @@
 -- The lifted rows of all classes.
-use Rattle.std.proofs.Common.{◌≡◌, ℕ, ◌<◌, List, [], length, refl, sym, ap, subst, ◌∙◌, arith}
-use Rattle.std.specs.Prelude.{ℤ}
-use Rattle.std.proofs.lemmas.List.FromFn.{length-map-range_with_len, get_or-map-range_with_len}
-use mathlib.Core.Path.{ap₂}
+use Rattle.qd_steps.proofs.Names.{◌≡◌, ℕ, ◌<◌, List, [], length, refl, sym, ap, subst, ◌∙◌, arith, ℤ, length-map-range_with_len, get_or-map-range_with_len, ap₂, representatives, representative_at, Cochain, ModRing, TwistedSubgroup, size, twist_of, row_at, central_value, central_characters, character_ratios, RowsOver, IsShaped, characters, twist_rows, Serves, Block, block_at}
 use Rattle.group_table.specs.Group.{product, identity_of}
 use Rattle.orders.specs.Order.{exponent_of}
-use Rattle.classes.specs.Conjugacy.{representatives, representative_at, centraliser_of}
+use Rattle.classes.specs.Conjugacy.{centraliser_of}
 use Rattle.classes.proofs.Conjugacy.{representative_at_is}
-use Rattle.cochain.specs.Cochain.{Cochain}
-use Rattle.prime_field.specs.declared.mod_ring.ModRing.{ModRing}
-use Rattle.twisted.specs.Twist.{TwistedSubgroup, size}
-use Rattle.slant.specs.Twists.{twist_of}
-use Rattle.qd_ring.specs.RowLists.{row_at}
-use Rattle.dixon_split.specs.CentralLists.{central_value}
-use Rattle.character_lists.specs.CharacterLists.{central_characters}
-use Rattle.char_lift.specs.Ratios.{character_ratios}
 use Rattle.char_lift.specs.Faults.{lifted_row}
 use Rattle.char_lift.proofs.SumLaws.{length-table, table-at}
-use Rattle.table_check.specs.Characters.{RowsOver, IsShaped}
-use Rattle.twist_lift.specs.TwistRows.{characters, twist_rows}
-use Rattle.twist_lift.specs.Laws.{Serves}
 use Rattle.twist_lift.proofs.TwistLaws.{period_modulus}
 use Rattle.twist_lift.proofs.ServedClasses.{serves_classes}
-use Rattle.qd_doc.specs.Blocks.{Block, block, block_at}
+use Rattle.qd_doc.specs.Blocks.{block}
 use Rattle.qd_steps.specs.Matched.{IsMatched}
 use Rattle.qd_steps.specs.Tables.{class_twist, class_rows}
 use Rattle.qd_steps.specs.ByModulus.{lifted_block, lifted_blocks}

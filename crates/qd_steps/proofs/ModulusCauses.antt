@@ -1,32 +1,18 @@
 -- The causes that the rows of a modulus can have, and what holds of the rows where no lift has one.
-use Rattle.std.proofs.Common.{◌≡◌, ◌≢◌, ◌⊎◌, inl, inr, ℕ, ◌<◌, List, length, Bool, true, false, Option, Some, None, refl, sym, ap, subst, ◌∙◌}
+use Rattle.qd_steps.proofs.Names.{◌≡◌, ℕ, ◌<◌, List, length, Bool, true, false, Option, Some, None, refl, sym, ap, subst, ◌∙◌, option_and_then, option_map, option_or, representatives, representative_at, Cochain, ModRing, TwistedSubgroup, size, central_value, central_characters, character_ratios, Characters, RowsOver, characters_of, fit_at, Miss, characters, twist_fault, twist_rows, Block, Cause}
+use Rattle.std.proofs.Common.{◌≢◌, ◌⊎◌, inl, inr}
 use Rattle.std.specs.Prelude.{if◌then◌else◌}
-use Rattle.std.specs.Option.{option_and_then, option_map}
-use Rattle.scan.specs.First.{option_or}
 use Rattle.scan.proofs.Places.{first_some, first_none-at}
-use Rattle.classes.specs.Conjugacy.{representatives, representative_at}
-use Rattle.cochain.specs.Cochain.{Cochain}
-use Rattle.prime_field.specs.declared.mod_ring.ModRing.{ModRing}
-use Rattle.twisted.specs.Twist.{TwistedSubgroup, size}
 use Rattle.root_tables.specs.RootRows.{AreRootRows, HasRootRows}
-use Rattle.dixon_split.specs.CentralLists.{central_value}
-use Rattle.character_lists.specs.CharacterLists.{central_characters}
-use Rattle.char_lift.specs.Ratios.{character_ratios}
 use Rattle.char_lift.specs.Candidate.{degree_of}
 use Rattle.char_lift.specs.Faults.{lift_fault, row_fault, fault_with, place_fault}
 use Rattle.char_lift.specs.declared.refusal.LiftRefusal.{LiftRefusal}
 use Rattle.char_lift.specs.declared.refusal.LiftRefusal.TheVariants as lifts
-use Rattle.table_check.specs.Characters.{Characters, RowsOver, characters_of}
 use Rattle.table_check.specs.Check.{table_miss}
-use Rattle.table_check.specs.Answers.{fit_at}
 use Rattle.table_check.specs.declared.miss.Clause.{Clause}
 use Rattle.table_check.specs.declared.miss.Clause.TheVariants as clauses
-use Rattle.table_check.specs.declared.miss.Miss.{Miss}
-use Rattle.twist_lift.specs.TwistRows.{characters, twist_fault, twist_rows}
 use Rattle.twist_lift.specs.Laws.{twist_table}
 use Rattle.twist_lift.proofs.TwistLaws.{twist_rows_are_roots, twist_rows_miss_clauses}
-use Rattle.qd_doc.specs.Blocks.{Block}
-use Rattle.data_print.specs.declared.cause.Cause.{Cause}
 use Rattle.qd_steps.specs.Tables.{class_twist, class_table, failure, cause_of_miss, table_cause, tables_cause, simples_over}
 use Rattle.qd_steps.specs.ByModulus.{cause_of_lift, lift_cause, lifts_cause, lifted_blocks, modulus_cause}
 use Rattle.qd_steps.specs.Laws.{ServesCocycle, IsModulusCause}

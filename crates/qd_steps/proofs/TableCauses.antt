@@ -1,20 +1,15 @@
 -- The cause of a refusal of a table, by what the check of the table says of its first miss.
-use Rattle.std.proofs.Common.{◌≡◌, ℕ, true, List, Err, refl, sym, ap, subst, ◌∙◌}
-use Rattle.std.specs.Option.{option_map}
-use Rattle.std.specs.Prelude.{ℤ}
+use Rattle.qd_steps.proofs.Names.{◌≡◌, ℕ, true, List, refl, sym, ap, subst, ◌∙◌, option_map, ℤ, is_conductor, TwistedSubgroup, Characters, characters_of, fit_at, Refuses, Miss}
+use Rattle.std.proofs.Common.{Err}
 use Rattle.cyclotomic.specs.CyclotomicRing.{CyclotomicValue, cyclotomic_value}
-use Rattle.cyclotomic.specs.Conductors.{is_conductor}
 use Rattle.qd_ring.specs.CycArrays.{array_of, is_array}
 use Rattle.qd_ring.proofs.CycSums.{array-of_value}
 use Rattle.qd_ring.specs.declared.plain.Plain.{Plain}
-use Rattle.twisted.specs.Twist.{TwistedSubgroup}
-use Rattle.table_check.specs.Characters.{Characters, characters_of}
 use Rattle.table_check.specs.Sides.{twist_left}
-use Rattle.table_check.specs.Answers.{clause_of, fit_at, left_of, right_of, IsEquationOf, Refuses, Checks}
+use Rattle.table_check.specs.Answers.{clause_of, left_of, right_of, IsEquationOf, Checks}
 use Rattle.table_check.specs.declared.identity_name.IdentityName.{IdentityName}
 use Rattle.table_check.specs.declared.identity_name.IdentityName.TheVariants as names
 use Rattle.table_check.specs.declared.miss.Clause.TheVariants as clauses
-use Rattle.table_check.specs.declared.miss.Miss.{Miss}
 use Rattle.table_check.specs.declared.refusal.TableRefusal.{TableRefusal}
 use Rattle.table_check.specs.declared.refusal.TableRefusal.TheVariants as refusals
 use Rattle.data_print.specs.declared.cause.Cause.TheVariants.{Identity, NoTwist}

@@ -1,21 +1,9 @@
 -- The steps of the check of all tables.
-use Rattle.std.proofs.Common.{◌≡◌, ℕ, ◌+◌, ◌<◌, ◌%◌, true, List, [], ◌∷◌, ◌++◌, length, map, Option, None, sym, ap, subst, ◌∙◌, arith, length-append}
-use Rattle.std.specs.Prelude.{ℤ}
-use Rattle.std.specs.List.{range_with_len}
+use Rattle.qd_steps.proofs.Names.{◌≡◌, ℕ, ◌+◌, ◌<◌, ◌%◌, true, List, [], ◌∷◌, ◌++◌, length, map, Option, None, sym, ap, subst, ◌∙◌, arith, length-append, ℤ, range_with_len, length-map-range_with_len, get_or-map-range_with_len, first, first-zero, first-ext, first_none-step, representatives, Cochain, IsCocycle, is_conductor, TwistedSubgroup, twist_of, Cause, Block, block_at, RowsOver, IsShaped, HasTables, table_at, no_table}
 use Rattle.std.proofs.Math.Seq.{get_or-append_seam}
-use Rattle.std.proofs.lemmas.List.FromFn.{length-map-range_with_len, get_or-map-range_with_len, map-range_with_len_more}
-use Rattle.scan.specs.First.{first}
-use Rattle.scan.proofs.Places.{first-zero, first_found, first-ext, first_none-step}
-use Rattle.classes.specs.Conjugacy.{representatives}
+use Rattle.std.proofs.lemmas.List.FromFn.{map-range_with_len_more}
+use Rattle.scan.proofs.Places.{first_found}
 use Rattle.classes.proofs.Counting.{classes_at_most}
-use Rattle.cochain.specs.Cochain.{Cochain, IsCocycle}
-use Rattle.cyclotomic.specs.Conductors.{is_conductor}
-use Rattle.twisted.specs.Twist.{TwistedSubgroup}
-use Rattle.slant.specs.Twists.{twist_of}
-use Rattle.data_print.specs.declared.cause.Cause.{Cause}
-use Rattle.qd_doc.specs.Blocks.{Block, block_at}
-use Rattle.table_check.specs.Characters.{RowsOver, IsShaped}
-use Rattle.transport.specs.Simples.{HasTables, table_at, no_table}
 use Rattle.qd_steps.specs.declared.refusal.StepRefusal.{StepRefusal}
 use Rattle.qd_steps.specs.declared.refusal.StepRefusal.TheVariants as steps
 use Rattle.qd_steps.specs.Matched.{IsMatched}

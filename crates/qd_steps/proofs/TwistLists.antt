@@ -1,21 +1,6 @@
 -- The twisted centralisers of all classes, and the rows over them.
-use Rattle.std.proofs.Common.{◌≡◌, ℕ, ◌<◌, ◌%◌, true, List, length, map, get_or, refl, sym, ap, subst, ◌∙◌, arith}
-use Rattle.std.specs.List.{range_with_len}
-use Rattle.std.specs.Option.{option_and_then}
-use Rattle.std.proofs.lemmas.List.FromFn.{length-map-range_with_len, get_or-map-range_with_len, fill_by_all}
-use Rattle.scan.specs.First.{first}
-use Rattle.scan.proofs.Places.{first-ext}
-use Rattle.classes.specs.Conjugacy.{representatives, representative_at}
-use Rattle.cochain.specs.Cochain.{Cochain}
-use Rattle.cyclotomic.specs.Conductors.{is_conductor}
-use Rattle.prime_field.specs.declared.mod_ring.ModRing.{ModRing}
-use Rattle.twisted.specs.Twist.{TwistedSubgroup}
-use Rattle.slant.specs.Twists.{twist_of}
-use Rattle.table_check.specs.Characters.{RowsOver, IsShaped}
-use Rattle.transport.specs.Simples.{no_table}
-use Rattle.twist_lift.specs.TwistRows.{twist_fault, twist_rows}
-use Rattle.twist_lift.specs.Laws.{Serves}
-use Rattle.qd_doc.specs.Blocks.{Block, block_at}
+use Rattle.qd_steps.proofs.Names.{◌≡◌, ℕ, ◌<◌, ◌%◌, true, List, length, map, get_or, refl, sym, ap, subst, ◌∙◌, arith, range_with_len, option_and_then, length-map-range_with_len, get_or-map-range_with_len, first, first-ext, representatives, representative_at, Cochain, is_conductor, ModRing, TwistedSubgroup, twist_of, RowsOver, IsShaped, no_table, twist_fault, twist_rows, Serves, Block, block_at}
+use Rattle.std.proofs.lemmas.List.FromFn.{fill_by_all}
 use Rattle.qd_steps.specs.Matched.{IsMatched}
 use Rattle.qd_steps.specs.Tables.{class_twist, class_rows, tables_of}
 use Rattle.qd_steps.specs.ByModulus.{cause_of_lift, lift_cause, lifts_cause, lifted_blocks}

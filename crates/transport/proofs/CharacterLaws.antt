@@ -1,25 +1,11 @@
 -- The full characters by good tables are those of the twisted quantum double, so that its laws hold of them.
-use Rattle.std.proofs.Common.{◌≡◌, ℕ, ◌<◌, Bool, true, false, ◌==◌, refl, sym, ap, ap₂, ◌∙◌, eqb-true, eq-eqb, subst}
-use Rattle.algebra.specs.Sums.{pick}
-use Rattle.algebra.specs.Totals.{equals}
-use Rattle.algebra.specs.Groups.{conj}
-use Rattle.algebra.specs.Below.{Below, below_equal}
-use Rattle.algebra.proofs.SumLaws.{pick_of, pick_off}
-use Rattle.algebra.proofs.TotalLaws.{equals_true, equals_of}
-use Rattle.classes.specs.Conjugacy.{class_of, representative_of, representative_at, transporter_of}
-use Rattle.classes.proofs.Conjugacy.{class_represents, class_of_representative, class_below}
-use Rattle.cyclotomic.specs.Cyclotomic.{cyclotomic}
-use Rattle.cyclotomic.specs.Ring.{value_product}
-use Rattle.cyclotomic.specs.CyclotomicRing.{CyclotomicValue, cyclotomic_ring, root, conjugate as conjugate_value}
+use Rattle.transport.proofs.Names.{◌≡◌, ℕ, ◌<◌, Bool, true, false, ◌==◌, refl, sym, ap, ap₂, ◌∙◌, eqb-true, eq-eqb, subst, pick, equals, conj, Below, below_equal, pick_of, pick_off, equals_true, equals_of, class_of, representative_of, representative_at, transporter_of, class_represents, class_of_representative, class_below, cyclotomic, value_product, CyclotomicValue, cyclotomic_ring, root, theta, carried, transport_phase, group, Formed, where_so, Setting, Classes, Commuting, in_class, same_test}
+use Rattle.cyclotomic.specs.CyclotomicRing.{conjugate as conjugate_value}
 use Rattle.phases.specs.Phases.{theta as slant_phase, transport_phase as carrying_phase}
-use Rattle.slant.specs.Phases.{theta, carried, transport_phase}
-use Rattle.slant.proofs.Instances.{group}
-use Rattle.table_check.specs.Formed.{Formed, where_so}
-use Rattle.characters.specs.Setting.{Setting, Classes, Commuting}
 use Rattle.characters.specs.PhaseRoots.{transport_root}
-use Rattle.characters.specs.FullCharacters.{in_class, full_character as character}
+use Rattle.characters.specs.FullCharacters.{full_character as character}
 use Rattle.characters.specs.SMatrix.{pair_term as term}
-use Rattle.characters.proofs.SettingLaws.{same_test, commuting_conj}
+use Rattle.characters.proofs.SettingLaws.{commuting_conj}
 use Rattle.characters.proofs.ClassLaws.{carried_back}
 use Rattle.characters.proofs.CharacterLaws.{full_character_at, transporter_independent, covariance}
 use Rattle.characters.proofs.SLaws.{pair_term_is, pair_term_invariant}

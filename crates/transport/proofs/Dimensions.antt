@@ -1,23 +1,9 @@
 -- The dimension of a simple: the members of its class are a part of the group.
-use Rattle.std.proofs.Common.{◌≡◌, ℕ, ◌*◌, ◌<◌, List, length, get_or, sym, ap, ◌∙◌, arith}
+use Rattle.transport.proofs.Names.{◌≡◌, ℕ, ◌*◌, ◌<◌, List, length, get_or, sym, ap, ◌∙◌, arith, get_or_default_zero, Below, below_equal, finite_below, total_ext, total_pick, pick, IsGroup, Table, representative_of, transporter_of, transporter_is, cyclotomic, value_one, CyclotomicValue, whole, Setting, Classes, IsPart, in_class, dimension}
 use Rattle.std.proofs.lemmas.List.Elements.{All-get_or}
-use Rattle.std.proofs.lemmas.Grind.{get_or_default_zero}
-use Rattle.algebra.specs.Below.{Below, below_equal}
-use Rattle.algebra.proofs.BelowLaws.{finite_below}
-use Rattle.algebra.proofs.TotalLaws.{total_ext, total_pick}
-use Rattle.algebra.specs.Sums.{pick}
-use Rattle.group_table.specs.Group.{IsGroup, Table}
 use Rattle.group_table.proofs.Numbers.{passing_below-ascending}
-use Rattle.classes.specs.Conjugacy.{conjugate, is_conjugate, representative_of, transporter_of, members_of}
-use Rattle.classes.proofs.Conjugacy.{IsMember, members_are, member_below, members_exactly, member_itself, representative_same, transporter_is}
-use Rattle.cyclotomic.specs.Cyclotomic.{cyclotomic}
-use Rattle.cyclotomic.specs.Ring.{value_one}
-use Rattle.cyclotomic.specs.CyclotomicRing.{CyclotomicValue}
-use Rattle.table_check.specs.Formed.{whole}
-use Rattle.characters.specs.Setting.{Setting, Classes}
-use Rattle.characters.specs.Parts.{IsPart}
-use Rattle.characters.specs.FullCharacters.{in_class}
-use Rattle.characters.specs.SMatrix.{dimension}
+use Rattle.classes.specs.Conjugacy.{conjugate, is_conjugate, members_of}
+use Rattle.classes.proofs.Conjugacy.{IsMember, members_are, member_below, members_exactly, member_itself, representative_same}
 use Rattle.characters.proofs.CharacterLaws.{in_class_true, in_class_of}
 use Rattle.characters.proofs.SLaws.{dimension_is, dimension_of_class, vacuum_class}
 use Rattle.transport.specs.Simples.{SimplesOver, count, degree_at, dimension_at, AreSimples}

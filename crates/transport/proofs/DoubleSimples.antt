@@ -1,46 +1,27 @@
 -- The simples by good tables, as simples of the twisted quantum double of a cocycle.
-use Rattle.std.proofs.Common.{◌≡◌, ℕ, zero, suc, ◌*◌, ◌/◌, ◌%◌, ◌<◌, ◌≤◌, Bool, true, ◌&&◌, nat_le, Option, Some, None, [], ◌∷◌, refl, sym, ap, ap₂, ◌∙◌, arith, subst}
-use Rattle.std.specs.Prelude.{unwrap_or, ℤ, pos, ◌+ℤ◌}
-use Rattle.std.proofs.Common.{List, add-one}
-use Rattle.std.proofs.Math.Nat.{mul-le-mul, le_refl, mul-one}
+use Rattle.transport.proofs.Names.{◌≡◌, ℕ, zero, suc, ◌*◌, ◌/◌, ◌%◌, ◌<◌, ◌≤◌, Bool, true, ◌&&◌, nat_le, Option, Some, None, [], ◌∷◌, refl, sym, ap, ap₂, ◌∙◌, arith, subst, unwrap_or, ℤ, List, add-one, mul-le-mul, multiple_zero, and_true, first_some, first_finds, multiple, Group, Below, below_equal, identity_of, identity_below, representative_at, representative_at_is, Cochain, IsCocycle, cyclotomic, value_one, value_product, CyclotomicValue, cyclotomic_ring, root, TwistedSubgroup, size, element, place_of, IsTwist, place_group, identities_agree, group, exponent, Characters, is_same, where_holds, degree_of, whole, IsGood, is_same-Decides, Setting, Commuting, slant_root, conjugation_root, commute_of, commute_true}
+use Rattle.std.specs.Prelude.{pos, ◌+ℤ◌}
+use Rattle.std.proofs.Math.Nat.{le_refl, mul-one}
 use Rattle.std.proofs.lemmas.Bool.{le-leb, leb-true}
-use Rattle.algebra.proofs.SumLaws.{multiple_zero, multiple_suc}
+use Rattle.algebra.proofs.SumLaws.{multiple_suc}
 use Rattle.cyclotomic.specs.Polynomial.{scaled}
 use Rattle.cyclotomic.specs.Laws.Polynomials.{scaled-cons}
 use Rattle.cyclotomic.specs.Laws.Integers.{times_comm, one_times}
 use Rattle.cyclotomic.specs.Laws.Values.{value_of-scaled, multiple_zero as scale_zero, multiple_sum as scale_sum, multiple_one as scale_one}
 use Rattle.classes.proofs.Conjugacy.{IsRepresentative}
 use Rattle.table_check.specs.Sides.{with_phase, conjugate_value as conjugate_value_at, central_left, central_right}
-use Rattle.scan.proofs.Places.{and_true, first_some}
-use Rattle.scan.proofs.Searches.{first_finds}
-use Rattle.algebra.specs.Sums.{multiple}
-use Rattle.algebra.specs.Groups.{Group}
-use Rattle.algebra.specs.Below.{Below, below_equal}
-use Rattle.group_table.specs.Group.{identity_of}
-use Rattle.group_table.proofs.Sentences.{identity_below}
-use Rattle.classes.specs.Conjugacy.{representative_at}
-use Rattle.classes.proofs.Conjugacy.{representative_at_is}
-use Rattle.cochain.specs.Cochain.{Cochain, IsCocycle}
-use Rattle.cyclotomic.specs.Cyclotomic.{cyclotomic}
-use Rattle.cyclotomic.specs.Ring.{value_one, value_of, value_multiple, value_sum, value_product}
-use Rattle.cyclotomic.specs.CyclotomicRing.{CyclotomicValue, cyclotomic_ring, root, conjugate as conjugate_value}
-use Rattle.twisted.specs.Twist.{TwistedSubgroup, size, element, phase, place_of, IsTwist}
+use Rattle.cyclotomic.specs.Ring.{value_of, value_multiple, value_sum}
+use Rattle.cyclotomic.specs.CyclotomicRing.{conjugate as conjugate_value}
+use Rattle.twisted.specs.Twist.{phase}
 use Rattle.twisted.specs.Algebra.{exponent as phase_exponent}
-use Rattle.twisted.proofs.Translation.{place_group}
 use Rattle.slant.specs.Twists.{twist_of as twisted_centraliser}
-use Rattle.slant.proofs.TwistLaws.{products_agree, identities_agree, phases_agree}
-use Rattle.slant.proofs.Instances.{group, exponent, theta_is}
+use Rattle.slant.proofs.TwistLaws.{products_agree, phases_agree}
+use Rattle.slant.proofs.Instances.{theta_is}
 use Rattle.phases.specs.Phases.{theta as slant_phase}
-use Rattle.table_check.specs.Characters.{Characters}
-use Rattle.table_check.specs.Check.{is_same, where_holds, degree_of}
-use Rattle.table_check.specs.Formed.{whole}
-use Rattle.table_check.specs.Good.{IsGood, IsDegree}
-use Rattle.table_check.proofs.Same.{is_same-Decides}
-use Rattle.characters.specs.Setting.{Setting, Commuting, commute}
-use Rattle.characters.specs.PhaseRoots.{slant_root, conjugation_root}
+use Rattle.table_check.specs.Good.{IsDegree}
+use Rattle.characters.specs.Setting.{commute}
 use Rattle.characters.specs.Parts.{IsSubgroup}
 use Rattle.characters.specs.Simples.{Simples}
-use Rattle.characters.proofs.SettingLaws.{commute_of, commute_true}
 use Rattle.characters.proofs.AlgebraLaws.{central_at_places}
 use Rattle.transport.specs.Simples.{SimplesOver, Simple, count, class_at, over_at, characters_at, degree_at, value_at, simple_at, AreSimples}
 use Rattle.transport.specs.FullCharacters.{root_exponent, element_value}

@@ -1,22 +1,13 @@
 -- The twisted quantum double of a cocycle, as the setting of full characters.
-use Rattle.std.proofs.Common.{◌≡◌, ℕ, ◌+◌, ◌-◌, ◌*◌, ◌/◌, ◌%◌, ◌<◌, true, refl, sym, ap, ◌∙◌, arith}
-use Rattle.std.proofs.Math.Nat.{div-add-mod, zero-mul, add-mul, mul_comm, mul_assoc, mul-add-mod_self_left}
+use Rattle.transport.proofs.Names.{◌≡◌, ℕ, ◌+◌, ◌-◌, ◌*◌, ◌/◌, ◌%◌, ◌<◌, true, refl, sym, ap, ◌∙◌, arith, zero-mul, mul_comm, mul_assoc, Below, below_equal, finite_below, representative_of, transporter_of, transporter_is, Cochain, IsCocycle, is_conductor, cyclotomic, CyclotomicValue, cyclotomic_ring, root, root_modulo, root_conjugate, conjugation, group, exponent, Setting, Classes}
+use Rattle.std.proofs.Math.Nat.{div-add-mod, add-mul, mul-add-mod_self_left}
 use Rattle.algebra.specs.Involutions.{Involution}
 use Rattle.algebra.specs.Roots.{Roots}
 use Rattle.algebra.specs.Congruences.{Same}
-use Rattle.algebra.specs.Below.{Below, below_equal}
-use Rattle.algebra.proofs.BelowLaws.{finite_below}
-use Rattle.classes.specs.Conjugacy.{conjugate, representative_of, transporter_of}
-use Rattle.classes.proofs.Conjugacy.{transporter_is, representative_below, representative_of_conjugate}
-use Rattle.cochain.specs.Cochain.{Cochain, IsCocycle}
-use Rattle.cyclotomic.specs.Conductors.{is_conductor}
-use Rattle.cyclotomic.specs.Cyclotomic.{cyclotomic}
-use Rattle.cyclotomic.specs.CyclotomicRing.{CyclotomicValue, cyclotomic_ring, root}
+use Rattle.classes.specs.Conjugacy.{conjugate}
+use Rattle.classes.proofs.Conjugacy.{representative_below, representative_of_conjugate}
 use Rattle.cyclotomic.proofs.Images.{root-zero, root-sum}
-use Rattle.cyclotomic.proofs.Inverses.{root_modulo, root_conjugate}
-use Rattle.table_check.proofs.WholeValues.{conjugation}
-use Rattle.slant.proofs.Instances.{group, exponent, three_cocycle}
-use Rattle.characters.specs.Setting.{Setting, Classes}
+use Rattle.slant.proofs.Instances.{three_cocycle}
 use Rattle.characters.proofs.ClassLaws.{classes_by_conjugates}
 use Rattle.transport.specs.FullCharacters.{root_exponent}
 

@@ -1,31 +1,15 @@
 -- Entries are compared as their simples, and gathered row by row.
-use Rattle.std.proofs.Common.{◌≡◌, ℕ, pred, ◌+◌, ◌-◌, ◌*◌, ◌<◌, ◌≤◌, List, [], ◌∷◌, ◌++◌, length, map, get_or, refl, sym, ap, ap₂, ◌∙◌, arith, zero-add, append_assoc, add-one, subst, length-append}
-use Rattle.std.proofs.lemmas.List.{length-map}
-use mathlib.Core.Logic.{⊎_elim}
-use Rattle.std.specs.Prelude.{ℤ}
-use Rattle.std.specs.List.{range_with_len}
-use Rattle.std.specs.declared.cmp.Ordering.{Ordering}
-use Rattle.std.specs.Ordering.{nat_cmp, int_cmp, bool_cmp, ordering_then, is_lt}
-use Rattle.std.specs.Cmp.{IsStrictWeakOrder, int_cmp_total, tied_itself}
-use Rattle.std.specs.Cmp.Lexicographic.{slice_cmp, lists_total}
-use Rattle.std.specs.List.Sorted.{IsPermutation, IsSortedBy}
+use Rattle.transport.proofs.Names.{◌≡◌, ℕ, ◌+◌, ◌-◌, ◌*◌, ◌<◌, ◌≤◌, List, [], ◌∷◌, ◌++◌, length, map, get_or, refl, sym, ap, ap₂, ◌∙◌, arith, zero-add, add-one, subst, length-map, ⊎_elim, ℤ, range_with_len, Ordering, nat_cmp, int_cmp, bool_cmp, ordering_then, is_lt, IsStrictWeakOrder, int_cmp_total, tied_itself, slice_cmp, lists_total, IsPermutation, map-range_with_len_more, ranks_by, CyclotomicValue, cyclotomic_value, Cyc, representatives, classes_at_most, IsTwist, RowsOver, IsShaped, characters_of, IsGood, length-map-range_with_len}
+use Rattle.std.proofs.Common.{pred, append_assoc, length-append}
+use Rattle.std.specs.List.Sorted.{IsSortedBy}
 use Rattle.std.proofs.lemmas.List.{map-append}
-use Rattle.std.proofs.lemmas.List.FromFn.{map-range_with_len_more}
-use Rattle.std.proofs.lemmas.List.Sorted.{ranks_by, sorted_far, IsPermutation-map}
+use Rattle.std.proofs.lemmas.List.Sorted.{sorted_far, IsPermutation-map}
 use Rattle.cyclotomic.specs.Polynomial.{zeros}
-use Rattle.cyclotomic.specs.CyclotomicRing.{CyclotomicValue, cyclotomic_value}
 use Rattle.qd_ring.specs.CycArrays.{array_of}
-use Rattle.qd_ring.specs.declared.cyc.Cyc.{Cyc}
 use Rattle.qd_ring.proofs.CycSums.{array-of_value}
 use Rattle.transport.specs.Simples.{compare, ascending, table_at, simple_of, rows_of, rows_below}
-use Rattle.classes.specs.Conjugacy.{representatives}
-use Rattle.classes.proofs.Counting.{classes_at_most}
-use Rattle.twisted.specs.Twist.{IsTwist}
 use Rattle.twisted.specs.Regular.{is_regular, rank}
-use Rattle.table_check.specs.Characters.{RowsOver, IsShaped, characters_of}
-use Rattle.table_check.specs.Good.{IsGood}
 use Rattle.std.proofs.lemmas.List.Sums.{count_by-le-length}
-use Rattle.std.proofs.lemmas.List.FromFn.{length-map-range_with_len}
 use Rattle.transport.proofs.Rows.{last_or_less, rows_below-suc}
 use Rattle.transport.specs.Kept.{coefficients_of, simple_in, AreGood}
 use Rattle.transport.specs.declared.entry.Entry.{Entry}

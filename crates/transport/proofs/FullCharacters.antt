@@ -1,16 +1,8 @@
 -- Full characters as they are formed.
-use Rattle.std.proofs.Common.{◌≡◌, ℕ, ◌%◌, Bool, true, false, ◌==◌, Option, sym, ap, ◌∙◌, subst}
-use Rattle.std.specs.Prelude.{is_some, IfSome}
-use Rattle.classes.specs.Conjugacy.{class_of, transporter_of}
-use Rattle.cyclotomic.specs.Conductors.{is_conductor}
-use Rattle.cyclotomic.specs.Cyclotomic.{cyclotomic}
-use Rattle.cyclotomic.specs.Ring.{value_product, value_nought}
-use Rattle.cyclotomic.specs.CyclotomicRing.{CyclotomicValue, cyclotomic_value, root}
+use Rattle.transport.proofs.Names.{◌≡◌, ℕ, ◌%◌, Bool, true, false, ◌==◌, Option, sym, ap, ◌∙◌, subst, IfSome, class_of, transporter_of, is_conductor, cyclotomic, value_product, value_nought, CyclotomicValue, cyclotomic_value, root, root_modulo, Cyc, carried, transport_phase, Formed, given, where_so}
+use Rattle.std.specs.Prelude.{is_some}
 use Rattle.cyclotomic.specs.Fit.{value_fits}
-use Rattle.cyclotomic.proofs.Inverses.{root_modulo}
-use Rattle.qd_ring.specs.declared.cyc.Cyc.{Cyc}
-use Rattle.slant.specs.Phases.{carried, transport_phase}
-use Rattle.table_check.specs.Formed.{Formed, Forms, given, turned, where_so}
+use Rattle.table_check.specs.Formed.{Forms, turned}
 use Rattle.transport.specs.Simples.{SimplesOver, class_at}
 use Rattle.transport.specs.FullCharacters.{root_exponent, element_value, carried_value, full_character}
 

@@ -17,4 +17,5 @@ pub mod SMatrixLaws
 pub mod TwistRoots
 pub mod TensorProducts
 pub mod FusionLaws
+pub mod Names
 pub mod Transporters

@@ -1,33 +1,15 @@
 -- Each simple is a row of the table of its class, and the first is the vacuum.
-use Rattle.std.proofs.Common.{◌≡◌, ℕ, zero, suc, ◌*◌, ◌<◌, ◌≤◌, Bool, true, false, not, ◌&&◌, ◌==◌, nat_le, Option, Some, None, List, [], ◌∷◌, length, map, get_or, refl, sym, ap, ◌∙◌, arith, subst, eqb-true, zero-add, le_trans}
-use Rattle.std.proofs.Math.Nat.{mul-le-mul}
-use Rattle.std.specs.Prelude.{unwrap_or, IfSome}
-use Rattle.std.specs.List.{All, Contains, range_with_len}
-use Rattle.std.specs.declared.cmp.Ordering.{Ordering}
-use Rattle.std.specs.Ordering.{bool_cmp, ordering_then, is_lt}
-use Rattle.std.proofs.lemmas.List.{get_or-map, length-map}
-use Rattle.std.proofs.lemmas.List.FromFn.{length-map-range_with_len, get_or-map-range_with_len}
+use Rattle.transport.proofs.Names.{◌≡◌, ℕ, zero, suc, ◌*◌, ◌<◌, ◌≤◌, Bool, true, false, ◌&&◌, ◌==◌, nat_le, Option, Some, None, List, [], ◌∷◌, length, map, get_or, refl, sym, ap, ◌∙◌, arith, subst, eqb-true, zero-add, mul-le-mul, unwrap_or, IfSome, range_with_len, Ordering, bool_cmp, ordering_then, is_lt, length-map, length-map-range_with_len, ⊎_elim, and_true, first_some, Table, IsGroup, identity_of, representative_at, centraliser_of, representative_at_is, Cochain, cyclotomic, value_one, CyclotomicValue, cyclotomic_value, Cyc, TwistedSubgroup, size, element, IsTwist, identities_agree, centraliser_is_twist, Characters, RowsOver, characters_of, is_same, where_holds, degree_of, twist_of, whole, twist_left, twist_right, is_same-Decides}
+use Rattle.std.proofs.Common.{not, le_trans}
+use Rattle.std.specs.List.{All, Contains}
+use Rattle.std.proofs.lemmas.List.{get_or-map}
+use Rattle.std.proofs.lemmas.List.FromFn.{get_or-map-range_with_len}
 use Rattle.std.proofs.lemmas.List.Elements.{All-nil, All-append, Contains-append_left, Contains-append_right}
 use Rattle.std.proofs.lemmas.List.Sorted.{All-permutation, Contains-permutation}
-use mathlib.Core.Logic.{⊎_elim}
-use Rattle.scan.proofs.Places.{and_true, all_below-at, all_below-all, first_some}
-use Rattle.group_table.specs.Group.{Table, IsGroup, identity_of}
-use Rattle.classes.specs.Conjugacy.{representative_at, centraliser_of}
-use Rattle.classes.proofs.Conjugacy.{representative_at_is}
-use Rattle.cochain.specs.Cochain.{Cochain}
-use Rattle.cyclotomic.specs.Cyclotomic.{cyclotomic}
-use Rattle.cyclotomic.specs.Ring.{value_one}
-use Rattle.cyclotomic.specs.CyclotomicRing.{CyclotomicValue, cyclotomic_value}
+use Rattle.scan.proofs.Places.{all_below-at, all_below-all}
 use Rattle.cyclotomic.specs.Laws.Values.{same_value}
-use Rattle.qd_ring.specs.declared.cyc.Cyc.{Cyc}
-use Rattle.twisted.specs.Twist.{TwistedSubgroup, size, element, IsTwist}
 use Rattle.slant.specs.Twists.{twist_of as twisted_centraliser}
-use Rattle.slant.proofs.TwistLaws.{identities_agree, centraliser_is_twist}
-use Rattle.table_check.specs.Characters.{Characters, RowsOver, characters_of}
-use Rattle.table_check.specs.Check.{is_same, where_holds, degree_of, twist_of, is_vacuum}
-use Rattle.table_check.specs.Formed.{whole}
-use Rattle.table_check.specs.Sides.{twist_left, twist_right}
-use Rattle.table_check.proofs.Same.{is_same-Decides}
+use Rattle.table_check.specs.Check.{is_vacuum}
 use Rattle.transport.specs.Simples.{HasTables, SimplesOver, Simple, no_simple, table_at, simple_of, rows_of, rows_below, simples_of, ascending, count, simple_at, class_at, degree_at, over_at, value_at, IsVacuumAt, AreSimples}
 use Rattle.transport.specs.Kept.{coefficients_of, simple_in}
 use Rattle.transport.specs.declared.entry.Entry.{Entry}

@@ -1,20 +1,10 @@
 -- Sums over all pairs of elements that commute, and over all simples.
-use Rattle.std.proofs.Common.{◌≡◌, ℕ, zero, suc, ◌+◌, ◌*◌, ◌/◌, ◌%◌, ◌<◌, Bool, true, false, ◌==◌, refl, sym, ap, ap₂, ◌∙◌, arith}
-use Rattle.std.specs.Prelude.{if◌then◌else◌}
-use Rattle.std.proofs.Math.Nat.{zero-mul}
+use Rattle.transport.proofs.Names.{◌≡◌, ℕ, zero, suc, ◌+◌, ◌*◌, ◌/◌, ◌%◌, ◌<◌, Bool, true, false, ◌==◌, refl, sym, ap, ap₂, ◌∙◌, arith, if◌then◌else◌, zero-mul, CommRing, sum_below, pick, equals, total, Below, sum_zero, sum_suc, sum_ext, pick_of, pick_off, value_nought, CyclotomicValue, cyclotomic_ring, Formed, where_so, whole, Setting, Commuting, commute_true}
 use Rattle.std.proofs.lemmas.Nat.{div-mul-add, mod-mul-add}
-use Rattle.algebra.specs.Structures.{CommRing}
-use Rattle.algebra.specs.Sums.{sum_below, pick}
-use Rattle.algebra.specs.Totals.{equals, total}
-use Rattle.algebra.specs.Below.{Below}
-use Rattle.algebra.proofs.SumLaws.{sum_zero, sum_suc, sum_split, sum_ext, pick_of, pick_off, pick_cong}
-use Rattle.cyclotomic.specs.Ring.{value_nought}
-use Rattle.cyclotomic.specs.CyclotomicRing.{CyclotomicValue, cyclotomic_ring}
-use Rattle.table_check.specs.Formed.{Formed, where_so, whole}
-use Rattle.characters.specs.Setting.{Setting, Commuting, commute as commuting_test}
+use Rattle.algebra.proofs.SumLaws.{sum_split, pick_cong}
+use Rattle.characters.specs.Setting.{commute as commuting_test}
 use Rattle.characters.specs.Pairs.{pair_sum as commuting_sum}
 use Rattle.characters.specs.Tables.{group_order}
-use Rattle.characters.proofs.SettingLaws.{commute_true}
 use Rattle.characters.proofs.PairLaws.{pair_sum_is as commuting_sum_is}
 use Rattle.characters.proofs.OrthogonalityLaws.{group_order_multiple}
 use Rattle.transport.specs.Simples.{SimplesOver, count, AreSimples}

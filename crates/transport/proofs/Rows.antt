@@ -1,7 +1,5 @@
 -- The rows of the tables of the first classes.
-use Rattle.std.proofs.Common.{◌≡◌, ℕ, zero, suc, ◌+◌, ◌<◌, List, [], ◌++◌, refl, arith}
-use mathlib.Core.Logic.{◌⊎◌, inl, inr}
-use Rattle.table_check.specs.Characters.{RowsOver}
+use Rattle.transport.proofs.Names.{◌≡◌, ℕ, zero, suc, ◌+◌, ◌<◌, List, [], ◌++◌, refl, arith, ◌⊎◌, inl, inr, RowsOver}
 use Rattle.transport.specs.Simples.{table_at, rows_of, rows_below}
 
 pub rows_below-zero : (k : ℕ) (tables : List RowsOver) → rows_below k 0 tables ≡ []

@@ -1,18 +1,8 @@
 -- S is symmetric and unitary, its row at the vacuum holds the dimensions, and full characters are orthogonal.
-use Rattle.std.proofs.Common.{◌≡◌, ℕ, ◌*◌, ◌<◌, ◌==◌, sym, ap, ap₂, ◌∙◌, eqb-true, eq-eqb}
-use Rattle.std.specs.Prelude.{if◌then◌else◌}
-use Rattle.algebra.specs.Below.{Below}
-use Rattle.algebra.proofs.SumLaws.{sum_ext}
-use Rattle.cyclotomic.specs.Cyclotomic.{cyclotomic}
-use Rattle.cyclotomic.specs.Ring.{value_nought, value_product}
-use Rattle.cyclotomic.specs.CyclotomicRing.{CyclotomicValue, cyclotomic_ring, conjugate}
-use Rattle.table_check.specs.Formed.{multiplied, conjugated, whole}
-use Rattle.characters.specs.Setting.{Setting, Classes}
+use Rattle.transport.proofs.Names.{◌≡◌, ℕ, ◌*◌, ◌<◌, ◌==◌, sym, ap, ap₂, ◌∙◌, eqb-true, eq-eqb, if◌then◌else◌, Below, sum_ext, cyclotomic, value_nought, value_product, CyclotomicValue, cyclotomic_ring, conjugate, multiplied, conjugated, whole, Setting, Classes, same_test, inner_product_is}
 use Rattle.characters.specs.Pairs.{inner_product as abstract_inner}
 use Rattle.characters.specs.FullCharacters.{full_character as character}
 use Rattle.characters.specs.SMatrix.{s_sum as abstract_sum, pair_term as abstract_term}
-use Rattle.characters.proofs.SettingLaws.{same_test}
-use Rattle.characters.proofs.PairLaws.{inner_product_is}
 use Rattle.characters.proofs.SLaws.{s_sum_is, s_sum_symmetric, s_sum_of_vacuum}
 use Rattle.characters.proofs.OrthogonalityLaws.{first_orthogonality}
 use Rattle.characters.proofs.Unitarity.{s_unitary}

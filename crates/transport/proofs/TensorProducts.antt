@@ -1,22 +1,13 @@
 -- The tensor characters and fusion sums by good tables are those of the twisted quantum double.
-use Rattle.std.proofs.Common.{◌≡◌, ◌<◌, ℕ, refl, sym, ap, ap₂, ◌∙◌}
-use Rattle.algebra.specs.Sums.{pick}
-use Rattle.algebra.specs.Totals.{equals}
-use Rattle.algebra.specs.Groups.{conj}
-use Rattle.algebra.specs.Below.{Below, below_equal}
-use Rattle.algebra.proofs.SumLaws.{pick_of}
+use Rattle.transport.proofs.Names.{◌≡◌, ◌<◌, ℕ, refl, sym, ap, ap₂, ◌∙◌, pick, equals, conj, Below, below_equal, pick_of, total_ext, total_pick, equals_true, equals_of, CyclotomicValue, root, conjugate, multiplied, conjugated, where_so, Setting, Classes, Commuting, same_test, commute_of, commuting_product, inner_product_is}
 use Rattle.algebra.proofs.GroupLaws.{inv_op_op, op_inv_op}
-use Rattle.algebra.proofs.TotalLaws.{total_ext, total_pick, equals_true, equals_of}
-use Rattle.cyclotomic.specs.CyclotomicRing.{CyclotomicValue, root, conjugate}
 use Rattle.slant.specs.Phases.{gamma}
 use Rattle.phases.specs.Phases.{gamma as coproduct_phase}
-use Rattle.table_check.specs.Formed.{multiplied, conjugated, where_so}
-use Rattle.characters.specs.Setting.{Setting, Classes, Commuting, commute as commuting_test}
+use Rattle.characters.specs.Setting.{commute as commuting_test}
 use Rattle.characters.specs.PhaseRoots.{coproduct_root}
 use Rattle.characters.specs.FullCharacters.{full_character as character}
 use Rattle.characters.specs.Fusion.{tensor_character as abstract_tensor, fusion_sum as abstract_fusion}
-use Rattle.characters.proofs.SettingLaws.{same_test, commute_of, commuting_product, commuting_inv}
-use Rattle.characters.proofs.PairLaws.{inner_product_is}
+use Rattle.characters.proofs.SettingLaws.{commuting_inv}
 use Rattle.characters.proofs.FusionLaws.{tensor_character_is, fusion_sum_is}
 use Rattle.transport.specs.Simples.{SimplesOver, count, AreSimples}
 use Rattle.transport.specs.FullCharacters.{root_exponent, full_character}

@@ -1,9 +1,5 @@
 -- What a full character is by every element that carries the representative of its class.
-use Rattle.std.proofs.Common.{◌≡◌, ℕ, ◌<◌, false, ◌==◌, sym, ap, ◌∙◌}
-use Rattle.classes.specs.Conjugacy.{class_of, transporter_of}
-use Rattle.cyclotomic.specs.Ring.{value_nought}
-use Rattle.cyclotomic.specs.CyclotomicRing.{CyclotomicValue}
-use Rattle.table_check.specs.Formed.{where_so}
+use Rattle.transport.proofs.Names.{◌≡◌, ℕ, ◌<◌, false, ◌==◌, sym, ap, ◌∙◌, class_of, transporter_of, value_nought, CyclotomicValue, where_so}
 use Rattle.transport.specs.Simples.{SimplesOver, count, class_at, AreSimples}
 use Rattle.transport.specs.FullCharacters.{carried_value, full_character}
 use Rattle.transport.specs.Laws.{IsElement, Commute}

@@ -1,34 +1,12 @@
 -- The twists of the simples, as roots of the ring, and the relations of S and T.
-use Rattle.std.proofs.Common.{◌≡◌, ℕ, ◌*◌, ◌<◌, true, Option, refl, sym, ap, ap₂, ◌∙◌, ◌==◌}
-use Rattle.std.specs.Prelude.{unwrap_or}
-use Rattle.algebra.specs.Structures.{CommRing}
-use Rattle.algebra.specs.Sums.{sum_below}
-use Rattle.algebra.specs.Groups.{conj}
-use Rattle.algebra.specs.Below.{Below, below_equal}
-use Rattle.algebra.proofs.SumLaws.{mul_pick, sum_pick, sum_ext, sum_exchange, sum_mul, mul_sum}
-use Rattle.scan.proofs.Searches.{first_finds}
-use Rattle.cochain.specs.Cochain.{Cochain}
-use Rattle.group_table.specs.Group.{identity_of}
-use Rattle.cyclotomic.specs.Cyclotomic.{cyclotomic}
-use Rattle.cyclotomic.specs.Ring.{value_product, value_one}
-use Rattle.cyclotomic.specs.CyclotomicRing.{CyclotomicValue, cyclotomic_ring, root, conjugate}
-use Rattle.cyclotomic.proofs.Inverses.{root_conjugate}
-use Rattle.twisted.specs.Twist.{TwistedSubgroup, place_of}
-use Rattle.slant.specs.Phases.{theta}
+use Rattle.transport.proofs.Names.{◌≡◌, ℕ, ◌*◌, ◌<◌, true, Option, refl, sym, ap, ap₂, ◌∙◌, ◌==◌, unwrap_or, CommRing, sum_below, conj, Below, below_equal, sum_ext, mul_sum, first_finds, Cochain, identity_of, cyclotomic, value_product, value_one, CyclotomicValue, cyclotomic_ring, root, conjugate, root_conjugate, TwistedSubgroup, place_of, theta, whole, twist_left, twist_right, is_same, where_holds, twist_of, Characters, is_same-Decides, Setting, Classes, Commuting, slant_root, commuting_product}
+use Rattle.algebra.proofs.SumLaws.{mul_pick, sum_pick, sum_exchange, sum_mul}
 use Rattle.slant.specs.Twists.{twist_of as twisted_centraliser}
 use Rattle.phases.specs.Phases.{theta as slant_phase}
-use Rattle.table_check.specs.Formed.{whole}
-use Rattle.table_check.specs.Sides.{twist_left, twist_right}
-use Rattle.table_check.specs.Check.{is_same, where_holds, twist_of}
 use Rattle.table_check.specs.Good.{HasTwist}
-use Rattle.table_check.specs.Characters.{Characters}
-use Rattle.table_check.proofs.Same.{is_same-Decides}
 use Rattle.table_check.proofs.Good.{twist_there}
-use Rattle.characters.specs.Setting.{Setting, Classes, Commuting}
-use Rattle.characters.specs.PhaseRoots.{slant_root}
 use Rattle.characters.specs.Twists.{AreTwists}
 use Rattle.characters.proofs.TwistLaws.{twist_acts}
-use Rattle.characters.proofs.SettingLaws.{commuting_product}
 use Rattle.characters.proofs.Relations.{s_t_s, s_t_cubed, s_fourth}
 use Rattle.transport.specs.Simples.{SimplesOver, count, twist_at, over_at, characters_at, simple_at, degree_at, class_at, value_at, AreSimples}
 use Rattle.transport.specs.FullCharacters.{root_exponent}

@@ -1,16 +1,9 @@
 -- Whole numbers as values of the cyclotomic ring.
-use Rattle.std.proofs.Common.{◌≡◌, ℕ, zero, suc, ◌+◌, ◌-◌, ◌*◌, ◌<◌, true, refl, sym, ap, ap₂, ◌∙◌, arith}
-use Rattle.algebra.specs.Structures.{CommRing}
-use Rattle.algebra.specs.Sums.{sum_below, multiple}
+use Rattle.transport.proofs.Names.{◌≡◌, ℕ, zero, suc, ◌+◌, ◌-◌, ◌*◌, ◌<◌, true, refl, sym, ap, ap₂, ◌∙◌, arith, CommRing, sum_below, multiple, sum_zero, sum_suc, multiple_zero, multiple_is_mul, is_conductor, cyclotomic, value_one, value_nought, CyclotomicValue, cyclotomic_ring, conjugate, whole, conjugation}
 use Rattle.algebra.proofs.RingLaws.{add_fixed}
 use Rattle.algebra.proofs.InvolutionLaws.{bar_one}
-use Rattle.algebra.proofs.SumLaws.{sum_zero, sum_suc, multiple_zero, multiple_add, multiple_multiple, multiple_is_mul, multiple_map}
-use Rattle.cyclotomic.specs.Conductors.{is_conductor}
-use Rattle.cyclotomic.specs.Cyclotomic.{cyclotomic}
-use Rattle.cyclotomic.specs.Ring.{value_one, value_nought}
-use Rattle.cyclotomic.specs.CyclotomicRing.{CyclotomicValue, cyclotomic_ring, conjugate}
-use Rattle.table_check.specs.Formed.{whole}
-use Rattle.table_check.proofs.WholeValues.{conjugation, whole_apart}
+use Rattle.algebra.proofs.SumLaws.{multiple_add, multiple_multiple, multiple_map}
+use Rattle.table_check.proofs.WholeValues.{whole_apart}
 use Rattle.transport.specs.Matrices.{sum_numbers}
 use Rattle.transport.proofs.DoubleSimples.{whole_multiple}
 use Rattle.transport.proofs.GoodTables.{torsion_free}

@@ -1,7 +1,5 @@
-use Rattle.std.proofs.Common.{◌≡◌, ◌+◌, ◌%◌, ◌<◌, sym, ap, ◌∙◌, subst, arith}
-use Rattle.std.proofs.Math.Nat.{mod-lt, zero-mod}
-use Rattle.twisted.specs.Twist.{size}
-use Rattle.prime_field.specs.Laws.Moduli.{modulus_bound, modulus_positive}
+use Rattle.char_lift.proofs.Names.{◌≡◌, ◌+◌, ◌%◌, ◌<◌, sym, ap, ◌∙◌, subst, arith, mod-lt, size, modulus_bound, modulus_positive}
+use Rattle.std.proofs.Math.Nat.{zero-mod}
 use Rattle.char_lift.specs.Sums.{sum_of}
 use Rattle.char_lift.specs.Candidate.{degree_term}
 use Rattle.char_lift.proofs.SumLaws.{sum-zero, running}

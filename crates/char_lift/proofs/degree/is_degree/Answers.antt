@@ -1,6 +1,4 @@
-use Rattle.std.proofs.Common.{◌*◌, ◌≤◌, arith}
-use Rattle.std.proofs.lemmas.Nat.{mul-le}
-use Rattle.prime_field.specs.Laws.Moduli.{modulus_bound}
+use Rattle.char_lift.proofs.Names.{◌*◌, ◌≤◌, arith, mul-le, modulus_bound}
 use Rattle.char_lift.proofs.degree.is_degree.Goals as goal
 
 pub overflow_mul-result-then-d-m : goal.overflow_mul-result-then-d-m

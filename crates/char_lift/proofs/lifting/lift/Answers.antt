@@ -1,11 +1,5 @@
-use Rattle.std.proofs.Common.{◌≡◌, ℕ, ◌+◌, ◌<◌, ◌^◌, length, None, sym, ap, ◌∙◌, subst, arith, lit<}
-use Rattle.std.proofs.lemmas.Result.{err_from_is_err_and}
-use Rattle.scan.specs.First.{first}
-use Rattle.scan.proofs.Places.{first-zero, first_none-step}
-use Rattle.prime_field.specs.declared.mod_ring.ModRing.{ModRing}
-use Rattle.prime_field.specs.Laws.Moduli.{modulus_positive}
-use Rattle.prime_field.specs.ResidueLists.{AreBelow}
-use Rattle.dixon_split.specs.CentralLists.{central_value}
+use Rattle.char_lift.proofs.Names.{◌≡◌, ℕ, ◌+◌, ◌<◌, length, None, sym, ap, ◌∙◌, subst, arith, lit<, err_from_is_err_and, first, first-zero, first_none-step, ModRing, modulus_positive, AreBelow, central_value}
+use Rattle.std.proofs.Common.{◌^◌}
 use Rattle.char_lift.specs.Ratios.{character_ratios}
 use Rattle.char_lift.specs.Faults.{row_fault, lifted_row, lifted_rows, Refuses}
 use Rattle.char_lift.proofs.SumLaws.{table-zero, table-more, length-table}

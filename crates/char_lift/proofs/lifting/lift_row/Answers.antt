@@ -1,6 +1,5 @@
-use Rattle.std.proofs.Common.{◌≡◌, [], ◌∷◌, ◌++◌, Some, None, sym, ap, ◌∙◌, subst}
+use Rattle.char_lift.proofs.Names.{◌≡◌, [], ◌∷◌, ◌++◌, Some, None, sym, ap, ◌∙◌, subst, ap₂}
 use Rattle.std.specs.Prelude.{OnOk, IfErr}
-use mathlib.Core.Path.{ap₂}
 use Rattle.char_lift.specs.Candidate.{least_degree, degree_of}
 use Rattle.char_lift.specs.Faults.{Refuses}
 use Rattle.char_lift.specs.declared.refusal.LiftRefusal.TheVariants.{NoDegree}

@@ -1,11 +1,4 @@
-use Rattle.std.proofs.Common.{◌≡◌, ℕ, ◌%◌, true, length, sym, ap, ◌∙◌, subst, arith, Some, lit<}
-use Rattle.std.proofs.Math.Nat.{mod-lt}
-use Rattle.std.specs.Prelude.{slice_index}
-use Rattle.cyclotomic.specs.Conductors.{is_conductor}
-use Rattle.qd_ring.specs.CycArrays.{array_of}
-use Rattle.qd_ring.specs.ReductionSigns.{conductor_bounds}
-use Rattle.prime_field.specs.ResidueLists.{AreBelow}
-use Rattle.prime_field.specs.Laws.Moduli.{modulus_bound, modulus_positive}
+use Rattle.char_lift.proofs.Names.{◌≡◌, ℕ, ◌%◌, true, length, sym, ap, ◌∙◌, subst, arith, Some, lit<, mod-lt, slice_index, is_conductor, array_of, conductor_bounds, AreBelow, modulus_bound, modulus_positive}
 use Rattle.char_lift.specs.Sums.{sum_of, table_of}
 use Rattle.char_lift.specs.Candidate.{power_value, inverse_transform, multiplicity, with_multiplicities}
 use Rattle.char_lift.specs.declared.refusal.LiftRefusal.TheVariants.{Multiplicity}

@@ -1,9 +1,4 @@
-use Rattle.std.proofs.Common.{◌≡◌, ℕ, ◌+◌, ◌<◌, [], ◌∷◌, ◌++◌, length, None, sym, ap, ◌∙◌, subst, arith, lit<}
-use Rattle.std.proofs.lemmas.Result.{err_from_is_err_and}
-use Rattle.scan.specs.First.{first}
-use Rattle.scan.proofs.Places.{first-zero, first_none-step}
-use Rattle.twisted.specs.Twist.{size}
-use Rattle.qd_ring.specs.CycArrays.{array_of}
+use Rattle.char_lift.proofs.Names.{◌≡◌, ℕ, ◌+◌, ◌<◌, [], ◌∷◌, ◌++◌, length, None, sym, ap, ◌∙◌, subst, arith, lit<, err_from_is_err_and, first, first-zero, first_none-step, size, array_of}
 use Rattle.char_lift.specs.Sums.{table_of}
 use Rattle.char_lift.specs.Candidate.{lifted_value}
 use Rattle.char_lift.specs.Faults.{place_fault}

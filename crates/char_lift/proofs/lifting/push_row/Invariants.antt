@@ -1,6 +1,4 @@
-use Rattle.std.proofs.Common.{◌≡◌, [], ◌∷◌, ◌++◌, None}
-use Rattle.scan.specs.First.{first}
-use Rattle.qd_ring.specs.CycArrays.{array_of}
+use Rattle.char_lift.proofs.Names.{◌≡◌, [], ◌∷◌, ◌++◌, None, first, array_of}
 use Rattle.char_lift.specs.Sums.{table_of}
 use Rattle.char_lift.specs.Candidate.{lifted_value}
 use Rattle.char_lift.specs.Faults.{place_fault}

@@ -1,10 +1,4 @@
-use Rattle.std.proofs.Common.{◌≡◌, ℕ, ◌+◌, ◌-◌, ◌*◌, ◌%◌, ◌<◌, ◌≤◌, get_or, sym, ap, ◌∙◌, subst, arith}
-use Rattle.std.proofs.lemmas.Nat.{mul-le}
-use Rattle.std.specs.Prelude.{slice_index}
-use mathlib.Core.Path.{ap₂}
-use Rattle.qd_ring.specs.ReductionSigns.{conductor_bounds}
-use Rattle.prime_field.specs.Laws.Moduli.{power_modulo, modulus_bound}
-use Rattle.prime_field.proofs.Inverses.{residues_fit}
+use Rattle.char_lift.proofs.Names.{◌≡◌, ℕ, ◌+◌, ◌-◌, ◌*◌, ◌%◌, ◌<◌, ◌≤◌, get_or, sym, ap, ◌∙◌, subst, arith, mul-le, slice_index, ap₂, conductor_bounds, power_modulo, modulus_bound, residues_fit}
 use Rattle.char_lift.specs.Sums.{sum_of}
 use Rattle.char_lift.proofs.SumLaws.{sum-zero, sum-more}
 use Rattle.char_lift.proofs.TransformLaws.{transform_of_sum}

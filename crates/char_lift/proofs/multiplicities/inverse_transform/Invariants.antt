@@ -1,6 +1,4 @@
-use Rattle.std.proofs.Common.{◌≡◌, ◌-◌, ◌*◌, ◌%◌, ◌≤◌}
-use Rattle.std.specs.Prelude.{slice_index}
-use Rattle.prime_field.specs.Laws.Moduli.{power_modulo}
+use Rattle.char_lift.proofs.Names.{◌≡◌, ◌-◌, ◌*◌, ◌%◌, ◌≤◌, slice_index, power_modulo}
 use Rattle.char_lift.specs.Sums.{sum_of}
 use Rattle.char_lift.proofs.multiplicities.inverse_transform.Given as goal
 

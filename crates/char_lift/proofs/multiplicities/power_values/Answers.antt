@@ -1,11 +1,5 @@
-use Rattle.std.proofs.Common.{◌≡◌, ℕ, ◌+◌, ◌*◌, ◌%◌, get_or, length, sym, ap, ◌∙◌, subst, arith}
-use mathlib.Core.Path.{ap₂}
-use Rattle.orders.specs.Group.{power}
-use Rattle.group_table.specs.Group.{Table, product, identity_of}
-use Rattle.twisted.specs.Twist.{phase}
-use Rattle.central_ext.specs.Extension.{place_power, power_phase}
+use Rattle.char_lift.proofs.Names.{◌≡◌, ℕ, ◌+◌, ◌*◌, ◌%◌, get_or, length, sym, ap, ◌∙◌, subst, arith, ap₂, power, Table, product, identity_of, phase, place_power, power_phase, conductor_bounds}
 use Rattle.central_ext.proofs.PairPowers.{power_phase-zero}
-use Rattle.qd_ring.specs.ReductionSigns.{conductor_bounds}
 use Rattle.char_lift.specs.Sums.{table_of}
 use Rattle.char_lift.specs.Ratios.{root_residue}
 use Rattle.char_lift.specs.Candidate.{power_value}

@@ -1,6 +1,4 @@
-use Rattle.std.proofs.Common.{◌≡◌, ◌%◌, ◌<◌, ◌≤◌, length}
-use Rattle.twisted.specs.Twist.{size}
-use Rattle.central_ext.specs.Extension.{place_power, power_phase}
+use Rattle.char_lift.proofs.Names.{◌≡◌, ◌%◌, ◌<◌, ◌≤◌, length, size, place_power, power_phase}
 use Rattle.char_lift.specs.Sums.{table_of}
 use Rattle.char_lift.specs.Candidate.{power_value}
 use Rattle.char_lift.proofs.multiplicities.power_values.Given as goal

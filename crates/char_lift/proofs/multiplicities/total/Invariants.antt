@@ -1,5 +1,4 @@
-use Rattle.std.proofs.Common.{◌≡◌, ◌*◌, ◌≤◌}
-use Rattle.std.specs.Prelude.{slice_index}
+use Rattle.char_lift.proofs.Names.{◌≡◌, ◌*◌, ◌≤◌, slice_index}
 use Rattle.char_lift.specs.Sums.{sum_of}
 use Rattle.char_lift.proofs.multiplicities.total.Given as goal
 

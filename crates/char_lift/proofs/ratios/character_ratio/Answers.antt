@@ -1,9 +1,4 @@
-use Rattle.std.proofs.Common.{◌≡◌, ◌*◌, ◌%◌, ◌<◌, get_or, length, sym, ap, ◌∙◌, subst, arith}
-use mathlib.Core.Path.{ap₂}
-use Rattle.twisted.specs.Twist.{size}
-use Rattle.twisted.specs.Regular.{rank}
-use Rattle.dixon_split.specs.CentralLists.{central_value}
-use Rattle.prime_field.specs.Laws.Moduli.{modulus_positive}
+use Rattle.char_lift.proofs.Names.{◌≡◌, ◌*◌, ◌%◌, ◌<◌, get_or, length, sym, ap, ◌∙◌, subst, arith, ap₂, size, rank, central_value, modulus_positive}
 use Rattle.char_lift.specs.Ratios.{regular_number, class_factor}
 use Rattle.char_lift.proofs.SumLaws.{length-table, table-at}
 use Rattle.char_lift.proofs.RatioLaws.{number_below, factor_below}

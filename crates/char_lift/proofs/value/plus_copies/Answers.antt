@@ -1,10 +1,5 @@
-use Rattle.std.proofs.Common.{◌≡◌, ◌≤◌, sym, ap, ◌∙◌, arith}
-use Rattle.cyclotomic.specs.CyclotomicRing.{cyclotomic_value, root}
-use Rattle.cyclotomic.specs.Ring.{value_sum}
-use Rattle.cyclotomic.specs.Fit.{value_size}
+use Rattle.char_lift.proofs.Names.{◌≡◌, ◌≤◌, sym, ap, ◌∙◌, arith, cyclotomic_value, root, value_sum, value_size, multiple, cyclotomic_ring}
 use Rattle.cyclotomic.proofs.Inverses.{root_modulo}
-use Rattle.algebra.specs.Sums.{multiple}
-use Rattle.cyclotomic.specs.CyclotomicRing.{cyclotomic_ring}
 use Rattle.char_lift.proofs.ValueLaws.{copies_none, copies_more, size_more, small_fits, there_not_none}
 use Rattle.char_lift.proofs.value.plus_copies.Goals as goal
 

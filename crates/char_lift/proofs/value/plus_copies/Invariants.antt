@@ -1,8 +1,4 @@
-use Rattle.std.proofs.Common.{◌≡◌, ◌+◌, ◌≤◌}
-use Rattle.algebra.specs.Sums.{multiple}
-use Rattle.cyclotomic.specs.Ring.{value_sum}
-use Rattle.cyclotomic.specs.CyclotomicRing.{cyclotomic_ring, cyclotomic_value, root}
-use Rattle.cyclotomic.specs.Fit.{value_size}
+use Rattle.char_lift.proofs.Names.{◌≡◌, ◌+◌, ◌≤◌, multiple, value_sum, cyclotomic_ring, cyclotomic_value, root, value_size}
 use Rattle.char_lift.proofs.value.plus_copies.Given as goal
 
 -- the copies so far are added

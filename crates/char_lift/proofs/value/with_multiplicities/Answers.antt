@@ -1,9 +1,4 @@
-use Rattle.std.proofs.Common.{◌≡◌, ◌+◌, ◌≤◌, sym, ap, ◌∙◌, arith, lit<}
-use Rattle.std.specs.Prelude.{slice_index}
-use Rattle.algebra.specs.Sums.{multiple}
-use Rattle.algebra.proofs.SumLaws.{sum_zero}
-use Rattle.cyclotomic.specs.CyclotomicRing.{cyclotomic_ring, cyclotomic_value, root}
-use Rattle.qd_ring.specs.CycArrays.{array_of}
+use Rattle.char_lift.proofs.Names.{◌≡◌, ◌+◌, ◌≤◌, sym, ap, ◌∙◌, arith, lit<, slice_index, multiple, sum_zero, cyclotomic_ring, cyclotomic_value, root, array_of}
 use Rattle.qd_ring.proofs.CycSums.{array-of_value}
 use Rattle.char_lift.specs.Sums.{sum_of}
 use Rattle.char_lift.proofs.SumLaws.{sum-more}

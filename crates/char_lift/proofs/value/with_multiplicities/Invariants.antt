@@ -1,6 +1,4 @@
-use Rattle.std.proofs.Common.{◌≡◌}
-use Rattle.std.specs.Prelude.{slice_index}
-use Rattle.cyclotomic.specs.CyclotomicRing.{cyclotomic_value}
+use Rattle.char_lift.proofs.Names.{◌≡◌, slice_index, cyclotomic_value}
 use Rattle.char_lift.proofs.ValueLaws.{first_copies}
 use Rattle.char_lift.proofs.value.with_multiplicities.Given as goal
 

@@ -1,7 +1,4 @@
-use Rattle.std.proofs.Common.{◌+◌, ◌-◌, ◌%◌, ◌<◌, ◌≤◌, sym, arith}
-use Rattle.std.proofs.Math.Nat.{mod-lt, mod-eq_of_lt}
-use mathlib.Core.Path.{ap₂}
-use Rattle.prime_field.specs.Laws.Moduli.{modulus_bound, modulus_positive}
+use Rattle.dixon_split.proofs.Names.{◌+◌, ◌-◌, ◌%◌, ◌<◌, ◌≤◌, sym, arith, mod-lt, mod-eq_of_lt, ap₂, modulus_bound, modulus_positive}
 use Rattle.dixon_split.proofs.arithmetic.minus.Goals as goal
 
 pub overflow_add-result : goal.overflow_add-result

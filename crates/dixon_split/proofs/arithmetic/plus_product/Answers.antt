@@ -1,5 +1,4 @@
-use Rattle.std.proofs.Common.{arith, ◌%◌, ap, sym, ◌∙◌}
-use Rattle.std.proofs.Math.Nat.{mod-eq_of_lt}
+use Rattle.dixon_split.proofs.Names.{arith, ◌%◌, ap, sym, ◌∙◌, mod-eq_of_lt}
 use Rattle.prime_field.proofs.PolynomialValues.{modulus_small, product_small}
 use Rattle.prime_field.proofs.ResidueSums.{plus_product_value}
 use Rattle.dixon_split.proofs.arithmetic.plus_product.Goals as goal

@@ -1,5 +1,4 @@
-use Rattle.std.proofs.Common.{◌≡◌, arith, subst}
-use Rattle.prime_field.specs.ResidueLists.{IsTabulated}
+use Rattle.dixon_split.proofs.Names.{◌≡◌, arith, subst, IsTabulated}
 use Rattle.prime_field.proofs.ResidueSums.{tabulated_push}
 use Rattle.dixon_split.proofs.arithmetic.tabulate.Goals as goal
 

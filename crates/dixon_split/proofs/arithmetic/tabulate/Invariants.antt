@@ -1,5 +1,4 @@
-use Rattle.std.proofs.Common.{◌≡◌, ℕ, ◌<◌}
-use Rattle.prime_field.specs.ResidueLists.{IsTabulated}
+use Rattle.dixon_split.proofs.Names.{◌≡◌, ℕ, ◌<◌, IsTabulated}
 use Rattle.dixon_split.proofs.arithmetic.tabulate.Given as goal
 
 abbrev pub invariant-loop-i : goal.invariant-loop-i

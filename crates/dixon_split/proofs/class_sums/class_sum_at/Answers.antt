@@ -1,8 +1,5 @@
-use Rattle.std.proofs.Common.{◌<◌}
-use Rattle.std.proofs.Math.Dec.{eqb}
+use Rattle.dixon_split.proofs.Names.{◌<◌, eqb, modulus_positive, size}
 use Rattle.classes.specs.Conjugacy.{conjugate}
-use Rattle.prime_field.specs.Laws.Moduli.{modulus_positive}
-use Rattle.twisted.specs.Twist.{size}
 use Rattle.dixon_split.proofs.Multiples.{least_below}
 use Rattle.dixon_split.proofs.Refining.{some_at}
 use Rattle.dixon_split.proofs.class_sums.class_sum_at.Goals as goal

@@ -1,5 +1,4 @@
-use Rattle.std.proofs.Common.{length, refl, subst, sym, ◌<◌, ◌/◌, ◌%◌}
-use Rattle.twisted.specs.Regular.{rank}
+use Rattle.dixon_split.proofs.Names.{length, refl, subst, sym, ◌<◌, ◌/◌, ◌%◌, rank}
 use Rattle.dixon_split.proofs.ClassSums.{digits, length_is, place_small, row_inside, row_is_sum, constant_is}
 use Rattle.dixon_split.proofs.class_sums.constant_at.Goals as goal
 

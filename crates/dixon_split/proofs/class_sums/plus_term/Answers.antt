@@ -1,8 +1,5 @@
-use Rattle.std.proofs.Common.{ℕ, ◌∙◌, ap, sym, get_or}
-use Rattle.algebra.specs.Sums.{power}
-use Rattle.prime_field.specs.Field.{field, field_residue}
-use Rattle.twisted.specs.Twist.{phase}
-use Rattle.twisted.specs.Algebra.{left_quotient, exponent, root}
+use Rattle.dixon_split.proofs.Names.{ℕ, ◌∙◌, ap, sym, get_or, power, field, field_residue, phase, left_quotient, root}
+use Rattle.twisted.specs.Algebra.{exponent}
 use Rattle.dixon_split.specs.ClassSums.{residue_field, residue_root}
 use Rattle.dixon_split.proofs.ClassSums.{term_added, term_skipped, term_without_second, quotient_place}
 use Rattle.dixon_split.proofs.class_sums.plus_term.Goals as goal

@@ -1,7 +1,4 @@
-use Rattle.std.proofs.Common.{◌≡◌, ◌∙◌, ap, arith}
-use Rattle.algebra.specs.Sums.{sum_below}
-use Rattle.prime_field.specs.Laws.Moduli.{modulus_positive}
-use Rattle.twisted.specs.Twist.{size}
+use Rattle.dixon_split.proofs.Names.{◌≡◌, ◌∙◌, ap, arith, sum_below, modulus_positive, size}
 use Rattle.dixon_split.specs.ClassSums.{residue_field, term_at}
 use Rattle.dixon_split.proofs.ClassSums.{sum_begun, sum_grown}
 use Rattle.dixon_split.proofs.class_sums.product_at.Goals as goal

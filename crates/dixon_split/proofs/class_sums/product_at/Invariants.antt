@@ -1,5 +1,4 @@
-use Rattle.std.proofs.Common.{◌≡◌, ◌<◌}
-use Rattle.algebra.specs.Sums.{sum_below}
+use Rattle.dixon_split.proofs.Names.{◌≡◌, ◌<◌, sum_below}
 use Rattle.dixon_split.specs.ClassSums.{residue_field, term_at}
 use Rattle.dixon_split.proofs.class_sums.product_at.Given as goal
 

@@ -1,6 +1,4 @@
-use Rattle.std.proofs.Common.{◌≡◌, length, refl, sym, subst, ◌<◌, ◌/◌}
-use Rattle.twisted.specs.Regular.{rank}
-use Rattle.twisted.specs.Twist.{size}
+use Rattle.dixon_split.proofs.Names.{◌≡◌, length, refl, sym, subst, ◌<◌, ◌/◌, rank, size}
 use Rattle.dixon_split.proofs.ClassSums.{two_digits, length_is, place_small}
 use Rattle.dixon_split.proofs.class_sums.sum_at.Goals as goal
 

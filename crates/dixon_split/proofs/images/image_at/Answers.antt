@@ -1,8 +1,4 @@
-use Rattle.std.proofs.Common.{get_or, sym, ap, ◌∙◌, refl}
-use Rattle.std.proofs.Math.Nat.{zero-mod}
-use Rattle.algebra.proofs.SumLaws.{sum_zero}
-use Rattle.prime_field.specs.Field.{field, field_residue}
-use Rattle.prime_field.specs.Laws.Moduli.{modulus_positive}
+use Rattle.dixon_split.proofs.Names.{get_or, sym, ap, ◌∙◌, refl, zero-mod, sum_zero, field, field_residue, modulus_positive}
 use Rattle.prime_field.proofs.ResidueSums.{sum_step}
 use Rattle.dixon_split.specs.Structures.{constant}
 use Rattle.dixon_split.proofs.images.image_at.Goals as goal

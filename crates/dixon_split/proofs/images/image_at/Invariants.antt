@@ -1,6 +1,4 @@
-use Rattle.std.proofs.Common.{◌≡◌, ◌<◌, get_or}
-use Rattle.algebra.specs.Sums.{sum_below}
-use Rattle.prime_field.specs.Field.{field, field_residue}
+use Rattle.dixon_split.proofs.Names.{◌≡◌, ◌<◌, get_or, sum_below, field, field_residue}
 use Rattle.dixon_split.specs.Structures.{constant}
 use Rattle.dixon_split.proofs.images.image_at.Given as goal
 

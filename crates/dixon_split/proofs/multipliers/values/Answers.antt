@@ -1,5 +1,4 @@
-use Rattle.std.proofs.Common.{◌∙◌, ◌/◌, ◌<◌, [], map, length, refl, ap, sym, subst}
-use Rattle.std.proofs.lemmas.List.{get_or-map}
+use Rattle.dixon_split.proofs.Names.{◌∙◌, ◌/◌, ◌<◌, [], map, length, refl, ap, sym, subst, get_or-map}
 use Rattle.dixon_split.proofs.ClassSums.{two_digits}
 use Rattle.dixon_split.proofs.Values.{values_more}
 use Rattle.dixon_split.proofs.multipliers.values.Goals as goal

@@ -1,6 +1,4 @@
-use Rattle.std.proofs.Common.{◌∙◌, ◌++◌, map, ap, sym, subst}
-use Rattle.std.proofs.Math.Numerals.{add-one}
-use Rattle.splitting_theory.specs.Splitting.{parts_below}
+use Rattle.dixon_split.proofs.Names.{◌∙◌, ◌++◌, map, ap, sym, subst, add-one, parts_below}
 use Rattle.dixon_split.specs.Structures.{residues}
 use Rattle.dixon_split.specs.Layers.{ArePowers}
 use Rattle.dixon_split.proofs.PushedParts.{none_added}

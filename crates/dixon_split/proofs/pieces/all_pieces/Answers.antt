@@ -1,7 +1,4 @@
-use Rattle.std.proofs.Common.{◌≡◌, ◌≢◌, ◌∙◌, ◌∷◌, [], map, ap, sym, subst, arith, All}
-use Rattle.std.specs.Prelude.{flat_map}
-use Rattle.std.proofs.Math.Numerals.{add-one}
-use Rattle.splitting_theory.specs.Splitting.{pieces, parts_below}
+use Rattle.dixon_split.proofs.Names.{◌≡◌, ◌≢◌, ◌∙◌, ◌∷◌, [], map, ap, sym, subst, arith, All, flat_map, add-one, pieces, parts_below}
 use Rattle.splitting_theory.proofs.Pieces.{pieces_zero, pieces_suc}
 use Rattle.dixon_split.specs.Elements.{IsElement}
 use Rattle.dixon_split.specs.Structures.{residues}

@@ -1,6 +1,4 @@
-use Rattle.std.proofs.Common.{◌≡◌, All, map}
-use Rattle.algebra.specs.Structures.{CommRing}
-use Rattle.splitting_theory.specs.Splitting.{IsFixed, ZeroTest, pieces}
+use Rattle.dixon_split.proofs.Names.{◌≡◌, All, map, CommRing, IsFixed, ZeroTest, pieces}
 use Rattle.dixon_split.specs.Elements.{Element, IsElement}
 use Rattle.dixon_split.specs.Structures.{residues, HasStructure}
 use Rattle.dixon_split.proofs.pieces.all_pieces.Given as goal

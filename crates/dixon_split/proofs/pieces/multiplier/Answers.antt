@@ -1,5 +1,4 @@
-use Rattle.std.proofs.Common.{◌∙◌, ap}
-use Rattle.scan.specs.First.{first}
+use Rattle.dixon_split.proofs.Names.{◌∙◌, ap, first}
 use Rattle.dixon_split.proofs.Multiples.{found_multiple, found_acts, not_found, found_below}
 use Rattle.dixon_split.proofs.pieces.multiplier.Goals as goal
 

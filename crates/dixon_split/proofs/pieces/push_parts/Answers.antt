@@ -1,5 +1,4 @@
-use Rattle.std.proofs.Common.{◌≡◌, ◌∙◌, ◌++◌, ◌∷◌, [], ◌<◌, map, ap, sym}
-use Rattle.splitting_theory.specs.Splitting.{number}
+use Rattle.dixon_split.proofs.Names.{◌≡◌, ◌∙◌, ◌++◌, ◌∷◌, [], ◌<◌, map, ap, sym, number}
 use Rattle.splitting_theory.proofs.Pieces.{parts_single}
 use Rattle.dixon_split.specs.Structures.{residues}
 use Rattle.dixon_split.proofs.PushedParts.{map_push}

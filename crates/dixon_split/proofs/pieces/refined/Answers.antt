@@ -1,6 +1,4 @@
-use Rattle.std.proofs.Common.{◌∙◌, ◌++◌, map, take, ap, sym, arith}
-use Rattle.std.specs.Prelude.{flat_map}
-use Rattle.splitting_theory.specs.Splitting.{parts_below}
+use Rattle.dixon_split.proofs.Names.{◌∙◌, ◌++◌, map, take, ap, sym, arith, flat_map, parts_below}
 use Rattle.dixon_split.specs.Structures.{residues}
 use Rattle.dixon_split.proofs.Refining.{refined_more, take_whole, good_here}
 use Rattle.dixon_split.proofs.pieces.refined.Goals as goal

@@ -1,7 +1,4 @@
-use Rattle.std.proofs.Common.{◌≡◌, ◌≢◌, All, map, take}
-use Rattle.std.specs.Prelude.{flat_map}
-use Rattle.algebra.specs.Structures.{CommRing}
-use Rattle.splitting_theory.specs.Splitting.{IsFixed, ZeroTest, parts_below}
+use Rattle.dixon_split.proofs.Names.{◌≡◌, ◌≢◌, All, map, take, flat_map, CommRing, IsFixed, ZeroTest, parts_below}
 use Rattle.dixon_split.specs.Elements.{Element, IsElement}
 use Rattle.dixon_split.specs.Structures.{residues, HasStructure}
 use Rattle.dixon_split.proofs.pieces.refined.Given as goal

@@ -1,6 +1,5 @@
-use Rattle.std.proofs.Common.{◌∙◌, ◌*◌, ◌%◌, ◌<◌, map, length, ap, sym, subst, arith}
+use Rattle.dixon_split.proofs.Names.{◌∙◌, ◌*◌, ◌%◌, ◌<◌, map, length, ap, sym, subst, arith, length-map}
 use Rattle.std.proofs.Math.Nat.{mul-mod_right}
-use Rattle.std.proofs.lemmas.List.{length-map}
 use Rattle.dixon_split.specs.Structures.{residues}
 use Rattle.dixon_split.specs.Values.{AreValues}
 use Rattle.dixon_split.proofs.Characters.{gives_characters}

@@ -1,11 +1,5 @@
-use Rattle.std.proofs.Common.{◌≡◌, ◌==◌, [], ℕ, Bool, List, length, get_or, refl, sym, ap, ◌∙◌, subst}
-use Rattle.std.specs.Option.{IfSome}
-use Rattle.std.specs.Global.{Vec}
+use Rattle.fusion.proofs.Names.{◌≡◌, ◌==◌, [], ℕ, Bool, List, length, get_or, refl, sym, ap, ◌∙◌, subst, IfSome, Vec, class_of, Pair, value_of_terms, class_at}
 use Rattle.group_table.proofs.Numbers.{passing_below-zero, passing_below-passes, passing_below-fails}
-use Rattle.classes.specs.Conjugacy.{class_of}
-use Rattle.pair_orbits.specs.declared.pair.Pair.{Pair}
-use Rattle.qd_ring.specs.SparseValues.{value_of_terms}
-use Rattle.transport.specs.Simples.{class_at}
 use Rattle.fusion.specs.declared.weighted.Weighted.{Weighted}
 use Rattle.fusion.specs.Kept.{AreAt, IsWeighted, listed_at, places_before, weighted_conjugate}
 use Rattle.fusion.proofs.Lists.{none_at, one_more_place}

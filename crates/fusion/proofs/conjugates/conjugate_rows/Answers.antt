@@ -1,5 +1,4 @@
-use Rattle.std.proofs.Common.{ℕ}
-use Rattle.std.specs.Global.{Vec}
+use Rattle.fusion.proofs.Names.{ℕ, Vec}
 use Rattle.fusion.specs.declared.weighted.Weighted.{Weighted}
 use Rattle.fusion.specs.Kept.{AreWeighted}
 use Rattle.fusion.proofs.Lists.{one_more}

@@ -1,11 +1,4 @@
-use Rattle.std.proofs.Common.{◌∷◌, [], ap, ◌∙◌, arith}
-use Rattle.std.specs.Prelude.{pos}
-use mir.Syntax.{w128}
-use mir.Val.{to_z, of_z}
-use Rattle.qd_ring.proofs.BufferLaws.{read_128}
-use Rattle.cyclotomic.specs.Cyclotomic.{cyclotomic}
-use Rattle.cyclotomic.specs.Ring.{value_product}
-use Rattle.cyclotomic.specs.CyclotomicRing.{cyclotomic_value, conjugate}
+use Rattle.fusion.proofs.Names.{◌∷◌, [], ap, ◌∙◌, arith, pos, w128, to_z, of_z, read_128, cyclotomic, value_product, cyclotomic_value, conjugate}
 use Rattle.fusion.proofs.OrbitSums.{weighted_is}
 use Rattle.fusion.proofs.conjugates.weighted_conjugate.Goals as goal
 

@@ -1,6 +1,4 @@
-use Rattle.std.proofs.Common.{◌≡◌, ◌+◌, ◌*◌, ℕ, List, Option, arith, subst, get_or}
-use Rattle.std.specs.Global.{Box}
-use Rattle.qd_ring.specs.declared.monomial.Monomial.{Monomial}
+use Rattle.fusion.proofs.Names.{◌≡◌, ◌+◌, ◌*◌, ℕ, List, Option, arith, subst, get_or, Box, Monomial}
 use Rattle.fusion.specs.Kept.{IsFullRow, value_or_nought, full_term}
 use Rattle.fusion.proofs.Lists.{item_read}
 use Rattle.fusion.proofs.Places.{row_read}

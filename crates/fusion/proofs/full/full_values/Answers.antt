@@ -1,6 +1,4 @@
-use Rattle.std.proofs.Common.{◌/◌, ◌%◌, ℕ, List, Option, subst}
-use Rattle.std.specs.Global.{Vec, Box}
-use Rattle.qd_ring.specs.declared.monomial.Monomial.{Monomial}
+use Rattle.fusion.proofs.Names.{◌/◌, ◌%◌, ℕ, List, Option, subst, Vec, Box, Monomial}
 use Rattle.fusion.specs.Kept.{IsClassRow}
 use Rattle.fusion.proofs.Lists.{one_more}
 use Rattle.fusion.proofs.full.full_values.Goals as goal

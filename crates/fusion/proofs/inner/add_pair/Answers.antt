@@ -1,12 +1,6 @@
-use Rattle.std.proofs.Common.{◌≡◌, List, Option, sym, ap, ap₂, ◌∙◌, subst}
-use Rattle.std.specs.Option.{IfSome}
+use Rattle.fusion.proofs.Names.{◌≡◌, List, Option, sym, ap, ap₂, ◌∙◌, subst, IfSome, cyclotomic, value_sum, value_product, Monomial, value_of_terms, folded_value}
 use Rattle.std.proofs.Math.Nat.{mod-eq_of_lt}
-use Rattle.cyclotomic.specs.Cyclotomic.{cyclotomic}
-use Rattle.cyclotomic.specs.Ring.{value_sum, value_product}
 use Rattle.cyclotomic.proofs.Checks.{conductor_positive}
-use Rattle.qd_ring.specs.declared.monomial.Monomial.{Monomial}
-use Rattle.qd_ring.specs.SparseValues.{value_of_terms}
-use Rattle.qd_ring.specs.Folding.{folded_value}
 use Rattle.fusion.specs.Kept.{value_or_nought}
 use Rattle.fusion.proofs.TensorSums.{nought_product, left_out, turned_none}
 use Rattle.fusion.proofs.inner.add_pair.Goals as goal

@@ -1,16 +1,4 @@
-use Rattle.std.proofs.Common.{◌≡◌, ◌<◌, ℕ, List, Option, length, get_or, sym, ap, ◌∙◌, subst, arith}
-use Rattle.std.specs.Global.{Vec, Box}
-use Rattle.algebra.specs.Sums.{sum_below}
-use Rattle.algebra.proofs.SumLaws.{sum_zero}
-use Rattle.cyclotomic.specs.Cyclotomic.{cyclotomic}
-use Rattle.cyclotomic.specs.Ring.{value_product}
-use Rattle.cyclotomic.specs.CyclotomicRing.{CyclotomicValue, cyclotomic_ring}
-use Rattle.pair_orbits.specs.PairOrbits.{listed_pairs}
-use Rattle.qd_ring.specs.declared.monomial.Monomial.{Monomial}
-use Rattle.qd_ring.specs.Folding.{folded_value}
-use Rattle.qd_ring.proofs.ListedSums.{sum_below_more}
-use Rattle.transport.specs.Simples.{count}
-use Rattle.transport.specs.Fusion.{tensor_character}
+use Rattle.fusion.proofs.Names.{◌≡◌, ◌<◌, ℕ, List, Option, length, get_or, sym, ap, ◌∙◌, subst, arith, Vec, Box, sum_below, sum_zero, cyclotomic, value_product, CyclotomicValue, cyclotomic_ring, listed_pairs, Monomial, folded_value, sum_below_more, count, tensor_character}
 use Rattle.fusion.specs.declared.weighted.Weighted.{Weighted}
 use Rattle.fusion.specs.Kept.{value_or_nought, listed_at, places_of, weighted_conjugate, IsWeighted, AreWeighted, orbit_term}
 use Rattle.fusion.proofs.Lists.{item_read}

@@ -1,13 +1,4 @@
-use Rattle.std.proofs.Common.{◌≡◌, ◌%◌, true, sym, ap, ◌∙◌, eqb-true, eq-eqb}
-use Rattle.scan.proofs.Places.{and_true}
-use Rattle.cyclotomic.specs.Ring.{value_sum}
-use Rattle.qd_ring.specs.SparseValues.{value_of_terms}
-use Rattle.qd_ring.specs.Folding.{folded_value}
-use Rattle.slant.specs.Phases.{gamma}
-use Rattle.transport.specs.FullCharacters.{root_exponent, full_character}
-use Rattle.transport.specs.SSums.{commute}
-use Rattle.transport.specs.Fusion.{left_quotient}
-use Rattle.transport.proofs.TensorProducts.{quotient_commutes}
+use Rattle.fusion.proofs.Names.{◌≡◌, ◌%◌, true, sym, ap, ◌∙◌, eqb-true, eq-eqb, and_true, value_sum, value_of_terms, folded_value, gamma, root_exponent, full_character, commute, left_quotient, quotient_commutes}
 use Rattle.fusion.specs.Kept.{value_or_nought, full_term, tensor_part}
 use Rattle.fusion.proofs.TensorSums.{as_value, part_missed, part_first, part_second, part_is, left_out}
 use Rattle.fusion.proofs.making.add_part.Goals as goal

@@ -1,9 +1,4 @@
-use Rattle.std.proofs.Common.{◌≡◌, ℕ, length, get_or, sym, ◌∙◌, ap, arith}
-use Rattle.algebra.specs.Sums.{sum_below}
-use Rattle.algebra.proofs.SumLaws.{sum_zero}
-use Rattle.cyclotomic.specs.CyclotomicRing.{CyclotomicValue, cyclotomic_ring}
-use Rattle.qd_ring.specs.Folding.{folded_value}
-use Rattle.qd_ring.proofs.ListedSums.{sum_below_more}
+use Rattle.fusion.proofs.Names.{◌≡◌, ℕ, length, get_or, sym, ◌∙◌, ap, arith, sum_below, sum_zero, CyclotomicValue, cyclotomic_ring, folded_value, sum_below_more}
 use Rattle.fusion.specs.Kept.{members_at, tensor_part}
 use Rattle.fusion.proofs.TensorSums.{tensor_of_members}
 use Rattle.fusion.proofs.making.folded_tensor.Goals as goal

@@ -1,7 +1,4 @@
-use Rattle.std.proofs.Common.{◌≡◌, get_or}
-use Rattle.algebra.specs.Sums.{sum_below}
-use Rattle.cyclotomic.specs.CyclotomicRing.{cyclotomic_ring}
-use Rattle.qd_ring.specs.Folding.{folded_value}
+use Rattle.fusion.proofs.Names.{◌≡◌, get_or, sum_below, cyclotomic_ring, folded_value}
 use Rattle.fusion.specs.Kept.{members_at, tensor_part}
 use Rattle.fusion.proofs.making.folded_tensor.Given as goal
 

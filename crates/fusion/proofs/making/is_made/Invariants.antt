@@ -1,7 +1,4 @@
-use Rattle.std.proofs.Common.{◌≡◌, get_or}
-use Rattle.algebra.specs.Sums.{sum_below}
-use Rattle.cyclotomic.specs.Ring.{value_nought}
-use Rattle.cyclotomic.specs.CyclotomicRing.{cyclotomic_ring}
+use Rattle.fusion.proofs.Names.{◌≡◌, get_or, sum_below, value_nought, cyclotomic_ring}
 use Rattle.fusion.specs.Kept.{members_at, tensor_part}
 use Rattle.fusion.proofs.making.is_made.Given as goal
 

@@ -1,8 +1,4 @@
-use Rattle.std.proofs.Common.{◌≡◌, ℕ, List, Option, ap, ◌∙◌}
-use Rattle.std.specs.Global.{Box}
-use Rattle.pair_orbits.specs.declared.pair.Pair.{Pair}
-use Rattle.qd_ring.specs.declared.monomial.Monomial.{Monomial}
-use Rattle.transport.specs.Fusion.{tensor_character}
+use Rattle.fusion.proofs.Names.{◌≡◌, ℕ, List, Option, ap, ◌∙◌, Box, Pair, Monomial, tensor_character}
 use Rattle.fusion.specs.Kept.{value_or_nought, listed_at}
 use Rattle.fusion.proofs.Lists.{one_more}
 use Rattle.fusion.proofs.making.tensors.Goals as goal

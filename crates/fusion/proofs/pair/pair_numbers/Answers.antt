@@ -1,5 +1,4 @@
-use Rattle.std.proofs.Common.{◌≡◌, ℕ, Some}
-use Rattle.scan.proofs.Places.{first-zero, first_none-step}
+use Rattle.fusion.proofs.Names.{◌≡◌, ℕ, Some, first-zero, first_none-step}
 use Rattle.fusion.specs.Numbers.{quotient_at, sum_fault}
 use Rattle.fusion.proofs.Lists.{none_at, one_more}
 use Rattle.fusion.proofs.Faults.{no_fault}

@@ -1,5 +1,4 @@
-use Rattle.std.proofs.Common.{◌≡◌, Some, None}
-use Rattle.scan.specs.First.{first}
+use Rattle.fusion.proofs.Names.{◌≡◌, Some, None, first}
 use Rattle.fusion.specs.Numbers.{quotient_at, sum_fault}
 use Rattle.fusion.specs.Kept.{AreAt}
 use Rattle.fusion.proofs.pair.pair_numbers.Given as goal

@@ -1,6 +1,4 @@
-use Rattle.std.proofs.Common.{◌≡◌, ◌<◌, ◌*◌, subst, arith, ap, ◌∙◌}
-use Rattle.cyclotomic.specs.CyclotomicRing.{cyclotomic_value}
-use Rattle.qd_ring.specs.Totals.{IsTotal}
+use Rattle.fusion.proofs.Names.{◌≡◌, ◌<◌, ◌*◌, subst, arith, ap, ◌∙◌, cyclotomic_value, IsTotal}
 use Rattle.fusion.specs.Kept.{inner_part}
 use Rattle.fusion.proofs.plain.fusion_sum.Goals as goal
 

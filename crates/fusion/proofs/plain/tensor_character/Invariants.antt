@@ -1,5 +1,4 @@
-use Rattle.cyclotomic.specs.CyclotomicRing.{cyclotomic_value}
-use Rattle.qd_ring.specs.Totals.{IsTotal}
+use Rattle.fusion.proofs.Names.{cyclotomic_value, IsTotal}
 use Rattle.fusion.specs.Kept.{tensor_part}
 use Rattle.fusion.proofs.plain.tensor_character.Given as goal
 

@@ -1,10 +1,5 @@
-use Rattle.std.proofs.Common.{◌≡◌, ◌%◌, Some, sym, ap, ◌∙◌, subst, arith}
+use Rattle.fusion.proofs.Names.{◌≡◌, ◌%◌, Some, sym, ap, ◌∙◌, subst, arith, gamma, Forms, multiplied, root_exponent, full_character, left_quotient, quotient_commutes}
 use Rattle.group_table.specs.Group.{product}
-use Rattle.slant.specs.Phases.{gamma}
-use Rattle.qd_ring.specs.Formed.{Forms, multiplied}
-use Rattle.transport.specs.FullCharacters.{root_exponent, full_character}
-use Rattle.transport.specs.Fusion.{left_quotient}
-use Rattle.transport.proofs.TensorProducts.{quotient_commutes}
 use Rattle.fusion.proofs.PlainParts.{multiplied_forms, turned_forms}
 use Rattle.fusion.proofs.plain.tensor_term.Goals as goal
 

@@ -1,6 +1,5 @@
-use Rattle.std.proofs.Common.{◌≡◌, ◌/◌, ◌%◌, length, map}
+use Rattle.fusion.proofs.Names.{◌≡◌, ◌/◌, ◌%◌, length, map, count_of}
 use Rattle.std.specs.List.{range_with_len}
-use Rattle.fusion_web.specs.Entries.{count_of}
 use Rattle.fusion.proofs.reads.plane.Given as goal
 
 -- the counts of the pairs before q

@@ -1,6 +1,5 @@
-use Rattle.std.proofs.Common.{ap, sym, ◌∙◌}
+use Rattle.fusion.proofs.Names.{ap, sym, ◌∙◌, cyclotomic_value}
 use Rattle.std.specs.Cmp.Rules.{signed_items}
-use Rattle.cyclotomic.specs.CyclotomicRing.{cyclotomic_value}
 use Rattle.fusion.proofs.sparse.sparse_or_nought.Goals as goal
 
 pub returns-then-eq : goal.returns-then-eq

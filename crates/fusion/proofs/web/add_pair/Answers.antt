@@ -1,5 +1,4 @@
-use Rattle.std.proofs.Common.{◌≡◌, ℕ, ◌+◌, ◌<◌, Some, sym, arith}
-use Rattle.transport.specs.Simples.{count}
+use Rattle.fusion.proofs.Names.{◌≡◌, ℕ, ◌+◌, ◌<◌, Some, sym, arith, count}
 use Rattle.fusion.specs.Numbers.{quotient_at, fusion_number}
 use Rattle.fusion.specs.Fronts.{triple}
 use Rattle.fusion.proofs.Lists.{item_read}

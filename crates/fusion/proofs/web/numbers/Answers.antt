@@ -1,8 +1,4 @@
-use Rattle.std.proofs.Common.{◌≡◌, [], None, ap, ◌∙◌, subst, arith}
-use Rattle.scan.specs.First.{first}
-use Rattle.scan.proofs.Places.{first-zero, first_none-step}
-use Rattle.fusion_web.specs.Entries.{count_of}
-use Rattle.transport.specs.Simples.{count}
+use Rattle.fusion.proofs.Names.{◌≡◌, [], None, ap, ◌∙◌, subst, arith, first, first-zero, first_none-step, count_of, count}
 use Rattle.fusion.specs.Numbers.{simple_fault}
 use Rattle.fusion.proofs.Fronts.{front_none, front_all}
 use Rattle.fusion.proofs.Rules.{are_rule, are_small}

@@ -1,6 +1,4 @@
-use Rattle.std.proofs.Common.{◌≡◌, None}
-use Rattle.scan.specs.First.{first}
-use Rattle.transport.specs.Simples.{count}
+use Rattle.fusion.proofs.Names.{◌≡◌, None, first, count}
 use Rattle.fusion.specs.Numbers.{simple_fault}
 use Rattle.fusion.specs.Fronts.{triple, IsFront}
 use Rattle.fusion.proofs.web.numbers.Given as goal

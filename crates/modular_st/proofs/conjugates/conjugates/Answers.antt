@@ -1,5 +1,4 @@
-use Rattle.std.proofs.Common.{arith, sym, ◌∙◌, subst}
-use Rattle.pair_orbits.specs.Listing.{AreCommuting}
+use Rattle.modular_st.proofs.Names.{arith, sym, ◌∙◌, subst, AreCommuting}
 use Rattle.modular_st.proofs.KeptRows.{exchanged_commute}
 use Rattle.modular_st.proofs.conjugates.conjugates.Goals as goal
 

@@ -1,8 +1,4 @@
-use Rattle.std.proofs.Common.{ℕ, ◌≡◌, ◌+◌, ◌*◌, ◌/◌, ◌%◌, ◌∷◌, [], List, IfSome, arith, ap, sym, ◌∙◌, length, subst, length-append}
-use Rattle.std.specs.Global.{Vec}
-use Rattle.classes.specs.Conjugacy.{representatives}
-use Rattle.qd_ring.specs.declared.monomial.Monomial.{Monomial}
-use Rattle.transport.specs.Simples.{count}
+use Rattle.modular_st.proofs.Names.{ℕ, ◌≡◌, ◌+◌, ◌*◌, ◌/◌, ◌%◌, ◌∷◌, [], List, IfSome, arith, ap, sym, ◌∙◌, length, subst, length-append, Vec, representatives, Monomial, count}
 use Rattle.modular_st.specs.Conjugates.{AllAt, IsKeptRow}
 use Rattle.modular_st.proofs.AllAts.{none_at, one_more_at}
 use Rattle.modular_st.proofs.conjugates.kept_rows.Goals as goal

@@ -1,5 +1,4 @@
-use Rattle.std.proofs.Common.{arith, map, subst}
-use Rattle.pair_orbits.specs.PairOrbits.{listed_pairs}
+use Rattle.modular_st.proofs.Names.{arith, map, subst, listed_pairs}
 use Rattle.modular_st.specs.Conjugates.{exchanged, IsKeptRow}
 use Rattle.modular_st.proofs.KeptSums.{same_width, numerators_are}
 use Rattle.modular_st.proofs.kept_sum.folded_sum.Goals as goal

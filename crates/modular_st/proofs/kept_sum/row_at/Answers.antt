@@ -1,7 +1,4 @@
-use Rattle.std.proofs.Common.{◌≡◌, ◌+◌, ◌*◌, ◌≤◌, length, get_or, arith, ◌∙◌, ap, subst}
-use Rattle.std.proofs.Math.Nat.{mul-le-mul}
-use Rattle.classes.specs.Conjugacy.{representatives}
-use Rattle.transport.specs.Simples.{count}
+use Rattle.modular_st.proofs.Names.{◌≡◌, ◌+◌, ◌*◌, ◌≤◌, length, get_or, arith, ◌∙◌, ap, subst, mul-le-mul, representatives, count}
 use Rattle.modular_st.proofs.Terms.{pair_below}
 use Rattle.modular_st.proofs.KeptSums.{row_at_place}
 use Rattle.modular_st.proofs.kept_sum.row_at.Goals as goal

@@ -1,6 +1,4 @@
-use Rattle.std.proofs.Common.{◌≡◌, map}
-use Rattle.std.specs.List.{range_with_len}
-use Rattle.transport.specs.Simples.{count}
+use Rattle.modular_st.proofs.Names.{◌≡◌, map, range_with_len, count}
 use Rattle.modular_st.specs.SMatrices.{values_of_rows, s_front}
 use Rattle.modular_st.proofs.matrix.numerator_rows.Given as goal
 

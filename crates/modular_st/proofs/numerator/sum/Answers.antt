@@ -1,6 +1,4 @@
-use Rattle.std.proofs.Common.{◌≡◌, ◌<◌, ◌*◌, subst, arith, ap, ◌∙◌}
-use Rattle.cyclotomic.specs.CyclotomicRing.{cyclotomic_value}
-use Rattle.qd_ring.specs.Totals.{IsTotal}
+use Rattle.modular_st.proofs.Names.{◌≡◌, ◌<◌, ◌*◌, subst, arith, ap, ◌∙◌, cyclotomic_value, IsTotal}
 use Rattle.modular_st.specs.Numerators.{s_term}
 use Rattle.modular_st.proofs.numerator.sum.Goals as goal
 

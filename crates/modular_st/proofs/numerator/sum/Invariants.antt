@@ -1,5 +1,4 @@
-use Rattle.cyclotomic.specs.CyclotomicRing.{cyclotomic_value}
-use Rattle.qd_ring.specs.Totals.{IsTotal}
+use Rattle.modular_st.proofs.Names.{cyclotomic_value, IsTotal}
 use Rattle.modular_st.specs.Numerators.{s_term}
 use Rattle.modular_st.proofs.numerator.sum.Given as goal
 

@@ -1,9 +1,4 @@
-use Rattle.std.proofs.Common.{◌≡◌, ◌∷◌, [], ◌++◌, All, length, ap, sym, le_antisymm, ◌∙◌, arith}
-use Rattle.std.proofs.lemmas.List.FromFn.{length-map-range_with_len, map-range_with_len_more}
-use Rattle.group_table.specs.Group.{Table}
-use Rattle.classes.specs.Conjugacy.{representatives}
-use Rattle.qd_doc.specs.Blocks.{Block}
-use Rattle.qd_doc.specs.Contents.{IsValueOf}
+use Rattle.qd_engine.proofs.Names.{◌≡◌, ◌∷◌, [], ◌++◌, All, length, ap, sym, le_antisymm, ◌∙◌, arith, length-map-range_with_len, map-range_with_len_more, Table, representatives, Block, IsValueOf}
 use Rattle.qd_engine.specs.Certificate.{certified_block}
 use Rattle.qd_engine.proofs.Certificates.{all_more, all_classes}
 use Rattle.qd_engine.proofs.certificate.blocks_of.Goals as goal

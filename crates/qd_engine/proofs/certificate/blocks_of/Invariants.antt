@@ -1,7 +1,4 @@
-use Rattle.std.proofs.Common.{◌≡◌, All, map}
-use Rattle.std.specs.List.{range_with_len}
-use Rattle.qd_doc.specs.Blocks.{Block}
-use Rattle.qd_doc.specs.Contents.{IsValueOf}
+use Rattle.qd_engine.proofs.Names.{◌≡◌, All, map, range_with_len, Block, IsValueOf}
 use Rattle.qd_engine.specs.Certificate.{certified_block}
 use Rattle.qd_engine.proofs.certificate.blocks_of.Given as goal
 

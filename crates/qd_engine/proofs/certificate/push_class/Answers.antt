@@ -1,10 +1,4 @@
-use Rattle.std.proofs.Common.{◌≡◌, ◌<◌, [], ◌∷◌, ◌++◌, length, map, All, length-append, ap, sym, subst, ◌∙◌, arith}
-use Rattle.group_table.specs.Group.{Table}
-use Rattle.classes.specs.Conjugacy.{representative_at}
-use Rattle.transport.specs.Simples.{count}
-use Rattle.qd_doc.specs.Blocks.{block, last_rows, with_last_rows}
-use Rattle.qd_doc.specs.Contents.{IsValueOf}
-use Rattle.row_order.specs.SimpleRows.{row_of}
+use Rattle.qd_engine.proofs.Names.{◌≡◌, ◌<◌, [], ◌∷◌, ◌++◌, length, map, All, length-append, ap, sym, subst, ◌∙◌, arith, Table, representative_at, count, block, last_rows, with_last_rows, IsValueOf, row_of}
 use Rattle.qd_engine.specs.Certificate.{certified_block}
 use Rattle.qd_engine.proofs.Certificates.{last_of_front, with_last_front, members_below, on_ok}
 use Rattle.qd_engine.proofs.certificate.push_class.Goals as goal

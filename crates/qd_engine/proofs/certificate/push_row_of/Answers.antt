@@ -1,9 +1,5 @@
-use Rattle.std.proofs.Common.{◌≡◌, ◌∷◌, [], ◌++◌, ap, sym, subst, ◌∙◌}
-use Rattle.qd_ring.specs.CycArrays.{array_of}
+use Rattle.qd_engine.proofs.Names.{◌≡◌, ◌∷◌, [], ◌++◌, ap, sym, subst, ◌∙◌, array_of, value_at, last_rows, with_last_rows, with_value, IsValueOf}
 use Rattle.qd_ring.proofs.CycSums.{array-of_value}
-use Rattle.transport.specs.Simples.{value_at}
-use Rattle.qd_doc.specs.Blocks.{last_rows, with_last_rows, with_value}
-use Rattle.qd_doc.specs.Contents.{IsValueOf}
 use Rattle.qd_engine.proofs.Certificates.{front_of_row, front_more, all_more, last_of_with, value_put}
 use Rattle.qd_engine.proofs.certificate.push_row_of.Goals as goal
 

@@ -1,6 +1,4 @@
-use Rattle.std.proofs.Common.{◌≡◌, [], ◌∷◌, ◌++◌, All}
-use Rattle.qd_doc.specs.Blocks.{last_rows, with_last_rows}
-use Rattle.qd_doc.specs.Contents.{IsValueOf}
+use Rattle.qd_engine.proofs.Names.{◌≡◌, [], ◌∷◌, ◌++◌, All, last_rows, with_last_rows, IsValueOf}
 use Rattle.qd_engine.proofs.Certificates.{front_of_row}
 use Rattle.qd_engine.proofs.certificate.push_row_of.Given as goal
 

@@ -1,9 +1,5 @@
-use Rattle.std.proofs.Common.{◌≡◌, ◌+◌, ◌<◌, ◌∷◌, [], ◌++◌, length, map, take, All, ap, sym, subst, ◌∙◌, arith}
-use Rattle.std.proofs.lemmas.List.{length-map, length-take-le}
-use Rattle.transport.specs.Simples.{count}
-use Rattle.qd_doc.specs.Blocks.{last_rows, with_last_rows}
-use Rattle.qd_doc.specs.Contents.{IsValueOf}
-use Rattle.row_order.specs.SimpleRows.{row_of}
+use Rattle.qd_engine.proofs.Names.{◌≡◌, ◌+◌, ◌<◌, ◌∷◌, [], ◌++◌, length, map, take, All, ap, sym, subst, ◌∙◌, arith, length-map, count, last_rows, with_last_rows, IsValueOf, row_of}
+use Rattle.std.proofs.lemmas.List.{length-take-le}
 use Rattle.qd_engine.proofs.Certificates.{last_of_with, with_last_again, with_last_same, rows_kept, member_more, all_more}
 use Rattle.qd_engine.proofs.certificate.push_rows_of.Goals as goal
 

@@ -1,7 +1,4 @@
-use Rattle.std.proofs.Common.{◌≡◌, All, map, take}
-use Rattle.qd_doc.specs.Blocks.{with_last_rows}
-use Rattle.qd_doc.specs.Contents.{IsValueOf}
-use Rattle.row_order.specs.SimpleRows.{row_of}
+use Rattle.qd_engine.proofs.Names.{◌≡◌, All, map, take, with_last_rows, IsValueOf, row_of}
 use Rattle.qd_engine.proofs.certificate.push_rows_of.Given as goal
 
 -- the rows of the simples before this place are added

@@ -1,5 +1,4 @@
-use Rattle.std.proofs.Common.{map, ap, ◌∙◌}
-use Rattle.twisted.specs.Regular.{rank}
+use Rattle.qd_engine.proofs.Names.{map, ap, ◌∙◌, rank}
 use Rattle.qd_engine.specs.Report.{class_ranks}
 use Rattle.qd_engine.proofs.class_list.list_of.Goals as goal
 

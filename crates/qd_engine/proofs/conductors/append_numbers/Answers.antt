@@ -1,6 +1,4 @@
-use Rattle.std.proofs.Common.{◌≡◌, ◌++◌, ◌≤◌, None, sym, ap, refl, subst, arith}
-use Rattle.std.specs.Prelude.{OnOk, IfErr}
-use Rattle.transport.specs.Simples.{SimplesOver}
+use Rattle.qd_engine.proofs.Names.{◌≡◌, ◌++◌, ◌≤◌, None, sym, ap, refl, subst, arith, OnOk, IfErr, SimplesOver}
 use Rattle.qd_engine.specs.Rows.{source_of, numbers_cause}
 use Rattle.qd_engine.specs.Report.{row_part_text, parts_text}
 use Rattle.qd_engine.specs.Tests.{LateReport}

@@ -1,8 +1,4 @@
-use Rattle.std.proofs.Common.{◌++◌, le_antisymm, refl, sym, ap, ◌∙◌}
-use Rattle.std.proofs.lemmas.List.{append-nil}
-use Rattle.data_print.specs.Text.{first_lines}
-use Rattle.data_print.specs.IndicatorLines.{indicator_line}
-use Rattle.data_print.proofs.Fronts.{first_lines-more}
+use Rattle.qd_engine.proofs.Names.{◌++◌, le_antisymm, refl, sym, ap, ◌∙◌, append-nil, first_lines, indicator_line, first_lines-more}
 use Rattle.qd_engine.specs.Report.{indicator_of}
 use Rattle.qd_engine.proofs.indicator_lines.append_all.Goals as goal
 

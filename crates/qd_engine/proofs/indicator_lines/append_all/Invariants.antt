@@ -1,6 +1,4 @@
-use Rattle.std.proofs.Common.{◌≡◌, ◌++◌}
-use Rattle.data_print.specs.Text.{first_lines}
-use Rattle.data_print.specs.IndicatorLines.{indicator_line}
+use Rattle.qd_engine.proofs.Names.{◌≡◌, ◌++◌, first_lines, indicator_line}
 use Rattle.qd_engine.specs.Report.{indicator_of}
 use Rattle.qd_engine.proofs.indicator_lines.append_all.Given as goal
 

@@ -1,7 +1,4 @@
-use Rattle.std.proofs.Common.{◌≡◌, ◌*◌, ◌++◌, sym, ap, ap₂, subst, ◌∙◌, arith}
-use Rattle.std.specs.Prelude.{OnOk, is_ok}
-use Rattle.cyclotomic.specs.CyclotomicRing.{CyclotomicValue}
-use Rattle.data_print.specs.IndicatorLines.{indicator_line}
+use Rattle.qd_engine.proofs.Names.{◌≡◌, ◌*◌, ◌++◌, sym, ap, ap₂, subst, ◌∙◌, arith, OnOk, is_ok, CyclotomicValue, indicator_line}
 use Rattle.qd_engine.proofs.NumberLines.{dimensions_number, twists_number, indicator_fits, indicator_is}
 use Rattle.qd_engine.proofs.indicator_lines.append_simple.Goals as goal
 

@@ -1,6 +1,4 @@
-use Rattle.std.proofs.Common.{◌∙◌, map, ap, le_antisymm}
-use Rattle.std.specs.List.{range_with_len}
-use Rattle.transport.specs.Simples.{dimension_at}
+use Rattle.qd_engine.proofs.Names.{◌∙◌, map, ap, le_antisymm, range_with_len, dimension_at}
 use Rattle.qd_engine.proofs.NumberLines.{one_longer, one_more}
 use Rattle.qd_engine.proofs.indicator_lines.dimensions.Goals as goal
 

@@ -1,6 +1,4 @@
-use Rattle.std.proofs.Common.{◌≡◌, length, map}
-use Rattle.std.specs.List.{range_with_len}
-use Rattle.transport.specs.Simples.{dimension_at}
+use Rattle.qd_engine.proofs.Names.{◌≡◌, length, map, range_with_len, dimension_at}
 use Rattle.qd_engine.proofs.indicator_lines.dimensions.Given as goal
 
 -- the dimensions of the simples before i

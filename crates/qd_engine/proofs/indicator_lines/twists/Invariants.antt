@@ -1,6 +1,4 @@
-use Rattle.std.proofs.Common.{◌≡◌, ◌<◌, All, length, map}
-use Rattle.std.specs.List.{range_with_len}
-use Rattle.transport.specs.Simples.{twist_at}
+use Rattle.qd_engine.proofs.Names.{◌≡◌, ◌<◌, All, length, map, range_with_len, twist_at}
 use Rattle.qd_engine.proofs.indicator_lines.twists.Given as goal
 
 -- the exponents of the twists of the simples before i

@@ -1,5 +1,4 @@
-use Rattle.named_cocycles.proofs.Named.{made_is_cocycle}
-use Rattle.named_cocycles.proofs.Gauges.{sample_is_cocycle}
+use Rattle.qd_engine.proofs.Names.{made_is_cocycle, sample_is_cocycle}
 use Rattle.qd_engine.proofs.Subjects.{bare_exponents}
 use Rattle.qd_engine.proofs.laws.named_laws.Goals as goal
 

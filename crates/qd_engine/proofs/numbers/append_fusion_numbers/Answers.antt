@@ -1,6 +1,5 @@
-use Rattle.std.proofs.Common.{◌≡◌, ◌++◌, sym, subst, ◌∙◌}
-use Rattle.std.specs.Prelude.{Option, OnOk}
-use Rattle.fusion_web.specs.Entries.{WebEntries}
+use Rattle.qd_engine.proofs.Names.{◌≡◌, ◌++◌, sym, subst, ◌∙◌, OnOk, WebEntries}
+use Rattle.std.specs.Prelude.{Option}
 use Rattle.qd_engine.specs.Report.{numbers_text}
 use Rattle.qd_engine.specs.Rows.{HasWeb}
 use Rattle.qd_engine.proofs.NumberLines.{web_text, web_is}

@@ -1,9 +1,4 @@
-use Rattle.std.proofs.Common.{◌≡◌, ◌++◌, ◌<◌, le_antisymm, refl, sym, ap, subst, ◌∙◌, arith}
-use Rattle.std.proofs.lemmas.List.{append-nil}
-use Rattle.data_print.specs.Text.{first_lines}
-use Rattle.data_print.proofs.Fronts.{first_lines-more}
-use Rattle.cochain.specs.Cochain.{Cochain}
-use Rattle.modular_st.specs.SMatrices.{values_of_rows, s_rows}
+use Rattle.qd_engine.proofs.Names.{◌≡◌, ◌++◌, ◌<◌, le_antisymm, refl, sym, ap, subst, ◌∙◌, arith, append-nil, first_lines, first_lines-more, Cochain, values_of_rows, s_rows}
 use Rattle.qd_engine.proofs.MatrixLines.{line_of_row, all_lines, rows_count, line_is}
 use Rattle.qd_engine.proofs.row_parts.append_rows_of_s.Goals as goal
 

@@ -1,5 +1,4 @@
-use Rattle.std.proofs.Common.{◌≡◌, ◌++◌}
-use Rattle.data_print.specs.Text.{first_lines}
+use Rattle.qd_engine.proofs.Names.{◌≡◌, ◌++◌, first_lines}
 use Rattle.qd_engine.proofs.MatrixLines.{line_of_row}
 use Rattle.qd_engine.proofs.row_parts.append_rows_of_s.Given as goal
 

@@ -1,5 +1,4 @@
-use Rattle.std.proofs.Common.{sym, ap, subst}
-use Rattle.qd_doc.specs.declared.document.Given.{Given}
+use Rattle.qd_engine.proofs.Names.{sym, ap, subst, Given}
 use Rattle.qd_engine.specs.Documents.{given_or_none}
 use Rattle.qd_engine.specs.Rows.{AddsRows}
 use Rattle.qd_engine.specs.declared.command.RowSource.{RowSource}

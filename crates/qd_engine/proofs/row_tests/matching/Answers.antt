@@ -1,5 +1,4 @@
-use Rattle.std.proofs.Common.{sym, ap, ◌∙◌}
-use Rattle.std.specs.Option.{option_map}
+use Rattle.qd_engine.proofs.Names.{sym, ap, ◌∙◌, option_map}
 use Rattle.data_print.specs.declared.cause.Cause.TheVariants.{Shape}
 use Rattle.qd_engine.proofs.Shapes.{shape_matches}
 use Rattle.qd_engine.proofs.row_tests.matching.Goals as goal

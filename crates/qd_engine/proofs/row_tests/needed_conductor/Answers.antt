@@ -1,9 +1,6 @@
-use Rattle.std.proofs.Common.{◌≡◌, ◌*◌, Some, sym, ap, ap₂, subst, ◌∙◌}
-use Rattle.std.specs.Prelude.{unwrap_or}
+use Rattle.qd_engine.proofs.Names.{◌≡◌, ◌*◌, Some, sym, ap, ap₂, subst, ◌∙◌, unwrap_or, Table, least_conductor, root_order}
 use Rattle.orders.specs.Order.{exponent_of}
-use Rattle.group_table.specs.Group.{Table, product, identity_of}
-use Rattle.cyclotomic.specs.Conductors.{least_conductor}
-use Rattle.twist_lift.specs.Laws.{root_order}
+use Rattle.group_table.specs.Group.{product, identity_of}
 use Rattle.qd_engine.specs.Documents.{conductor_of}
 use Rattle.qd_engine.proofs.ConductorLaws.{least_is_conductor}
 use Rattle.qd_engine.proofs.row_tests.needed_conductor.Goals as goal

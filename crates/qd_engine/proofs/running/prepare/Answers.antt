@@ -1,8 +1,6 @@
-use Rattle.std.proofs.Common.{◌≡◌, ◌≤◌, Some, sym, subst, ◌∙◌}
-use Rattle.std.proofs.lemmas.Result.{err_from_is_err_and}
+use Rattle.qd_engine.proofs.Names.{◌≡◌, ◌≤◌, Some, sym, subst, ◌∙◌, err_from_is_err_and, INPUT_LIMIT}
 use Rattle.qd_engine.specs.Words.{texts, command_of}
 use Rattle.qd_engine.proofs.Taken.{reads_input, read_prepares, answer_prepares, answer_takes}
-use Rattle.qd_io.specs.declared.reading.TheConstants.{INPUT_LIMIT}
 use Rattle.qd_engine.proofs.running.prepare.Goals as goal
 
 pub returns-in_default-clause-prepares : goal.returns-in_default-clause-prepares

@@ -1,8 +1,4 @@
-use Rattle.std.proofs.Common.{◌≡◌, ℕ}
-use Rattle.std.specs.Global.{Vec}
-use Rattle.std.proofs.lemmas.Result.{err_from_is_err_and}
-use Rattle.cochain.specs.Cochain.{Cochain}
-use Rattle.named_cocycles.specs.Makers.{made_cocycle, maker_fault}
+use Rattle.qd_engine.proofs.Names.{◌≡◌, ℕ, Vec, err_from_is_err_and, Cochain, made_cocycle, maker_fault}
 use Rattle.qd_engine.specs.Documents.{document_in}
 use Rattle.qd_engine.specs.Tests.{maker_test, Late}
 use Rattle.qd_engine.specs.Endings.{Reports}

@@ -1,11 +1,4 @@
-use Rattle.std.proofs.Common.{◌≡◌, ℕ, None, sym, ap, subst, ◌∙◌}
-use Rattle.std.specs.Global.{Vec}
-use Rattle.std.proofs.lemmas.Result.{err_from_is_err_and}
-use Rattle.qd_doc.specs.Grammar.{stop_of}
-use Rattle.qd_text.specs.Tokens.{tokens}
-use Rattle.qd_doc.specs.Contents.{document_of}
-use Rattle.qd_doc.specs.declared.document.Document.{Document}
-use Rattle.qd_doc.specs.declared.document.Form.{Form}
+use Rattle.qd_engine.proofs.Names.{◌≡◌, ℕ, None, sym, ap, subst, ◌∙◌, Vec, err_from_is_err_and, stop_of, tokens, document_of, Document, Form}
 use Rattle.qd_engine.specs.Documents.{document_in}
 use Rattle.qd_engine.specs.Tests.{scan_test, Late}
 use Rattle.qd_engine.specs.Endings.{Reports}

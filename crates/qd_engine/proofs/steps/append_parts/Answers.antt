@@ -1,5 +1,4 @@
-use Rattle.std.proofs.Common.{◌++◌, sym, ap, ◌∙◌}
-use Rattle.std.proofs.lemmas.List.{append-nil}
+use Rattle.qd_engine.proofs.Names.{◌++◌, sym, ap, ◌∙◌, append-nil}
 use Rattle.qd_engine.specs.Report.{part_text}
 use Rattle.qd_engine.specs.declared.command.Part.TheVariants.{Blank}
 use Rattle.qd_engine.proofs.Parts.{no_parts, parts_more}

@@ -1,7 +1,4 @@
-use Rattle.std.proofs.Common.{◌≡◌, ◌+◌, ◌*◌, ◌/◌, ◌%◌, map, sym, ap, ap₂, ◌∙◌, arith}
-use Rattle.std.specs.Prelude.{sum}
-use Rattle.std.specs.List.{range_with_len}
-use Rattle.cochain.proofs.Formula.{edge_below, row_below, column_below}
+use Rattle.qd_engine.proofs.Names.{◌≡◌, ◌+◌, ◌*◌, ◌/◌, ◌%◌, map, sym, ap, ap₂, ◌∙◌, arith, sum, range_with_len, edge_below, row_below, column_below}
 use Rattle.qd_engine.proofs.Summaries.{of_place, sum_more}
 use Rattle.qd_engine.proofs.summary.sum_of_three.Goals as goal
 

@@ -1,6 +1,4 @@
-use Rattle.std.proofs.Common.{◌≡◌, ℕ, ◌*◌, ◌<◌, ◌≤◌, map}
-use Rattle.std.specs.Prelude.{sum}
-use Rattle.std.specs.List.{range_with_len}
+use Rattle.qd_engine.proofs.Names.{◌≡◌, ℕ, ◌*◌, ◌<◌, ◌≤◌, map, sum, range_with_len}
 use Rattle.qd_engine.proofs.Summaries.{of_place}
 use Rattle.qd_engine.proofs.summary.sum_of_three.Given as goal
 

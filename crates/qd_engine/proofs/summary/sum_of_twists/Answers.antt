@@ -1,7 +1,4 @@
-use Rattle.std.proofs.Common.{◌+◌, map, sym, ap, ap₂, ◌∙◌, le_antisymm, arith}
-use Rattle.std.specs.Prelude.{sum}
-use Rattle.std.specs.List.{range_with_len}
-use Rattle.transport.specs.Simples.{twist_at}
+use Rattle.qd_engine.proofs.Names.{◌+◌, map, sym, ap, ap₂, ◌∙◌, le_antisymm, arith, sum, range_with_len, twist_at}
 use Rattle.qd_engine.proofs.Summaries.{sum_more}
 use Rattle.qd_engine.proofs.summary.sum_of_twists.Goals as goal
 

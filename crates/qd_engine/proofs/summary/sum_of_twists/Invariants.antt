@@ -1,7 +1,4 @@
-use Rattle.std.proofs.Common.{◌≡◌, ◌*◌, ◌≤◌, map}
-use Rattle.std.specs.Prelude.{sum}
-use Rattle.std.specs.List.{range_with_len}
-use Rattle.transport.specs.Simples.{twist_at}
+use Rattle.qd_engine.proofs.Names.{◌≡◌, ◌*◌, ◌≤◌, map, sum, range_with_len, twist_at}
 use Rattle.qd_engine.proofs.summary.sum_of_twists.Given as goal
 
 -- the exponents of the simples before i

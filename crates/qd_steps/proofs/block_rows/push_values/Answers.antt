@@ -1,6 +1,4 @@
-use Rattle.std.proofs.Common.{[], take, ap, ◌∙◌, arith}
-use Rattle.qd_ring.specs.RowLists.{row_at, with_value}
-use Rattle.qd_doc.specs.Blocks.{block_at}
+use Rattle.qd_steps.proofs.Names.{[], take, ap, ◌∙◌, arith, row_at, with_value, block_at}
 use Rattle.qd_steps.proofs.TableRows.{value_more}
 use Rattle.qd_steps.proofs.block_rows.push_values.Goals as goal
 

@@ -1,6 +1,4 @@
-use Rattle.std.proofs.Common.{◌≡◌, [], ◌∷◌, ◌++◌, take}
-use Rattle.qd_ring.specs.RowLists.{row_at}
-use Rattle.qd_doc.specs.Blocks.{block_at}
+use Rattle.qd_steps.proofs.Names.{◌≡◌, [], ◌∷◌, ◌++◌, take, row_at, block_at}
 use Rattle.qd_steps.proofs.block_rows.push_values.Given as goal
 
 -- the values before place p are added

@@ -1,5 +1,4 @@
-use Rattle.std.proofs.Common.{◌≡◌, take}
-use Rattle.qd_doc.specs.Blocks.{block_at}
+use Rattle.qd_steps.proofs.Names.{◌≡◌, take, block_at}
 use Rattle.qd_steps.proofs.block_rows.rows_of.Given as goal
 
 -- the rows before row r

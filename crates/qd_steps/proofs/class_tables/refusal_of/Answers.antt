@@ -1,5 +1,4 @@
-use Rattle.std.proofs.Common.{ap, subst}
-use Rattle.table_check.specs.Answers.{Refuses}
+use Rattle.qd_steps.proofs.Names.{ap, subst, Refuses}
 use Rattle.qd_steps.specs.declared.refusal.StepRefusal.TheVariants as steps
 use Rattle.qd_steps.proofs.TableCauses.{plain_same, identity_missed, twist_missed}
 use Rattle.qd_steps.proofs.class_tables.refusal_of.Goals as goal

@@ -1,5 +1,4 @@
-use Rattle.std.proofs.Common.{subst, ◌∙◌}
-use Rattle.table_check.specs.Characters.{RowsOver}
+use Rattle.qd_steps.proofs.Names.{subst, ◌∙◌, RowsOver}
 use Rattle.qd_steps.specs.Tables.{cause_over}
 use Rattle.qd_steps.specs.Refused.{IsRefusalFor}
 use Rattle.qd_steps.proofs.TableCauses.{check_refused}

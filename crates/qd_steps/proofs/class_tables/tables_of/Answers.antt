@@ -1,7 +1,5 @@
-use Rattle.std.proofs.Common.{◌≡◌, List, [], ◌∷◌, ◌++◌, sym, ap, ◌∙◌, append_assoc}
-use Rattle.std.specs.Vec.Iter.{into_iter_items}
-use Rattle.std.proofs.lemmas.Result.{err_from_is_err_and}
-use Rattle.table_check.specs.Characters.{RowsOver}
+use Rattle.qd_steps.proofs.Names.{◌≡◌, List, [], ◌∷◌, ◌++◌, sym, ap, ◌∙◌, into_iter_items, err_from_is_err_and, RowsOver}
+use Rattle.std.proofs.Common.{append_assoc}
 use Rattle.qd_steps.proofs.TableSteps.{none_yet, next_passes, next_refused}
 use Rattle.qd_steps.proofs.class_tables.tables_of.Goals as goal
 

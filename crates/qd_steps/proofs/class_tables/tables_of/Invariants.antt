@@ -1,7 +1,4 @@
-use Rattle.std.proofs.Common.{◌≡◌, ◌++◌, None, length}
-use Rattle.std.specs.Vec.Iter.{into_iter_items}
-use Rattle.scan.specs.First.{first}
-use Rattle.transport.specs.Simples.{table_at}
+use Rattle.qd_steps.proofs.Names.{◌≡◌, ◌++◌, None, length, into_iter_items, first, table_at}
 use Rattle.qd_steps.specs.Tables.{cause_over}
 use Rattle.qd_steps.proofs.class_tables.tables_of.Given as goal
 

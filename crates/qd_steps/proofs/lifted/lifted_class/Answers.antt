@@ -1,5 +1,4 @@
-use Rattle.std.proofs.Common.{sym, subst, ◌∙◌, arith}
-use Rattle.twist_lift.specs.Laws.{Serves}
+use Rattle.qd_steps.proofs.Names.{sym, subst, ◌∙◌, arith, Serves}
 use Rattle.qd_steps.proofs.LiftedRows.{lifted_shaped}
 use Rattle.qd_steps.proofs.lifted.lifted_class.Goals as goal
 

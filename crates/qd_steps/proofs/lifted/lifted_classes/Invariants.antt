@@ -1,6 +1,4 @@
-use Rattle.std.proofs.Common.{◌≡◌, None, map}
-use Rattle.std.specs.List.{range_with_len}
-use Rattle.scan.specs.First.{first}
+use Rattle.qd_steps.proofs.Names.{◌≡◌, None, map, range_with_len, first}
 use Rattle.qd_steps.specs.ClassTwists.{lifted_over, lift_cause_over}
 use Rattle.qd_steps.proofs.lifted.lifted_classes.Given as goal
 

@@ -1,10 +1,6 @@
-use Rattle.std.proofs.Common.{◌≡◌, ◌%◌, None, true, List, OnOk, IfOk, IfErr, sym, subst, ◌∙◌, arith}
-use Rattle.std.proofs.lemmas.Result.{err_from_is_err_and}
-use Rattle.cyclotomic.specs.Conductors.{is_conductor}
-use Rattle.cochain.specs.Cochain.{IsCocycle}
+use Rattle.qd_steps.proofs.Names.{◌≡◌, ◌%◌, None, true, List, OnOk, IfOk, IfErr, sym, subst, ◌∙◌, arith, err_from_is_err_and, is_conductor, IsCocycle, RowsOver}
 use Rattle.twist_lift.specs.Laws.{root_order}
 use Rattle.qd_steps.specs.ByModulus.{lifted_blocks}
-use Rattle.table_check.specs.Characters.{RowsOver}
 use Rattle.qd_steps.specs.Refused.{IsRefusalFor}
 use Rattle.qd_steps.proofs.TableSteps.{one_table_each, tables_few}
 use Rattle.qd_steps.proofs.LiftSteps.{lift_goes_first, tables_decide}

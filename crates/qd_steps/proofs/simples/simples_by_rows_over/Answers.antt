@@ -1,7 +1,5 @@
-use Rattle.std.proofs.Common.{◌≡◌, None, List, OnOk, IfOk, IfErr, sym, ap, subst, ◌∙◌, arith}
-use Rattle.cochain.specs.Cochain.{IsCocycle}
+use Rattle.qd_steps.proofs.Names.{◌≡◌, None, List, OnOk, IfOk, IfErr, sym, ap, subst, ◌∙◌, arith, IsCocycle, RowsOver}
 use Rattle.qd_steps.specs.Tables.{first_cause}
-use Rattle.table_check.specs.Characters.{RowsOver}
 use Rattle.qd_steps.specs.Refused.{IsRefusalFor}
 use Rattle.qd_steps.proofs.TableSteps.{one_table_each, tables_few, same_causes}
 use Rattle.qd_steps.proofs.TwistLists.{twists_number, stated_shaped, stated_tables}

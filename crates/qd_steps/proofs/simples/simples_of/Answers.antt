@@ -1,5 +1,4 @@
-use Rattle.std.proofs.Common.{sym, subst, arith}
-use Rattle.transport.specs.Simples.{HasTables}
+use Rattle.qd_steps.proofs.Names.{sym, subst, arith, HasTables}
 use Rattle.qd_steps.proofs.simples.simples_of.Goals as goal
 
 pub of-requires : goal.of-requires

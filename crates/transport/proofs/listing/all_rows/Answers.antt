@@ -1,6 +1,5 @@
-use Rattle.std.proofs.Common.{◌≡◌, ◌++◌, map, ap, sym, ◌∙◌, arith, subst, rules}
-use Rattle.table_check.specs.Characters.{RowsOver, IsShaped, characters_of}
-use Rattle.table_check.specs.Good.{IsGood}
+use Rattle.transport.proofs.Names.{◌≡◌, ◌++◌, map, ap, sym, ◌∙◌, arith, subst, RowsOver, IsShaped, characters_of, IsGood}
+use Rattle.std.proofs.Common.{rules}
 use Rattle.transport.specs.Simples.{rows_of}
 use Rattle.transport.specs.Kept.{simple_in}
 use Rattle.transport.proofs.Rows.{rows_below-zero}

@@ -1,5 +1,4 @@
-use Rattle.std.proofs.Common.{◌≡◌, ◌++◌, map}
-use Rattle.std.specs.List.{range_with_len}
+use Rattle.transport.proofs.Names.{◌≡◌, ◌++◌, map, range_with_len}
 use Rattle.transport.specs.Simples.{simple_of}
 use Rattle.transport.specs.Kept.{simple_in}
 use Rattle.transport.proofs.listing.append_rows.Given as goal

@@ -1,13 +1,8 @@
 -- An array that stands for 1 is that of 1.
-use Rattle.std.proofs.Common.{ap, sym, ◌∙◌}
+use Rattle.transport.proofs.Names.{ap, sym, ◌∙◌, cyclotomic, value_one, cyclotomic_value, is_same, is_same-Decides}
 use Rattle.std.specs.Bool.{one_answer}
 use Rattle.std.specs.Cmp.Rules.{signed_items}
-use Rattle.cyclotomic.specs.Cyclotomic.{cyclotomic}
-use Rattle.cyclotomic.specs.Ring.{value_one}
-use Rattle.cyclotomic.specs.CyclotomicRing.{cyclotomic_value}
 use Rattle.qd_ring.proofs.CycSums.{arrays_same}
-use Rattle.table_check.specs.Check.{is_same}
-use Rattle.table_check.proofs.Same.{is_same-Decides}
 use Rattle.transport.proofs.listing.is_one.Goals as goal
 
 pub returns : goal.returns

@@ -1,5 +1,4 @@
-use Rattle.std.proofs.Common.{◌≤◌, sym, subst}
-use Rattle.twisted.specs.Twist.{IsTwist}
+use Rattle.transport.proofs.Names.{◌≤◌, sym, subst, IsTwist}
 use Rattle.transport.proofs.Entries.{few_rows}
 use Rattle.transport.proofs.listing.rows.Goals as goal
 

@@ -1,7 +1,4 @@
-use Rattle.std.proofs.Common.{ap, ◌∙◌}
-use Rattle.cyclotomic.specs.CyclotomicRing.{cyclotomic_value}
-use Rattle.qd_ring.specs.declared.cyc.Cyc.{Cyc}
-use Rattle.table_check.specs.Characters.{characters_of}
+use Rattle.transport.proofs.Names.{ap, ◌∙◌, cyclotomic_value, Cyc, characters_of}
 use Rattle.transport.specs.Kept.{coefficients_of}
 use Rattle.transport.proofs.Entries.{one_more}
 use Rattle.transport.proofs.listing.values_of.Goals as goal

@@ -1,6 +1,4 @@
-use Rattle.std.proofs.Common.{◌≡◌, map}
-use Rattle.std.specs.List.{range_with_len}
-use Rattle.table_check.specs.Characters.{characters_of}
+use Rattle.transport.proofs.Names.{◌≡◌, map, range_with_len, characters_of}
 use Rattle.transport.specs.Kept.{coefficients_of}
 use Rattle.transport.proofs.listing.values_of.Given as goal
 

@@ -1,6 +1,4 @@
-use Rattle.std.proofs.Common.{◌≡◌, ap, arith}
-use Rattle.prime_field.specs.declared.mod_ring.ModRing.{ModRing}
-use Rattle.prime_field.specs.Laws.Moduli.{modulus_positive}
+use Rattle.char_lift.proofs.Names.{◌≡◌, ap, arith, ModRing, modulus_positive}
 use Rattle.char_lift.proofs.Residues.{inverse_or_zero}
 use Rattle.char_lift.proofs.root_powers.RootPowers.inverse.Goals as goal
 

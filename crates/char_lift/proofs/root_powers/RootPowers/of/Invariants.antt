@@ -1,5 +1,4 @@
-use Rattle.std.proofs.Common.{◌≡◌, ◌<◌}
-use Rattle.prime_field.specs.Laws.Moduli.{power_modulo}
+use Rattle.char_lift.proofs.Names.{◌≡◌, ◌<◌, power_modulo}
 use Rattle.char_lift.specs.Tables.{ListsPowers}
 use Rattle.char_lift.proofs.root_powers.RootPowers.of.Given as goal
 

@@ -1,6 +1,4 @@
-use Rattle.std.proofs.Common.{◌≡◌, ◌<◌, suc, ap, ◌∙◌, arith}
-use Rattle.prime_field.specs.declared.mod_ring.ModRing.{ModRing}
-use Rattle.prime_field.specs.Laws.Moduli.{power_modulo, modulus_positive}
+use Rattle.char_lift.proofs.Names.{◌≡◌, ◌<◌, suc, ap, ◌∙◌, arith, ModRing, power_modulo, modulus_positive}
 use Rattle.char_lift.specs.Tables.{ListsPowers}
 use Rattle.char_lift.proofs.Residues.{power_below}
 use Rattle.char_lift.proofs.root_powers.RootPowers.power.Goals as goal

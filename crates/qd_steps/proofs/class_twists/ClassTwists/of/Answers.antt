@@ -1,8 +1,5 @@
-use Rattle.std.proofs.Common.{length, le_antisymm, ap, ◌∙◌, arith}
-use Rattle.std.proofs.lemmas.List.FromFn.{length-map-range_with_len}
+use Rattle.qd_steps.proofs.Names.{length, le_antisymm, ap, ◌∙◌, arith, length-map-range_with_len, representatives, representative_at, twist_of}
 use Rattle.group_table.specs.Group.{Table}
-use Rattle.classes.specs.Conjugacy.{representatives, representative_at}
-use Rattle.slant.specs.Twists.{twist_of}
 use Rattle.qd_steps.specs.Tables.{class_twist}
 use Rattle.qd_steps.proofs.TableSteps.{one_more}
 use Rattle.qd_steps.proofs.TwistLists.{all_twists}

@@ -1,5 +1,4 @@
-use Rattle.std.proofs.Common.{◌≡◌, map}
-use Rattle.std.specs.List.{range_with_len}
+use Rattle.qd_steps.proofs.Names.{◌≡◌, map, range_with_len}
 use Rattle.qd_steps.specs.Tables.{class_twist}
 use Rattle.qd_steps.proofs.class_twists.ClassTwists.of.Given as goal
 

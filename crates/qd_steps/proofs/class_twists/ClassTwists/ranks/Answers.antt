@@ -1,8 +1,7 @@
-use Rattle.std.proofs.Common.{◌<◌, ◌∷◌, [], ◌++◌, length, map, take, le_antisymm, sym, ap, ap₂, subst, ◌∙◌, arith, length-append}
+use Rattle.qd_steps.proofs.Names.{◌<◌, ◌∷◌, [], ◌++◌, length, map, take, le_antisymm, sym, ap, subst, ◌∙◌, arith, length-append, rank, no_table}
+use Rattle.std.proofs.Common.{ap₂}
 use Rattle.std.proofs.Math.Seq.{take-length}
 use Rattle.std.proofs.lemmas.List.{map_more}
-use Rattle.twisted.specs.Regular.{rank}
-use Rattle.transport.specs.Simples.{no_table}
 use Rattle.qd_steps.proofs.class_twists.ClassTwists.ranks.Goals as goal
 
 pub loop-c-preserved : goal.loop-c-preserved

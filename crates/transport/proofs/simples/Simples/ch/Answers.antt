@@ -1,9 +1,4 @@
-use Rattle.std.proofs.Common.{◌≡◌, ◌*◌, ◌/◌, ◌%◌, ◌==◌, true, Some, None, sym, ap, ap₂, ◌∙◌, subst, eq-eqb}
-use Rattle.group_table.specs.Group.{Table}
-use Rattle.cochain.specs.Cochain.{Cochain}
-use Rattle.classes.specs.Conjugacy.{class_of, transporter_of}
-use Rattle.cyclotomic.specs.CyclotomicRing.{cyclotomic_value}
-use Rattle.slant.specs.Phases.{carried, transport_phase}
+use Rattle.transport.proofs.Names.{◌≡◌, ◌*◌, ◌/◌, ◌%◌, ◌==◌, true, Some, None, sym, ap, ap₂, ◌∙◌, subst, eq-eqb, Table, Cochain, class_of, transporter_of, cyclotomic_value, carried, transport_phase}
 use Rattle.transport.specs.Simples.{SimplesOver, class_at, AreSimples}
 use Rattle.transport.specs.FullCharacters.{root_exponent, element_value}
 use Rattle.transport.specs.Headline.{CharactersOrthogonal}

@@ -1,6 +1,4 @@
-use Rattle.std.proofs.Common.{◌≡◌, ◌<◌, length, subst, sym, ap, ◌∙◌}
-use Rattle.classes.specs.Conjugacy.{representatives, representative_at, centraliser_of}
-use Rattle.twisted.specs.Twist.{size}
+use Rattle.transport.proofs.Names.{◌≡◌, ◌<◌, length, subst, sym, ap, ◌∙◌, representatives, representative_at, centraliser_of, size}
 use Rattle.transport.specs.Simples.{SimplesOver, Simple, count, over_at, table_at}
 use Rattle.transport.proofs.Listed.{entry_is_row, entry_kept, places_of}
 use Rattle.transport.proofs.simples.Simples.class.Goals as goal

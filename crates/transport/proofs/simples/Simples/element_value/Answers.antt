@@ -1,6 +1,4 @@
-use Rattle.std.proofs.Common.{◌<◌, length, subst, sym, ap, arith, ◌∙◌, ◌≡◌}
-use Rattle.twisted.specs.Twist.{IsTwist, element, size}
-use Rattle.table_check.specs.Characters.{RowsOver}
+use Rattle.transport.proofs.Names.{◌<◌, length, subst, sym, ap, arith, ◌∙◌, ◌≡◌, IsTwist, element, size, RowsOver}
 use Rattle.transport.specs.Simples.{SimplesOver, count}
 use Rattle.transport.specs.Kept.{simple_in}
 use Rattle.transport.proofs.Listed.{IsRow, entry_is_row, over_is_twist, place_small}

@@ -1,6 +1,4 @@
-use Rattle.std.proofs.Common.{subst, arith}
-use Rattle.cochain.specs.Cochain.{IsCocycle}
-use Rattle.classes.proofs.Counting.{classes_at_most}
+use Rattle.transport.proofs.Names.{subst, arith, IsCocycle, classes_at_most}
 use Rattle.transport.proofs.simples.Simples.of.Goals as goal
 
 pub invariant_of-result : goal.invariant_of-result

@@ -1,5 +1,4 @@
-use Rattle.std.proofs.Common.{◌<◌, length, subst, sym, arith}
-use Rattle.table_check.specs.Characters.{RowsOver, characters_of}
+use Rattle.transport.proofs.Names.{◌<◌, length, subst, sym, arith, RowsOver, characters_of}
 use Rattle.transport.specs.Simples.{SimplesOver, count}
 use Rattle.transport.specs.Kept.{simple_in}
 use Rattle.transport.proofs.Listed.{IsRow, entry_is_row, twist_small}
