@@ -1,6 +1,6 @@
 //! The certificate of simples: a document with the rows that they are.
 
-ghost use Rattle.std.specs.Prelude.{◌≡◌, ◌==◌, ◌+◌, ◌^◌, ◌<◌, All, [], ◌∷◌, ◌++◌, length, map, OnOk, IfOk};
+ghost use Rattle.std.specs.Prelude.{◌≡◌, ◌==◌, ◌<◌, All, [], ◌∷◌, ◌++◌, length, map, OnOk, IfOk};
 ghost use Rattle.classes.specs.Conjugacy.{representatives};
 ghost use Rattle.transport.specs.Simples.{count, class_at};
 ghost use Rattle.row_order.specs.SimpleRows.{simples_in, row_of};
@@ -60,7 +60,6 @@ fn push_row_of<const K: u32>(
 ) -> Result<(), Memory>
     requires i_below { i < count K simples.now }
     requires begun { 0 < length blocks.old }
-    requires room { length (last_rows blocks.old) + 1 < 2 ^ 32 }
     ensures added { OnOk result (blocks.new
         ≡ with_last_rows blocks.old (last_rows blocks.old ++ row_of K simples.now i ∷ [])) }
     ensures values { OnOk result (All (IsValueOf K) (row_of K simples.now i)) }
@@ -101,7 +100,6 @@ fn push_class<const K: u32>(
     c: u32,
 ) -> Result<(), Memory>
     requires c_below { c < length (representatives simples.now.cocycle.group) }
-    requires few { length blocks.old < 60 }
     ensures added { OnOk result (blocks.new ≡ blocks.old ++ certified_block K simples.now c ∷ []) }
     ensures values { OnOk result (All (λ row. All (IsValueOf K) row)
         (certified_block K simples.now c).rows) }

@@ -1,4 +1,4 @@
-use Rattle.qd_engine.proofs.Names.{◌≡◌, ◌∷◌, [], ◌++◌, All, length, ap, sym, le_antisymm, ◌∙◌, arith, length-map-range_with_len, map-range_with_len_more, Table, representatives, Block, IsValueOf}
+use Rattle.qd_engine.proofs.Names.{◌≡◌, ◌∷◌, [], ◌++◌, All, length, ap, sym, le_antisymm, ◌∙◌, arith, map-range_with_len_more, Table, representatives, Block, IsValueOf}
 use Rattle.qd_engine.specs.Certificate.{certified_block}
 use Rattle.qd_engine.proofs.Certificates.{all_more, all_classes}
 use Rattle.qd_engine.proofs.certificate.blocks_of.Goals as goal
@@ -10,8 +10,7 @@ push_class-requires g c =
     let below = c.loop-c-test.true in
     let most = c.count-c-end.ensures.at_most_order in
     let small = c.count-c-end.ensures.small in
-    let few : length c.loop-c.blocks ≡ c.loop-c.c = ap length c.loop-c.invariant.added ∙ length-map-range_with_len _ 0 c.loop-c.c in
-    (omega arith, (omega arith, omega arith))
+    (omega arith, omega arith)
 
 pub loop-c-preserved : goal.loop-c-preserved
 loop-c-preserved g c =

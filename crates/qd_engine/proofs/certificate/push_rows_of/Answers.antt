@@ -1,5 +1,4 @@
-use Rattle.qd_engine.proofs.Names.{◌≡◌, ◌+◌, ◌<◌, ◌∷◌, [], ◌++◌, length, map, take, All, ap, sym, subst, ◌∙◌, arith, length-map, count, last_rows, with_last_rows, IsValueOf, row_of}
-use Rattle.std.proofs.lemmas.List.{length-take-le}
+use Rattle.qd_engine.proofs.Names.{◌≡◌, ◌+◌, ◌<◌, ◌∷◌, [], ◌++◌, length, map, take, All, ap, sym, subst, ◌∙◌, arith, count, last_rows, with_last_rows, IsValueOf, row_of}
 use Rattle.qd_engine.proofs.Certificates.{last_of_with, with_last_again, with_last_same, rows_kept, member_more, all_more}
 use Rattle.qd_engine.proofs.certificate.push_rows_of.Goals as goal
 
@@ -15,11 +14,8 @@ push_row_of-requires g c =
     let below : place < length members = subst (λ n. place < n) c.len-place-end.ensures.count c.loop-place-test.true in
     let rows = map f (take place members) in
     let same : length c.loop-place.blocks ≡ length old = ap length c.loop-place.invariant.added ∙ with_last_same old rows in
-    let last : last_rows c.loop-place.blocks ≡ rows = ap last_rows c.loop-place.invariant.added ∙ last_of_with old c.requires.begun rows in
-    let few : length rows ≡ place = length-map (take place members) f ∙ length-take-le place members (omega arith) in
     let begun = c.requires.begun in
-    let small = c.len-place-end.ensures.small in
-    (omega arith, (subst (λ i. i < count g.row.K c.args.simples.now) (sym c.at.ensures.number) (c.requires.members place 0 below), (omega arith, rw last (rw few (omega arith)))))
+    (omega arith, (subst (λ i. i < count g.row.K c.args.simples.now) (sym c.at.ensures.number) (c.requires.members place 0 below), omega arith))
 
 pub loop-place-preserved : goal.loop-place-preserved
 loop-place-preserved g c =
