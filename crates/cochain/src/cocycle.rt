@@ -9,7 +9,7 @@ use crate::coboundary::{gauge_fault, gauged};
 use crate::fault::{CocycleRefusal, GaugeRefusal};
 use crate::laws::cocycle_fault;
 use crate::three_cochain::ThreeCochain;
-use group_table::{Group, Nats};
+use group_table::{Group, Memory, Nats};
 use std::alloc::Global;
 use std::marker::Model;
 
@@ -49,6 +49,23 @@ impl Cocycle {
             Some(fault) => Err(CocycleRefusal::Fault(fault)),
             None => Ok(Cocycle { cochain }),
         }
+    }
+
+    /// The cocycle of `group` with these exponents, taken modulo `roots`, which are known to break no law: nothing is tested again.
+    pub fn from_lawful(
+        alloc: Global,
+        group: Group,
+        roots: u32,
+        exponents: &Nats,
+    ) -> Result<Cocycle, Memory>
+        requires roots { IsRoots roots }
+        requires cube { length exponents.now ≡ group.order * group.order * group.order }
+        requires lawful { cocycle_fault (cochain_of group roots exponents.now) ≡ None }
+        ensures made { IfOk result (λ w. w ≡ cochain_of group roots exponents.now) }
+    {
+        let _order = group.order();
+        let cochain = ThreeCochain::new(alloc, group, roots, exponents)?;
+        Ok(Cocycle { cochain })
     }
 
     /// This cocycle times the coboundary of the 2-cochain `b`, whose number of the pair `(g, h)` stands at place

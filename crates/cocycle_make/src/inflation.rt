@@ -6,7 +6,6 @@ ghost use Rattle.cochain.specs.Cochain.{value};
 ghost use Rattle.cocycle_make.specs.Cocycles.{inflated};
 ghost use Rattle.cocycle_make.specs.Refusal.{is_multiplicative, map_fault_in, map_fault, RefusesMap};
 
-use crate::makers::cocycle_of;
 use crate::refusal::InflateRefusal;
 use cochain::{Cocycle, exponents_by};
 use group_table::{Group, Nats};
@@ -83,7 +82,7 @@ pub fn inflate(
             let exponents = exponents_by(alloc, group.order(), |x, y, z| {
                 image_value(&group, map, from, x, y, z)
             })?;
-            Ok(cocycle_of(alloc, group, from.roots(), &exponents)?)
+            Ok(Cocycle::from_lawful(alloc, group, from.roots(), &exponents)?)
         }
     }
 }

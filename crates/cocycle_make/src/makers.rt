@@ -1,35 +1,16 @@
 //! The cocycles that formulas give.
 
-ghost use Rattle.std.specs.Prelude.{◌≡◌, ℕ, ◌*◌, length, None, IfOk, IfErr};
+ghost use Rattle.std.specs.Prelude.{◌≡◌, ℕ, ◌*◌, None, IfOk, IfErr};
 ghost use Rattle.group_make.specs.Refusal.{size_fault, Refuses};
-ghost use Rattle.cochain.specs.Cochain.{cochain_of, cocycle_fault, IsRoots};
+ghost use Rattle.cochain.specs.Cochain.{IsRoots};
 ghost use Rattle.cocycle_make.specs.Cocycles.{trivial_cocycle, type_one_cocycle, type_two_cocycle, type_three_cocycle};
 
 use crate::lowest::{common_divisor, roots_of, step_of};
 use crate::values::{type_one_value, type_three_value, type_two_value};
-use cochain::{Cocycle, CocycleRefusal, exponents_by};
+use cochain::{Cocycle, exponents_by};
 use group_make::{MakeRefusal, cyclic, product};
-use group_table::{Group, Memory, Nats};
+use group_table::{Group, Memory};
 use std::alloc::Global;
-
-/// The cocycle of exponents that break no law.
-pub(crate) fn cocycle_of(
-    alloc: Global,
-    group: Group,
-    roots: u32,
-    exponents: &Nats,
-) -> Result<Cocycle, Memory>
-    requires roots { IsRoots roots }
-    requires cube { length exponents.now ≡ group.order * group.order * group.order }
-    requires lawful { cocycle_fault (cochain_of group roots exponents.now) ≡ None }
-    ensures made { IfOk result (λ w. w ≡ cochain_of group roots exponents.now) }
-{
-    match Cocycle::from_exponents(alloc, group, roots, exponents) {
-        Ok(w) => Ok(w),
-        Err(CocycleRefusal::Memory) => Err(Memory),
-        Err(CocycleRefusal::Fault(_)) => unreachable!(),
-    }
-}
 
 /// The cocycle that is 1 everywhere, with values in so many roots of unity.
 pub fn trivial(alloc: Global, group: Group, roots: u32) -> Result<Cocycle, Memory>
@@ -37,7 +18,7 @@ pub fn trivial(alloc: Global, group: Group, roots: u32) -> Result<Cocycle, Memor
     ensures made { IfOk result (λ w. w ≡ trivial_cocycle group roots) }
 {
     let exponents = exponents_by(alloc, group.order(), |_x, _y, _z| 0)?;
-    cocycle_of(alloc, group, roots, &exponents)
+    Cocycle::from_lawful(alloc, group, roots, &exponents)
 }
 
 /// Type I on the cyclic group of order `n`: with `p` reduced modulo `n` and `g` the greatest common divisor of
@@ -51,7 +32,7 @@ pub fn type_one(alloc: Global, n: u32, p: u32) -> Result<Cocycle, MakeRefusal>
     let order = group.order();
     let step = step_of(n, p);
     let exponents = exponents_by(alloc, order, |x, y, z| type_one_value(n, step, x, y, z))?;
-    Ok(cocycle_of(alloc, group, roots_of(n, p), &exponents)?)
+    Ok(Cocycle::from_lawful(alloc, group, roots_of(n, p), &exponents)?)
 }
 
 /// Type II on the product of the cyclic groups of orders `a` and `b`, whose pair `(x, y)` has the number
@@ -66,7 +47,7 @@ pub fn type_two(alloc: Global, a: u32, b: u32, p: u32) -> Result<Cocycle, MakeRe
     let order = group.order();
     let step = step_of(a, p);
     let exponents = exponents_by(alloc, order, |x, y, z| type_two_value(b, step, x, y, z))?;
-    Ok(cocycle_of(alloc, group, roots_of(a, p), &exponents)?)
+    Ok(Cocycle::from_lawful(alloc, group, roots_of(a, p), &exponents)?)
 }
 
 /// Type III on the product of the cyclic groups of orders `a`, `b` and `c`, whose triple `(x, y, z)` has the
@@ -87,5 +68,5 @@ pub fn type_three(alloc: Global, a: u32, b: u32, c: u32, p: u32) -> Result<Cocyc
         order,
         |x, y, z| type_three_value(b, c, step, x, y, z),
     )?;
-    Ok(cocycle_of(alloc, group, roots_of(t, p), &exponents)?)
+    Ok(Cocycle::from_lawful(alloc, group, roots_of(t, p), &exponents)?)
 }

@@ -4,7 +4,7 @@ ghost use Rattle.std.specs.Prelude.{◌≡◌, ◌*◌, ◌<◌, ◌≤◌, None
 ghost use Rattle.group_make.specs.Refusal.{size_fault, Refuses};
 ghost use Rattle.named_cocycles.specs.Makers.{reflections_value, reflections_cocycle};
 
-use cochain::{Cocycle, CocycleRefusal, exponents_by};
+use cochain::{Cocycle, exponents_by};
 use group_make::{MakeRefusal, dihedral};
 use std::alloc::Global;
 
@@ -28,9 +28,5 @@ pub fn reflections(alloc: Global, n: u32) -> Result<Cocycle, MakeRefusal>
     let group = dihedral(alloc, n)?;
     let order = group.order();
     let exponents = exponents_by(alloc, order, |x, y, z| reflections_value(n, x, y, z))?;
-    match Cocycle::from_exponents(alloc, group, 2, &exponents) {
-        Ok(w) => Ok(w),
-        Err(CocycleRefusal::Memory) => Err(MakeRefusal::Memory),
-        Err(CocycleRefusal::Fault(_)) => unreachable!(),
-    }
+    Ok(Cocycle::from_lawful(alloc, group, 2, &exponents)?)
 }

@@ -6,8 +6,8 @@ use Rattle.cocycle_make.proofs.Inflated.{inflated_lawful}
 use Rattle.cocycle_make.proofs.Made.{made}
 use Rattle.cocycle_make.proofs.inflation.inflate.Goals as goal
 
-pub cocycle_of-requires-clause-lawful : goal.cocycle_of-requires-clause-lawful
-cocycle_of-requires-clause-lawful c =
+pub from_lawful-requires-clause-lawful : goal.from_lawful-requires-clause-lawful
+from_lawful-requires-clause-lawful c =
     let t = c.args.group in
     let w = c.args.from.now in
     let map = c.args.map.now in

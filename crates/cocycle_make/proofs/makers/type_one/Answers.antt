@@ -4,8 +4,8 @@ use Rattle.cocycle_make.proofs.Lawful.{type_one_lawful}
 use Rattle.cocycle_make.proofs.Made.{made, made_order}
 use Rattle.cocycle_make.proofs.makers.type_one.Goals as goal
 
-pub cocycle_of-requires-clause-lawful : goal.cocycle_of-requires-clause-lawful
-cocycle_of-requires-clause-lawful c =
+pub from_lawful-requires-clause-lawful : goal.from_lawful-requires-clause-lawful
+from_lawful-requires-clause-lawful c =
     let n = c.args.n in
     let step = c.step_of-step.result in
     let (accepted, built) = c.in_ok-group.ensures.made in

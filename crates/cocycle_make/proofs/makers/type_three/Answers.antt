@@ -5,8 +5,8 @@ use Rattle.cocycle_make.proofs.Lawful.{type_three_lawful}
 use Rattle.cocycle_make.proofs.Made.{made, made_factors}
 use Rattle.cocycle_make.proofs.makers.type_three.Goals as goal
 
-pub cocycle_of-requires-clause-lawful : goal.cocycle_of-requires-clause-lawful
-cocycle_of-requires-clause-lawful c =
+pub from_lawful-requires-clause-lawful : goal.from_lawful-requires-clause-lawful
+from_lawful-requires-clause-lawful c =
     let a = c.args.a in
     let b = c.args.b in
     let d = c.args.c in
