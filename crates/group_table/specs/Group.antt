@@ -9,6 +9,10 @@ pub record Table : Type 0 where
   pub order : ℕ
   pub entries : List ℕ
 
+-- the table of an order with these entries
+abbrev pub table_with : ℕ → List ℕ → Table
+table_with n entries = record { order = n; entries = entries }
+
 -- the product of g and h is what stands in row g at place h
 abbrev pub product : Table → ℕ → ℕ → ℕ
 product t g h = slice_index t.entries (g * t.order + h)

@@ -3,7 +3,7 @@
 ghost use Rattle.std.specs.Prelude.{◌≡◌, ◌*◌, ◌<◌, ◌≤◌, length, Some, None, IfOk, IfErr};
 ghost use Rattle.orders.specs.Group.{power};
 ghost use Rattle.orders.specs.Order.{order_of, exponent_of, IsOrder, IsExponent};
-ghost use Rattle.group_table.specs.Group.{product, identity_of, inverse, inverse_of, group_fault, IsGroup, IsSmall};
+ghost use Rattle.group_table.specs.Group.{table_with, product, identity_of, inverse, inverse_of, group_fault, IsGroup, IsSmall};
 ghost use Rattle.group_table.specs.Refusal.{Refuses};
 
 use crate::Memory;
@@ -24,13 +24,13 @@ pub struct Group {
 }
 
 impl Model for Group {
-    ghost use Rattle.group_table.specs.Group.{Table, IsKept};
+    ghost use Rattle.group_table.specs.Group.{Table, table_with, IsKept};
 
     ghost Value = { Table };
 
-    ghost view = { λ group. record { order = group.order; entries = group.table } };
+    ghost view = { λ group. table_with group.order group.table };
 
-    ghost invariant = { λ group. IsKept (record { order = group.order; entries = group.table }) group.identity group.inverses };
+    ghost invariant = { λ group. IsKept (table_with group.order group.table) group.identity group.inverses };
 }
 
 impl Group {
@@ -39,8 +39,9 @@ impl Group {
     pub fn from_table(alloc: Global, order: u32, table: &Nats) -> Result<Group, GroupRefusal>
         requires small { IsSmall order }
         requires square { length table.now ≡ order * order }
-        ensures made { IfOk result (λ group. (group_fault (record { order = order; entries = table.now }) ≡ None) × (group ≡ record { order = order; entries = table.now })) }
-        ensures refused { IfErr result (λ refusal. Refuses refusal (group_fault (record { order = order; entries = table.now }))) }
+        ensures made { IfOk result (λ group.
+            (group_fault (table_with order table.now) ≡ None) × (group ≡ table_with order table.now)) }
+        ensures refused { IfErr result (λ refusal. Refuses refusal (group_fault (table_with order table.now))) }
     {
         let identity = checked_identity(order, table.as_slice()).map_err(GroupRefusal::Fault)?;
         let table = table.copy(alloc)?;
@@ -56,8 +57,8 @@ impl Group {
     /// The group of a table that is known to break no law: nothing is tested again.
     pub fn from_lawful(alloc: Global, order: u32, table: Nats) -> Result<Group, Memory>
         requires small { IsSmall order }
-        requires group { IsGroup (record { order = order; entries = table }) }
-        ensures made { IfOk result (λ group. group ≡ record { order = order; entries = table }) }
+        requires group { IsGroup (table_with order table) }
+        ensures made { IfOk result (λ group. group ≡ table_with order table) }
     {
         let identity = two_sided_identity(order, table.as_slice()).unwrap_or(0);
         let inverses = inverses(alloc, order, table.as_slice(), identity)?;

@@ -1,7 +1,7 @@
 //! The four laws of a group over all places of a table, each with the least place at which it fails.
 
 ghost use Rattle.std.specs.Prelude.{◌≡◌, ℕ, ◌*◌, ◌<◌, ◌≤◌, length, Some, None, IfOk, IfErr};
-ghost use Rattle.group_table.specs.Group.{product, entry_fault, identity_of, is_identity, two_sided_identity, inverse_of, inverse_fault, associates, associativity_fault, associativity_fault_in, group_fault, IsGroup, ListsInverses};
+ghost use Rattle.group_table.specs.Group.{table_with, product, entry_fault, identity_of, is_identity, two_sided_identity, inverse_of, inverse_fault, associates, associativity_fault, associativity_fault_in, group_fault, IsGroup, ListsInverses};
 
 use crate::Memory;
 use crate::fault::GroupFault;
@@ -16,7 +16,7 @@ pub fn product(n: u32, table: &[u32], g: u32, h: u32) -> u32
     requires small { n ≤ 60 }
     requires g_below { g < n }
     requires h_below { h < n }
-    ensures product { result ≡ product (record { order = n; entries = table.now }) g h }
+    ensures product { result ≡ product (table_with n table.now) g h }
 {
     table[(g * n + h) as usize]
 }
@@ -25,7 +25,7 @@ pub fn product(n: u32, table: &[u32], g: u32, h: u32) -> u32
 pub fn entry_fault(n: u32, table: &[u32]) -> Option<GroupFault>
     requires square { length table.now ≡ n * n }
     requires small { n ≤ 60 }
-    ensures first { result ≡ entry_fault (record { order = n; entries = table.now }) }
+    ensures first { result ≡ entry_fault (table_with n table.now) }
 {
     first_below(n, |g| {
         first_below(n, |h| {
@@ -43,7 +43,7 @@ fn is_identity(n: u32, table: &[u32], e: u32) -> bool
     requires square { length table.now ≡ n * n }
     requires small { n ≤ 60 }
     requires e_below { e < n }
-    ensures all { result ≡ is_identity (record { order = n; entries = table.now }) e }
+    ensures all { result ≡ is_identity (table_with n table.now) e }
 {
     holds_below(
         n,
@@ -55,7 +55,7 @@ fn is_identity(n: u32, table: &[u32], e: u32) -> bool
 pub fn two_sided_identity(n: u32, table: &[u32]) -> Option<u32>
     requires square { length table.now ≡ n * n }
     requires small { n ≤ 60 }
-    ensures least { result ≡ two_sided_identity (record { order = n; entries = table.now }) }
+    ensures least { result ≡ two_sided_identity (table_with n table.now) }
 {
     first_below(
         n,
@@ -71,9 +71,9 @@ pub fn two_sided_identity(n: u32, table: &[u32]) -> Option<u32>
 pub fn inverse_of(n: u32, table: &[u32], e: u32, g: u32) -> Option<u32>
     requires square { length table.now ≡ n * n }
     requires small { n ≤ 60 }
-    requires identity { e ≡ identity_of (record { order = n; entries = table.now }) }
+    requires identity { e ≡ identity_of (table_with n table.now) }
     requires g_below { g < n }
-    ensures least { result ≡ inverse_of (record { order = n; entries = table.now }) g }
+    ensures least { result ≡ inverse_of (table_with n table.now) g }
 {
     first_below(
         n,
@@ -89,8 +89,8 @@ pub fn inverse_of(n: u32, table: &[u32], e: u32, g: u32) -> Option<u32>
 pub fn inverse_fault(n: u32, table: &[u32], e: u32) -> Option<GroupFault>
     requires square { length table.now ≡ n * n }
     requires small { n ≤ 60 }
-    requires identity { e ≡ identity_of (record { order = n; entries = table.now }) }
-    ensures first { result ≡ inverse_fault (record { order = n; entries = table.now }) }
+    requires identity { e ≡ identity_of (table_with n table.now) }
+    ensures first { result ≡ inverse_fault (table_with n table.now) }
 {
     first_below(n, |g| {
         if inverse_of(n, table, e, g).is_some() {
@@ -105,11 +105,11 @@ pub fn inverse_fault(n: u32, table: &[u32], e: u32) -> Option<GroupFault>
 fn associates(n: u32, table: &[u32], g: u32, h: u32, k: u32) -> bool
     requires square { length table.now ≡ n * n }
     requires small { n ≤ 60 }
-    requires entries { entry_fault (record { order = n; entries = table.now }) ≡ None }
+    requires entries { entry_fault (table_with n table.now) ≡ None }
     requires g_below { g < n }
     requires h_below { h < n }
     requires k_below { k < n }
-    ensures both { result ≡ associates (record { order = n; entries = table.now }) g h k }
+    ensures both { result ≡ associates (table_with n table.now) g h k }
 {
     product(n, table, product(n, table, g, h), k) == product(n, table, g, product(n, table, h, k))
 }
@@ -118,10 +118,10 @@ fn associates(n: u32, table: &[u32], g: u32, h: u32, k: u32) -> bool
 fn row_fault(n: u32, table: &[u32], g: u32, h: u32) -> Option<GroupFault>
     requires square { length table.now ≡ n * n }
     requires small { n ≤ 60 }
-    requires entries { entry_fault (record { order = n; entries = table.now }) ≡ None }
+    requires entries { entry_fault (table_with n table.now) ≡ None }
     requires g_below { g < n }
     requires h_below { h < n }
-    ensures first { result ≡ associativity_fault_in (record { order = n; entries = table.now }) g h }
+    ensures first { result ≡ associativity_fault_in (table_with n table.now) g h }
 {
     first_below(n, |k| {
         if associates(n, table, g, h, k) {
@@ -136,8 +136,8 @@ fn row_fault(n: u32, table: &[u32], g: u32, h: u32) -> Option<GroupFault>
 pub fn associativity_fault(n: u32, table: &[u32]) -> Option<GroupFault>
     requires square { length table.now ≡ n * n }
     requires small { n ≤ 60 }
-    requires entries { entry_fault (record { order = n; entries = table.now }) ≡ None }
-    ensures first { result ≡ associativity_fault (record { order = n; entries = table.now }) }
+    requires entries { entry_fault (table_with n table.now) ≡ None }
+    ensures first { result ≡ associativity_fault (table_with n table.now) }
 {
     first_below(n, |g| first_below(n, |h| row_fault(n, table, g, h)))
 }
@@ -147,8 +147,9 @@ pub fn associativity_fault(n: u32, table: &[u32]) -> Option<GroupFault>
 pub fn checked_identity(n: u32, table: &[u32]) -> Result<u32, GroupFault>
     requires square { length table.now ≡ n * n }
     requires small { n ≤ 60 }
-    ensures lawful { IfOk result (λ e. (group_fault (record { order = n; entries = table.now }) ≡ None) × (e ≡ identity_of (record { order = n; entries = table.now }))) }
-    ensures fault { IfErr result (λ fault. group_fault (record { order = n; entries = table.now }) ≡ Some fault) }
+    ensures lawful { IfOk result (λ e.
+        (group_fault (table_with n table.now) ≡ None) × (e ≡ identity_of (table_with n table.now))) }
+    ensures fault { IfErr result (λ fault. group_fault (table_with n table.now) ≡ Some fault) }
 {
     if let Some(fault) = entry_fault(n, table) {
         return Err(fault);
@@ -167,10 +168,10 @@ pub fn checked_identity(n: u32, table: &[u32]) -> Result<u32, GroupFault>
 
 /// The inverse of each element, in order.
 pub fn inverses(alloc: Global, n: u32, table: &[u32], e: u32) -> Result<Nats, Memory>
-    requires group { IsGroup (record { order = n; entries = table.now }) }
+    requires group { IsGroup (table_with n table.now) }
     requires small { n ≤ 60 }
-    requires identity { e ≡ identity_of (record { order = n; entries = table.now }) }
-    ensures each { IfOk result (ListsInverses (record { order = n; entries = table.now })) }
+    requires identity { e ≡ identity_of (table_with n table.now) }
+    ensures each { IfOk result (ListsInverses (table_with n table.now)) }
 {
     let mut inverses = Nats::empty(alloc);
     for g in 0..n {
