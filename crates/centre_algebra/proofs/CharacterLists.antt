@@ -19,7 +19,8 @@ use Rattle.prime_field.specs.Field.{field, field_residue}
 use Rattle.prime_field.specs.ResidueLists.{AreBelow}
 use Rattle.prime_field.specs.Laws.Moduli.{modulus_positive, modulus_over_one}
 use Rattle.prime_field.specs.Laws.Residues.{multiple_value}
-use Rattle.prime_field.specs.Laws.Field.{value_nought, nought_value, multiple_cancels, residue_inverse, field_unit}
+use Rattle.prime_field.specs.Laws.Field.{value_nought, nought_value, multiple_cancels, field_unit}
+use Rattle.prime_field.proofs.PolynomialValues.{residue_field}
 use Rattle.twisted.specs.Twist.{TwistedSubgroup, size, IsTwist}
 use Rattle.twisted.specs.Regular.{rank, regular_representatives}
 use Rattle.twisted.specs.Algebra.{twisted_product}
@@ -28,7 +29,7 @@ use Rattle.centre_powers.specs.CentralPowers.{unit_period}
 use Rattle.centre_powers.proofs.FixedPowers.{residues_central_powers}
 use Rattle.splitting_theory.specs.Lists.{Each}
 use Rattle.splitting_theory.specs.Splitting.{IsFixed, ZeroTest, number, IsPiece, Precedes, IsSplitting, pieces}
-use Rattle.splitting_theory.specs.Algebras.{IsField, HasBasis, evaluate, IsCharacter, HasValues, Among}
+use Rattle.splitting_theory.specs.Algebras.{HasBasis, evaluate, IsCharacter, HasValues, Among}
 use Rattle.splitting_theory.proofs.Pieces.{pieces_split}
 use Rattle.splitting_theory.proofs.Coordinates.{of_number, evaluate_is}
 use Rattle.splitting_theory.proofs.Characters.{scale_equal, values_character, character_listed}
@@ -49,33 +50,6 @@ module _ (q : ℕ) (listed : is_modulus q ≡ true) where
 
   one_value : (field q listed).one.value ≡ 1
   one_value = mod-eq_of_lt (modulus_over_one q listed)
-
-  pub one_there : (field q listed).one ≢ (field q listed).nought
-  one_there e = absurd (let h : 1 ≡ 0 = sym one_value ∙ nought_value q listed (field q listed).one e in omega arith)
-
-  residue_test : ZeroTest (field q listed)
-  residue_test = record {
-    is_nought = λ x. eqb x.value 0;
-    passes = λ x e. value_nought q listed x (eqb-true x.value 0 e);
-    fails = λ x e h. absurd (let t : true ≡ false = sym (eq-eqb x.value 0 (nought_value q listed x h)) ∙ e in cc);
-  }
-
-  inverse_by : (x : Below q) → (x.value ≡ 0) ⊎ (x.value ≢ 0) → Below q
-  inverse_by x (inl e) = x
-  inverse_by x (inr d) = (residue_inverse q listed x (λ h. d (nought_value q listed x h))).0
-
-  inverts_by : (x : Below q) (c : (x.value ≡ 0) ⊎ (x.value ≢ 0)) → x ≢ (field q listed).nought → (field q listed).mul x (inverse_by x c) ≡ (field q listed).one
-  unfolding inverse_by
-  inverts_by x (inl e) there = absurd (there (value_nought q listed x e))
-  inverts_by x (inr d) there = (residue_inverse q listed x (λ h. d (nought_value q listed x h))).1
-
-  pub residue_field : IsField (field q listed)
-  residue_field = record {
-    test = residue_test;
-    inverse = λ x. inverse_by x (cases_eq x.value 0);
-    mul_inverse = λ x there. inverts_by x (cases_eq x.value 0) there;
-    one_there = one_there;
-  }
 
   -- the number v is the residue of v
   pub number_residue : (v : ℕ) → number (field q listed) v ≡ field_residue q listed v
@@ -105,7 +79,7 @@ module _ (ring : ModRing) (s : TwistedSubgroup) (twist : IsTwist s) (over : size
 
   pub fixed : IsFixed C ring.q
   fixed =
-      centre_fixed R U s twist divides ring.q (modulus_over_one ring.q ring.listed) (one_there ring.q ring.listed) (residues_characteristic ring.q ring.listed)
+      centre_fixed R U s twist divides ring.q (modulus_over_one ring.q ring.listed) (residue_field ring.q ring.listed).one_is_not_nought (residues_characteristic ring.q ring.listed)
       (residues_central_powers ring.q ring.listed ring.conductor ring.root ring.least ring.entry ring.apart s twist over period)
 
   -- the numbers by which the class sums multiply e

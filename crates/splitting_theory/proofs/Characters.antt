@@ -1,20 +1,20 @@
 -- The characters of a split algebra are the values by which its basis multiplies the pieces.
-use Rattle.splitting_theory.proofs.Names.{◌≡◌, ℕ, Bool, true, false, List, [], ◌∷◌, refl, sym, ◌∙◌, ap, inl, inr, ◌≢◌, ap₂, CommRing, sum_list, nought_add, mul_nought, nought_mul, one_mul, mul_left_comm, add_mul, neg_add_self, sum_ext, sum_mul, sum_list_nil, sum_list_cons, Each, number, IsPiece, IsSplitting, IsField, HasBasis, evaluate, IsCharacter, HasValues, Among}
+use Rattle.splitting_theory.proofs.Names.{◌≡◌, ℕ, Bool, true, false, List, [], ◌∷◌, refl, sym, ◌∙◌, ap, inl, inr, ◌≢◌, ap₂, CommRing, sum_list, nought_add, mul_nought, nought_mul, one_mul, mul_left_comm, add_mul, neg_add_self, sum_ext, sum_mul, sum_list_nil, sum_list_cons, Each, number, IsPiece, IsSplitting, Field, HasBasis, evaluate, IsCharacter, HasValues, Among}
 use Rattle.splitting_theory.proofs.Coordinates.{of_nought, of_sum, of_number, evaluate_is, evaluate_add, evaluate_scale, evaluate_nought, evaluate_one, evaluate_product}
 
 module _ {A : Type 0} (F : CommRing A) where
   pub difference : (x y : A) → F.add x (F.neg y) ≡ F.nought → x ≡ y
   difference x y e = sym (F.add_nought x) ∙ ap (λ a. F.add x a) (sym (neg_add_self F y)) ∙ sym (F.add_assoc x (F.neg y) y) ∙ ap (λ a. F.add a y) e ∙ nought_add F y
 
-module _ {A B : Type 0} (F : CommRing A) (L : IsField F) (Z : CommRing B) (r : ℕ) (E : HasBasis F Z r) where
+module _ {A B : Type 0} (F : CommRing A) (L : Field F) (Z : CommRing B) (r : ℕ) (E : HasBasis F Z r) where
   -- a multiple of what isn't nought is nought only by nought
   pub scale_cancel : (x : A) (e : B) → e ≢ Z.nought → Z.mul (E.of x) e ≡ Z.nought → x ≡ F.nought
-  scale_cancel x e there h = cases (L.test.is_nought x) refl
+  scale_cancel x e there h = cases (L.is_nought x) refl
     where
-      cases : (b : Bool) → L.test.is_nought x ≡ b → x ≡ F.nought
-      cases true k = L.test.passes x k
+      cases : (b : Bool) → L.is_nought x ≡ b → x ≡ F.nought
+      cases true k = L.passes x k
       cases false k =
-          absurd (there (sym (one_mul Z e) ∙ ap (λ a. Z.mul a e) (sym E.of_one ∙ ap E.of (sym (L.mul_inverse x (L.test.fails x k)) ∙ F.mul_comm x (L.inverse x)) ∙ E.of_mul (L.inverse x) x)
+          absurd (there (sym (one_mul Z e) ∙ ap (λ a. Z.mul a e) (sym E.of_one ∙ ap E.of (sym (L.mul_inverse x (L.fails x k)) ∙ F.mul_comm x (L.inverse x)) ∙ E.of_mul (L.inverse x) x)
           ∙ Z.mul_assoc (E.of (L.inverse x)) (E.of x) e ∙ ap (λ a. Z.mul (E.of (L.inverse x)) a) h ∙ mul_nought Z (E.of (L.inverse x))))
 
   pub scale_equal : (x y : A) (e : B) → e ≢ Z.nought → Z.mul (E.of x) e ≡ Z.mul (E.of y) e → x ≡ y
@@ -61,14 +61,14 @@ module _ {A B : Type 0} (F : CommRing A) (L : IsField F) (Z : CommRing B) (r : �
 
   some_piece : (q : ℕ) (u : ℕ → A) → IsCharacter E u → (es : List B) → Each (IsPiece Z q E.at r) es → evaluate E u (sum_list Z es) ≢ F.nought → Among (λ e. HasValues E e u) es
   some_piece q u C [] h there = absurd (there (ap (evaluate E u) (sum_list_nil Z) ∙ evaluate_nought F Z r E u))
-  some_piece q u C (e ∷ es) h there = cases (λ k. some_piece q u C es h.1 k) (L.test.is_nought (evaluate E u e)) refl
+  some_piece q u C (e ∷ es) h there = cases (λ k. some_piece q u C es h.1 k) (L.is_nought (evaluate E u e)) refl
     where
-      cases : (evaluate E u (sum_list Z es) ≢ F.nought → Among (λ e. HasValues E e u) es) → (b : Bool) → L.test.is_nought (evaluate E u e) ≡ b → Among (λ e. HasValues E e u) (e ∷ es)
+      cases : (evaluate E u (sum_list Z es) ≢ F.nought → Among (λ e. HasValues E e u) es) → (b : Bool) → L.is_nought (evaluate E u e) ≡ b → Among (λ e. HasValues E e u) (e ∷ es)
       cases later true k =
-          inr (later (λ none. there (ap (evaluate E u) (sum_list_cons Z e es) ∙ evaluate_add F Z r E u e (sum_list Z es) ∙ ap₂ F.add (L.test.passes (evaluate E u e) k) none ∙ F.add_nought F.nought)))
-      cases later false k = inl (values_at q u C e h.0 (L.test.fails (evaluate E u e) k))
+          inr (later (λ none. there (ap (evaluate E u) (sum_list_cons Z e es) ∙ evaluate_add F Z r E u e (sum_list Z es) ∙ ap₂ F.add (L.passes (evaluate E u e) k) none ∙ F.add_nought F.nought)))
+      cases later false k = inl (values_at q u C e h.0 (L.fails (evaluate E u e) k))
 
   -- each character has the values of some piece
   pub character_listed : (q : ℕ) (u : ℕ → A) → IsCharacter E u → (es : List B) → IsSplitting Z q E.at r es → Among (λ e. HasValues E e u) es
   character_listed q u C es S =
-      some_piece q u C es S.each (λ none. L.one_there (sym (evaluate_one F Z r E u C) ∙ ap (evaluate E u) (sym S.whole) ∙ none))
+      some_piece q u C es S.each (λ none. L.one_is_not_nought (sym (evaluate_one F Z r E u C) ∙ ap (evaluate E u) (sym S.whole) ∙ none))

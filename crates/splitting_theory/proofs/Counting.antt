@@ -1,5 +1,5 @@
 -- A split algebra has as many pieces as elements in its basis.
-use Rattle.splitting_theory.proofs.Names.{◌≡◌, ℕ, zero, suc, ◌<◌, ◌≤◌, List, [], ◌∷◌, length, get_or, sym, ◌∙◌, ap, arith, inl, inr, ◌⊎◌, ◌≢◌, eqb, cases_lt, cases_eq, eq-eqb, ne_eqb, eqb-true, CommRing, sum_below, sum_list, pick, nought_mul, sum_zero, sum_ext, sum_nought, sum_mul, mul_sum, sum_first, sum_pick, sum_list_nil, sum_list_cons, pick_of, pick_off, pick_same, mul_pick, Each, Pairwise, number, IsPiece, Precedes, IsSplitting, IsField, HasBasis, AreDependent}
+use Rattle.splitting_theory.proofs.Names.{◌≡◌, ℕ, zero, suc, ◌<◌, ◌≤◌, List, [], ◌∷◌, length, get_or, sym, ◌∙◌, ap, arith, inl, inr, ◌⊎◌, ◌≢◌, eqb, cases_lt, cases_eq, eq-eqb, ne_eqb, eqb-true, CommRing, sum_below, sum_list, pick, nought_mul, sum_zero, sum_ext, sum_nought, sum_mul, mul_sum, sum_first, sum_pick, sum_list_nil, sum_list_cons, pick_of, pick_off, pick_same, mul_pick, Each, Pairwise, number, IsPiece, Precedes, IsSplitting, Field, HasBasis, AreDependent}
 use Rattle.splitting_theory.proofs.Coordinates.{of_nought, of_sum, of_number, coordinate_sum, coordinate_scale, coordinate_at, coordinate_nought, nought_of_coordinates}
 use Rattle.splitting_theory.proofs.Characters.{scale_cancel}
 use Rattle.splitting_theory.proofs.Dependence.{dependent}
@@ -21,7 +21,7 @@ module _ {B : Type 0} (Z : CommRing B) where
   sum_list_at [] = sum_list_nil Z ∙ sym (sum_zero Z (λ i. get_or [] i Z.nought))
   sum_list_at (e ∷ es) = sum_list_cons Z e es ∙ ap (λ a. Z.add e a) (sum_list_at es) ∙ sym (sum_first Z (length es) (λ i. get_or (e ∷ es) i Z.nought))
 
-module _ {A B : Type 0} (F : CommRing A) (L : IsField F) (Z : CommRing B) (r : ℕ) (E : HasBasis F Z r) (q : ℕ) (es : List B) (S : IsSplitting Z q E.at r es) where
+module _ {A B : Type 0} (F : CommRing A) (L : Field F) (Z : CommRing B) (r : ℕ) (E : HasBasis F Z r) (q : ℕ) (es : List B) (S : IsSplitting Z q E.at r es) where
   piece : ℕ → B
   piece i = get_or es i Z.nought
 

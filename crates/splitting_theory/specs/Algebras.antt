@@ -2,14 +2,6 @@
 use Rattle.std.specs.Prelude.{◌≡◌, ◌≢◌, ℕ, suc, ◌<◌, List, [], ◌∷◌, ◌⊎◌}
 use Rattle.algebra.specs.Structures.{CommRing}
 use Rattle.algebra.specs.Sums.{sum_below}
-use Rattle.splitting_theory.specs.Splitting.{ZeroTest}
-
--- each element other than nought has an inverse, and one isn't nought
-pub record IsField {A : Type 0} (F : CommRing A) : Type 0 where
-  pub test : ZeroTest F
-  pub inverse : A → A
-  pub mul_inverse : (x : A) → x ≢ F.nought → F.mul x (inverse x) ≡ F.one
-  pub one_there : F.one ≢ F.nought
 
 -- Z is an algebra over F, and each of its elements is one combination of the r elements at 0, 1, .., of which the first is one
 pub record HasBasis {A B : Type 0} (F : CommRing A) (Z : CommRing B) (r : ℕ) : Type 0 where

@@ -2,9 +2,10 @@
 -- to names.
 use Rattle.std.specs.Prelude.{◌≡◌, ◌≢◌, ℕ, List, length}
 use Rattle.algebra.specs.Structures.{CommRing}
+use Rattle.algebra.specs.Fields.{Field}
 use Rattle.algebra.specs.Sums.{sum_below}
 use Rattle.splitting_theory.specs.Splitting.{IsFixed, ZeroTest, number, part, pieces, IsSplitting}
-use Rattle.splitting_theory.specs.Algebras.{IsField, HasBasis, IsCharacter, HasValues, Among, AreDependent}
+use Rattle.splitting_theory.specs.Algebras.{HasBasis, IsCharacter, HasValues, Among, AreDependent}
 
 -- the parts of an idempotent e at the numbers below q: k multiplies each by its number, each is idempotent, and they add up to e
 abbrev pub PartsAct : Type 0
@@ -23,19 +24,19 @@ PiecesSplit = (Z : CommRing ℕ) (T : ZeroTest Z) (q : ℕ) → IsFixed Z q → 
 -- the values of the basis at what isn't nought are a character
 abbrev pub ValuesAreCharacters : Type 0
 ValuesAreCharacters =
-    (F : CommRing ℕ) → IsField F → (Z : CommRing ℕ) (r : ℕ) (E : HasBasis F Z r) (e : ℕ) (u : ℕ → ℕ) → e ≢ Z.nought → HasValues E e u → IsCharacter E u
+    (F : CommRing ℕ) → Field F → (Z : CommRing ℕ) (r : ℕ) (E : HasBasis F Z r) (e : ℕ) (u : ℕ → ℕ) → e ≢ Z.nought → HasValues E e u → IsCharacter E u
 
 -- each character has the values of some piece
 abbrev pub CharactersListed : Type 0
 CharactersListed =
-    (F : CommRing ℕ) → IsField F → (Z : CommRing ℕ) (r : ℕ) (E : HasBasis F Z r) (q : ℕ) (u : ℕ → ℕ) → IsCharacter E u
+    (F : CommRing ℕ) → Field F → (Z : CommRing ℕ) (r : ℕ) (E : HasBasis F Z r) (q : ℕ) (u : ℕ → ℕ) → IsCharacter E u
     → (es : List ℕ) → IsSplitting Z q E.at r es → Among (λ e. HasValues E e u) es
 
 -- there are as many pieces as elements in the basis
 abbrev pub SplittingCounts : Type 0
 SplittingCounts =
-    (F : CommRing ℕ) → IsField F → (Z : CommRing ℕ) (r : ℕ) (E : HasBasis F Z r) (q : ℕ) (es : List ℕ) → IsSplitting Z q E.at r es → length es ≡ r
+    (F : CommRing ℕ) → Field F → (Z : CommRing ℕ) (r : ℕ) (E : HasBasis F Z r) (q : ℕ) (es : List ℕ) → IsSplitting Z q E.at r es → length es ≡ r
 
 -- more rows than their width are dependent
 abbrev pub RowsDependent : Type 0
-RowsDependent = (F : CommRing ℕ) → IsField F → (r : ℕ) (x : ℕ → ℕ → ℕ) → AreDependent F r x
+RowsDependent = (F : CommRing ℕ) → Field F → (r : ℕ) (x : ℕ → ℕ → ℕ) → AreDependent F r x

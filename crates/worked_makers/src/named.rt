@@ -2,6 +2,7 @@
 
 use cochain::Cocycle;
 use named_cocycles::{MakeRefusal, Maker, make, sample, sample_modulus};
+use std::alloc::Global;
 use std::process::Abort;
 
 /// The exponent at three elements, and how many roots of unity there are.
@@ -12,8 +13,21 @@ fn expect_value(rt: &impl Abort, w: &Cocycle, at: (u32, u32, u32), exponent: u32
     assert!(rt; w.roots() == roots);
 }
 
+/// The cocycle that is made, at three elements.
+fn expect_made(
+    rt: &impl Abort,
+    alloc: Global,
+    maker: Maker,
+    at: (u32, u32, u32),
+    exponent: u32,
+    roots: u32,
+) {
+    let w = make(alloc, maker).expect(rt, "a cocycle");
+    expect_value(rt, &w, at, exponent, roots);
+}
+
 #[test]
-fn makers(rt: HostRuntime) {
+fn cyclic_groups_and_products(rt: HostRuntime) {
     let alloc = rt.alloc();
     let rows = [
         (Maker::Cyclic { n: 2, p: 1 }, (1, 1, 1), 1, 2),
@@ -30,39 +44,32 @@ fn makers(rt: HostRuntime) {
             1,
             2,
         ),
-        (
-            Maker::Dihedral {
-                n: 3,
-                twisted: true,
-            },
-            (3, 4, 5),
-            1,
-            2,
-        ),
-        (
-            Maker::Dihedral {
-                n: 3,
-                twisted: true,
-            },
-            (3, 2, 5),
-            0,
-            2,
-        ),
-        (
-            Maker::Dihedral {
-                n: 3,
-                twisted: false,
-            },
-            (3, 4, 5),
-            0,
-            1,
-        ),
+    ];
+    for (maker, at, exponent, roots) in rows {
+        expect_made(&rt, alloc, maker, at, exponent, roots);
+    }
+}
+
+#[test]
+fn dihedral_dicyclic_and_semidirect_groups(rt: HostRuntime) {
+    let alloc = rt.alloc();
+    let twisted = Maker::Dihedral {
+        n: 3,
+        twisted: true,
+    };
+    let untwisted = Maker::Dihedral {
+        n: 3,
+        twisted: false,
+    };
+    let rows = [
+        (twisted, (3, 4, 5), 1, 2),
+        (twisted, (3, 2, 5), 0, 2),
+        (untwisted, (3, 4, 5), 0, 1),
         (Maker::Dicyclic { n: 1 }, (2, 2, 2), 0, 1),
         (Maker::Semidirect { n: 3, m: 2, r: 2 }, (3, 3, 3), 0, 1),
     ];
     for (maker, at, exponent, roots) in rows {
-        let w = make(alloc, maker).expect(&rt, "a cocycle");
-        expect_value(&rt, &w, at, exponent, roots);
+        expect_made(&rt, alloc, maker, at, exponent, roots);
     }
 }
 
