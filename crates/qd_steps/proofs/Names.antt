@@ -24,7 +24,7 @@ pub use Rattle.table_check.specs.Answers.{Refuses, fit_at}
 pub use Rattle.table_check.specs.Characters.{Characters, IsShaped, RowsOver, characters_of}
 pub use Rattle.table_check.specs.declared.miss.Miss.{Miss}
 pub use Rattle.transport.specs.Simples.{HasTables, no_table, table_at}
-pub use Rattle.twist_lift.specs.Laws.{Serves}
+pub use Rattle.centre_powers.specs.CentralPowers.{Serves}
 pub use Rattle.twist_lift.specs.TwistRows.{characters}
 unfoldable pub use Rattle.twist_lift.specs.TwistRows.{twist_fault, twist_rows}
 pub use Rattle.twisted.specs.Regular.{rank}

@@ -4,7 +4,7 @@ ghost use Rattle.std.specs.Prelude.{◌≡◌, ℕ, ◌<◌, None, Option, lengt
 ghost use Rattle.std.specs.Option.{option_and_then};
 ghost use Rattle.char_lift.specs.Faults.{Refuses};
 ghost use Rattle.char_lift.specs.declared.refusal.LiftRefusal.{LiftRefusal};
-ghost use Rattle.twist_lift.specs.Laws.{Serves};
+ghost use Rattle.centre_powers.specs.CentralPowers.{Serves};
 ghost use Rattle.qd_steps.specs.ByModulus.{cause_of_lift};
 ghost use Rattle.qd_steps.specs.ClassTwists.{twist_in, lifted_over, all_lifted, lift_cause_over, first_lift_cause};
 ghost use Rattle.qd_steps.specs.Refused.{IsRefusalFor};

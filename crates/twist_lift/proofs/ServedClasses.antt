@@ -15,7 +15,8 @@ use Rattle.twisted.specs.Twist.{TwistedSubgroup, size, element, IsTwist}
 use Rattle.slant.specs.Twists.{twist_of}
 use Rattle.slant.proofs.TwistLaws.{centraliser_is_twist, products_agree, identities_agree}
 use Rattle.transport.proofs.Centralisers.{element_injective, element_commutes}
-use Rattle.twist_lift.specs.Laws.{Serves, root_order, ServesClasses}
+use Rattle.centre_powers.specs.CentralPowers.{Serves}
+use Rattle.twist_lift.specs.Laws.{root_order, ServesClasses}
 
 -- what divides a factor of a number divides the number, with the other factor
 period_part : (k n e E : ℕ) → E % e ≡ 0 → k % (n * E) ≡ 0 → k % (n * e) ≡ 0

@@ -1,13 +1,13 @@
 -- What holds of the rows of a twist by a modulus.
 use Rattle.std.specs.Prelude.{◌≡◌, ◌≢◌, ℕ, ◌*◌, ◌%◌, ◌<◌, length, true, Some, None}
 use Rattle.prime_field.specs.declared.mod_ring.ModRing.{ModRing}
-use Rattle.twisted.specs.Twist.{TwistedSubgroup, size, IsTwist}
+use Rattle.twisted.specs.Twist.{TwistedSubgroup, size}
 use Rattle.twisted.specs.Regular.{rank}
 use Rattle.orders.specs.Order.{exponent_of}
 use Rattle.group_table.specs.Group.{product, identity_of}
 use Rattle.cochain.specs.Cochain.{Cochain, IsCocycle}
 use Rattle.slant.specs.Twists.{twist_of}
-use Rattle.centre_powers.specs.CentralPowers.{unit_period}
+use Rattle.centre_powers.specs.CentralPowers.{Serves}
 use Rattle.qd_ring.specs.RowLists.{row_at}
 use Rattle.table_check.specs.Characters.{Characters, characters_of}
 use Rattle.table_check.specs.Check.{table_miss}
@@ -16,12 +16,6 @@ use Rattle.table_check.specs.declared.miss.Clause.TheVariants.{Count}
 use Rattle.table_check.specs.declared.miss.Miss.{Miss}
 use Rattle.root_tables.specs.RootRows.{AreRootRows}
 use Rattle.twist_lift.specs.TwistRows.{twist_fault, twist_rows}
-
--- q is over the size of the twist, and the modulus of the twist times the exponent of its group divides the conductor
-pub record Serves (ring : ModRing) (s : TwistedSubgroup) : Type 0 where
-  pub twist : IsTwist s
-  pub over : size s < ring.q
-  pub period : ring.conductor % unit_period s ≡ 0
 
 -- N E: the number of roots of a cocycle times the exponent of its group
 abbrev pub root_order : Cochain → ℕ
