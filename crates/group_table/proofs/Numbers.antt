@@ -126,6 +126,6 @@ begun_contains n e i test below passes = by (nat_eq i e) refl
     by false other = Contains-append_right (e ∷ []) (passing_below n test) i (passing_below-contains n i test below (passes other))
 
 -- one more value
-pub tabulated-more : (i : ℕ) (at : ℕ → ℕ) {v : ℕ} {front all : List ℕ} → front ≡ tabulated i at → all ≡ front ++ v ∷ [] → v ≡ at i
+pub tabulated-more : {A : Type 0} (i : ℕ) (at : ℕ → A) {v : A} {front all : List A} → front ≡ tabulated i at → all ≡ front ++ v ∷ [] → v ≡ at i
     → all ≡ tabulated (i + 1) at
 tabulated-more i at before pushed here = rw (pushed, before, here) (sym (map-range_with_len_more at 0 i i (omega arith)))

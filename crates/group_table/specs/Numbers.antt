@@ -8,7 +8,7 @@ passing_below zero test = []
 passing_below (suc n) test = if test n then passing_below n test ++ n ∷ [] else passing_below n test
 
 -- the values of a function at 0, 1, .., n - 1
-abbrev pub tabulated : ℕ → (ℕ → ℕ) → List ℕ
+abbrev pub tabulated : {A : Type 0} → ℕ → (ℕ → A) → List A
 tabulated n at = map at (range_with_len 0 n)
 
 -- its values at each pair of numbers below n, row after row
