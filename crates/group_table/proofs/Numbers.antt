@@ -3,7 +3,8 @@ use Rattle.std.proofs.Common.{◌≡◌, ◌≢◌, ℕ, zero, suc, ◌+◌, ◌
 use Rattle.std.specs.List.{All, Contains}
 use Rattle.std.proofs.lemmas.List.Elements.{All-nil, All-push, All-weaker, All-get_or, All-contains, Contains-push, Contains-append_left, Contains-append_right}
 use Rattle.std.proofs.lemmas.List.{get_or_push, get_or_append_left}
-use Rattle.std.proofs.lemmas.List.FromFn.{map-range_with_len_more}
+use Rattle.std.proofs.lemmas.List.FromFn.{map-range_with_len_more, length-map-range_with_len, get_or-map-range_with_len}
+use mathlib.Core.Path.{ap₂}
 use Rattle.group_table.specs.Numbers.{passing_below, tabulated}
 
 pub passing_below-zero : (test : ℕ → Bool) → passing_below 0 test ≡ []
@@ -125,7 +126,24 @@ begun_contains n e i test below passes = by (nat_eq i e) refl
     by true same = rw (eqb-true _ _ same) (0, omega arith, refl)
     by false other = Contains-append_right (e ∷ []) (passing_below n test) i (passing_below-contains n i test below (passes other))
 
+-- ---- the values of a function
+
+pub tabulated-suc : {A : Type 0} (n : ℕ) (at : ℕ → A) → tabulated (suc n) at ≡ tabulated n at ++ at n ∷ []
+tabulated-suc n at = ap (λ k. tabulated k at) (sym (add-one n)) ∙ map-range_with_len_more at 0 n n (omega arith)
+
 -- one more value
-pub tabulated-more : {A : Type 0} (i : ℕ) (at : ℕ → A) {v : A} {front all : List A} → front ≡ tabulated i at → all ≡ front ++ v ∷ [] → v ≡ at i
-    → all ≡ tabulated (i + 1) at
-tabulated-more i at before pushed here = rw (pushed, before, here) (sym (map-range_with_len_more at 0 i i (omega arith)))
+pub tabulated-more : {A : Type 0} (n : ℕ) (at : ℕ → A) {v : A} {front all : List A} → front ≡ tabulated n at → all ≡ front ++ v ∷ [] → v ≡ at n
+    → all ≡ tabulated (n + 1) at
+tabulated-more n at before pushed here = rw (pushed, before, here) (sym (map-range_with_len_more at 0 n n (omega arith)))
+
+pub length-tabulated : {A : Type 0} (n : ℕ) (at : ℕ → A) → length (tabulated n at) ≡ n
+length-tabulated n at = length-map-range_with_len at 0 n
+
+pub tabulated-at : {A : Type 0} (n i : ℕ) (at : ℕ → A) (d : A) → i < n → get_or (tabulated n at) i d ≡ at i
+tabulated-at n i at d below = get_or-map-range_with_len at 0 n i i d below (omega arith)
+
+pub tabulated-same : {A : Type 0} (n : ℕ) (at other : ℕ → A) → ((i : ℕ) → i < n → at i ≡ other i) → tabulated n at ≡ tabulated n other
+tabulated-same zero at other same = refl
+tabulated-same (suc n) at other same =
+    tabulated-suc n at ∙ ap₂ (λ xs x. xs ++ x ∷ []) (tabulated-same n at other (λ i h. same i (omega arith))) (same n (omega arith))
+    ∙ sym (tabulated-suc n other)
