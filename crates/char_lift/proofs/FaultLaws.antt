@@ -1,13 +1,5 @@
 -- What fails first in a row, and in the rows.
-use Rattle.char_lift.proofs.Names.{◌≡◌, ℕ, ◌+◌, ◌<◌, true, false, List, Option, Some, None, refl, sym, ap, ◌∙◌, arith, ne_eqb, ◌==◌, ℤ, unwrap_or, if◌then◌else◌, first, array_of, TwistedSubgroup, size, element}
-use Rattle.std.proofs.Common.{◌≢◌, eq-eqb}
-use Rattle.scan.proofs.Places.{first_found}
-use Rattle.char_lift.specs.Sums.{table_of}
-use Rattle.char_lift.specs.Candidate.{degree_sum, degree_of, multiplicity_sum, lifted_value}
-use Rattle.char_lift.specs.Faults.{place_fault, fault_with, row_fault, lift_fault, lifted_row, Refuses}
-use Rattle.char_lift.specs.Ratios.{character_ratios}
-use Rattle.char_lift.specs.declared.refusal.LiftRefusal.{LiftRefusal}
-use Rattle.char_lift.specs.declared.refusal.LiftRefusal.TheVariants.{NoDegree, Multiplicity, Memory}
+use Rattle.char_lift.proofs.Names.{◌≡◌, ℕ, ◌+◌, ◌<◌, true, false, List, Option, Some, None, refl, sym, ap, ◌∙◌, arith, ne_eqb, ◌==◌, ℤ, unwrap_or, if◌then◌else◌, first, array_of, TwistedSubgroup, size, element, ◌≢◌, eq-eqb, first_found, tabulated, degree_sum, degree_of, multiplicity_sum, lifted_value, place_fault, fault_with, row_fault, lift_fault, lifted_row, Refuses, character_ratios, LiftRefusal, NoDegree, Multiplicity, Memory}
 
 -- what is refused at i, where nothing is found before, is refused of all
 pub refused_first : (why : LiftRefusal) (n i : ℕ) (at : ℕ → Option LiftRefusal) → i < n → first i at ≡ None → Refuses why (at i) → Refuses why (first n at)
@@ -39,8 +31,8 @@ module _ (s : TwistedSubgroup) (q k z row : ℕ) (c : List ℕ) where
   unfolding row_fault
   row_with d e = ap (fault_with s q k z row c) e
 
-pub row_is : (s : TwistedSubgroup) (q k z : ℕ) (c : List ℕ) (d : ℕ) → degree_of s q k z c ≡ Some d → lifted_row s q k z c ≡ table_of (size s) (λ x. array_of (lifted_value s q k z c d x))
-row_is s q k z c d e = ap (λ o. table_of (size s) (λ x. array_of (lifted_value s q k z c (unwrap_or o 0) x))) e
+pub row_is : (s : TwistedSubgroup) (q k z : ℕ) (c : List ℕ) (d : ℕ) → degree_of s q k z c ≡ Some d → lifted_row s q k z c ≡ tabulated (size s) (λ x. array_of (lifted_value s q k z c d x))
+row_is s q k z c d e = ap (λ o. tabulated (size s) (λ x. array_of (lifted_value s q k z c (unwrap_or o 0) x))) e
 
 -- ---- the rows
 module _ (s : TwistedSubgroup) (q k z count : ℕ) (rows : ℕ → ℕ → ℕ) where

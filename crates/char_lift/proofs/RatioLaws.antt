@@ -1,10 +1,8 @@
 -- Class numbers, class factors and character ratios.
-use Rattle.char_lift.proofs.Names.{◌≡◌, ℕ, suc, ◌*◌, ◌%◌, ◌<◌, List, length, get_or, true, false, Bool, Option, Some, None, refl, sym, ap, ◌∙◌, subst, arith, mod-lt, ◌==◌, slice_index, unwrap_or, if◌then◌else◌, first, first_some, representative_of, TwistedSubgroup, size, rank, where_found, AreBelow}
+use Rattle.char_lift.proofs.Names.{◌≡◌, ℕ, suc, ◌*◌, ◌%◌, ◌<◌, List, length, get_or, true, false, Bool, Option, Some, None, refl, sym, ap, ◌∙◌, subst, arith, mod-lt, ◌==◌, slice_index, unwrap_or, if◌then◌else◌, first, first_some, representative_of, TwistedSubgroup, size, rank, where_found, AreBelow, tabulated, regular_number, class_factor, character_ratio, character_ratios, inverse_residue, class_size, inverse_root, carrying_phase, length-tabulated}
 use Rattle.twisted.specs.Regular.{is_regular, regular_representatives}
 use Rattle.twisted.proofs.Representatives.{length-regular_representatives}
-use Rattle.char_lift.specs.Sums.{table_of}
-use Rattle.char_lift.specs.Ratios.{regular_number, class_factor, character_ratio, character_ratios, inverse_residue, class_size, inverse_root, carrying_phase}
-use Rattle.char_lift.proofs.SumLaws.{length-table, table-below}
+use Rattle.char_lift.proofs.SumLaws.{tabulated-below}
 
 module _ (s : TwistedSubgroup) where
   number_at : ℕ → ℕ → Option ℕ
@@ -42,7 +40,7 @@ module _ (s : TwistedSubgroup) where
     factor_below y = below_of (is_regular s y) (inverse_residue q (class_size s y) * inverse_root s q k z (carrying_phase s y))
 
     pub ratios_width : (w : ℕ → ℕ) → length (character_ratios s q k z w) ≡ size s
-    ratios_width w = length-table (size s) (character_ratio s q k z w)
+    ratios_width w = length-tabulated (size s) (character_ratio s q k z w)
 
     pub ratios_below : (w : ℕ → ℕ) → AreBelow q (character_ratios s q k z w)
-    ratios_below w = table-below q (size s) (character_ratio s q k z w) (λ y h. mod-lt (w (regular_number s y) * class_factor s q k z y) positive)
+    ratios_below w = tabulated-below q (size s) (character_ratio s q k z w) (λ y h. mod-lt (w (regular_number s y) * class_factor s q k z y) positive)

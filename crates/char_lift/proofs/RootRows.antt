@@ -1,16 +1,7 @@
 -- Lifted values are sums of roots of unity.
-use Rattle.char_lift.proofs.Names.{◌≡◌, ℕ, ◌*◌, ◌<◌, ◌≤◌, true, false, List, [], length, get_or, Option, Some, None, refl, sym, ap, ◌∙◌, subst, inl, inr, arith, eqb-true, cases_eq, ne_eqb, ◌==◌, ℤ, unwrap_or, if◌then◌else◌, first, is_conductor, CyclotomicValue, cyclotomic_value, array_of, row_at, IsSumOfRoots, TwistedSubgroup, size, element}
-use Rattle.std.specs.Prelude.{slice_index_or}
-use Rattle.scan.proofs.Places.{first_none-at}
+use Rattle.char_lift.proofs.Names.{◌≡◌, ℕ, ◌*◌, ◌<◌, ◌≤◌, true, false, List, [], length, get_or, Option, Some, None, refl, sym, ap, ◌∙◌, subst, inl, inr, arith, eqb-true, cases_eq, ne_eqb, ◌==◌, ℤ, unwrap_or, if◌then◌else◌, first, is_conductor, CyclotomicValue, cyclotomic_value, array_of, row_at, IsSumOfRoots, TwistedSubgroup, size, element, slice_index_or, first_none-at, sum_of, tabulated, character_ratios, degree_sum, degree_of, multiplicity, multiplicity_sum, with_multiplicities, lifted_value, place_fault, row_fault, lift_fault, lifted_row, lifted_rows, LiftRefusal, NoDegree, Multiplicity, length-tabulated, tabulated-at}
 use Rattle.qd_ring.proofs.ProductLaws.{value-array_of}
-use Rattle.char_lift.specs.Sums.{sum_of, table_of}
-use Rattle.char_lift.specs.Ratios.{character_ratios}
-use Rattle.char_lift.specs.Candidate.{degree_sum, degree_of, multiplicity, multiplicity_sum, with_multiplicities, lifted_value}
-use Rattle.char_lift.specs.Faults.{place_fault, row_fault, lift_fault, lifted_row, lifted_rows}
 use Rattle.char_lift.specs.Laws.{IsRowOfRoots, LiftedAreRoots, LiftedValues}
-use Rattle.char_lift.specs.declared.refusal.LiftRefusal.{LiftRefusal}
-use Rattle.char_lift.specs.declared.refusal.LiftRefusal.TheVariants.{NoDegree, Multiplicity}
-use Rattle.char_lift.proofs.SumLaws.{length-table, table-at}
 use Rattle.char_lift.proofs.DegreeLaws.{IsDegree, degree_means}
 use Rattle.char_lift.proofs.ValueLaws.{copies_are_roots, multiplicities_are}
 use Rattle.char_lift.proofs.FaultLaws.{row_without, row_with, place_fails, row_is}
@@ -49,7 +40,7 @@ module _ (s : TwistedSubgroup) (q k z : ℕ) where
     pub row_value : (c : List ℕ) (d x : ℕ) → degree_of s q k z c ≡ Some d → x < size s → cyclotomic_value k (slice_index_or (lifted_row s q k z c) x []) ≡ lifted_value s q k z c d x
     row_value c d x e below =
         ap (λ r. cyclotomic_value k (get_or r x [])) (row_is s q k z c d e)
-        ∙ ap (cyclotomic_value k) (table-at (size s) x (λ y. array_of (lifted_value s q k z c d y)) [] below)
+        ∙ ap (cyclotomic_value k) (tabulated-at (size s) x (λ y. array_of (lifted_value s q k z c d y)) [] below)
         ∙ value-array_of k entry (lifted_value s q k z c d x)
 
     pub row_of_roots : (row : ℕ) (c : List ℕ) → row_fault s q k z row c ≡ None → IsRowOfRoots k (size s) (lifted_row s q k z c)
@@ -58,7 +49,7 @@ module _ (s : TwistedSubgroup) (q k z : ℕ) where
         let d = there.0 in
         let is = degree_means q (size s) (degree_sum s q k z c) d there.1 in
         record {
-          width = length-table (size s) (λ x. array_of (lifted_value s q k z c (unwrap_or (degree_of s q k z c) 0) x));
+          width = length-tabulated (size s) (λ x. array_of (lifted_value s q k z c (unwrap_or (degree_of s q k z c) 0) x));
           degree = d;
           from_one = is.from_one;
           square = is.square;
@@ -66,7 +57,7 @@ module _ (s : TwistedSubgroup) (q k z : ℕ) where
         }
 
   row_at_place : (count : ℕ) (rows : ℕ → ℕ → ℕ) (i : ℕ) → i < count → row_at (lifted_rows s q k z count rows) i ≡ lifted_row s q k z (character_ratios s q k z (rows i))
-  row_at_place count rows i below = table-at count i (λ row. lifted_row s q k z (character_ratios s q k z (rows row))) [] below
+  row_at_place count rows i below = tabulated-at count i (λ row. lifted_row s q k z (character_ratios s q k z (rows row))) [] below
 
   no_fault_at : (count : ℕ) (rows : ℕ → ℕ → ℕ) (i : ℕ) → lift_fault s q k z count rows ≡ None → i < count → row_fault s q k z i (character_ratios s q k z (rows i)) ≡ None
   unfolding lift_fault
@@ -75,7 +66,7 @@ module _ (s : TwistedSubgroup) (q k z : ℕ) where
   pub rows_of_roots : (count : ℕ) (rows : ℕ → ℕ → ℕ) → is_conductor k ≡ true → lift_fault s q k z count rows ≡ None
       → (length (lifted_rows s q k z count rows) ≡ count) × ((i : ℕ) → i < count → IsRowOfRoots k (size s) (row_at (lifted_rows s q k z count rows) i))
   rows_of_roots count rows entry faultless = (
-    length-table count (λ row. lifted_row s q k z (character_ratios s q k z (rows row))),
+    length-tabulated count (λ row. lifted_row s q k z (character_ratios s q k z (rows row))),
     λ i below. subst (IsRowOfRoots k (size s)) (sym (row_at_place count rows i below))
         (row_of_roots entry i (character_ratios s q k z (rows i)) (no_fault_at count rows i faultless below)),
   )

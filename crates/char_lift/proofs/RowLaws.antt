@@ -1,10 +1,6 @@
 -- Rows that are put together value after value.
-use Rattle.std.proofs.Common.{◌≡◌, ℕ, ◌+◌, ◌-◌, ◌<◌, List, [], ◌∷◌, ◌++◌, length, set, refl, ap, sym, ◌∙◌, length-append, arith}
+use Rattle.char_lift.proofs.Names.{◌≡◌, ℕ, ◌+◌, ◌-◌, ◌<◌, List, [], ◌∷◌, ◌++◌, length, set, refl, ap, sym, ◌∙◌, length-append, arith, set-append_seam, row_at, with_value, tabulated, tabulated-more}
 use Rattle.std.proofs.lemmas.List.{get_or_push}
-use Rattle.std.proofs.Math.Seq.{set-append_seam}
-use Rattle.qd_ring.specs.RowLists.{row_at, with_value}
-use Rattle.char_lift.specs.Sums.{table_of}
-use Rattle.char_lift.proofs.SumLaws.{table-more}
 
 module _ {A : Type 0} (front : List (List A)) (row : List A) where
   -- where the last row stands
@@ -22,11 +18,11 @@ module _ {A : Type 0} (front : List (List A)) (row : List A) where
       ∙ set-append_seam front row [] (row ++ v ∷ [])
 
 -- one more value of a row
-pub value_added : {A : Type 0} (front before after : List (List A)) (n : ℕ) (f : ℕ → A) (v : A) → before ≡ front ++ table_of n f ∷ [] → after ≡ with_value before v → v ≡ f n
-    → after ≡ front ++ table_of (n + 1) f ∷ []
+pub value_added : {A : Type 0} (front before after : List (List A)) (n : ℕ) (f : ℕ → A) (v : A) → before ≡ front ++ tabulated n f ∷ [] → after ≡ with_value before v → v ≡ f n
+    → after ≡ front ++ tabulated (n + 1) f ∷ []
 value_added front before after n f v is added value =
-    added ∙ ap (λ rows. with_value rows v) is ∙ with_value_last front (table_of n f) v
-    ∙ ap (λ r. front ++ r ∷ []) (table-more n f (table_of n f) (table_of n f ++ v ∷ []) v refl refl value)
+    added ∙ ap (λ rows. with_value rows v) is ∙ with_value_last front (tabulated n f) v
+    ∙ ap (λ r. front ++ r ∷ []) (tabulated-more n f refl refl value)
 
 -- the width of the last row, and how many rows there are
 pub rows_added : {A : Type 0} (front rows : List (List A)) (row : List A) → rows ≡ front ++ row ∷ [] → (0 < length rows) × (row_at rows (length rows - 1) ≡ row)

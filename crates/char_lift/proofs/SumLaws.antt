@@ -1,7 +1,5 @@
 -- Sums and lists of the values of a function.
-use Rattle.char_lift.proofs.Names.{◌≡◌, ℕ, zero, suc, ◌+◌, ◌*◌, ◌%◌, ◌<◌, ◌≤◌, List, [], ◌∷◌, ◌++◌, length, get_or, refl, sym, ap, ◌∙◌, inl, inr, arith, length-append, add-one, mod-mod, mod-lt, get_or-append, get_or-append_seam, cases_eq, mul-mod_first, ap₂, AreBelow}
-use Rattle.std.proofs.Math.Nat.{mod-add-mod, add-mod-mod}
-use Rattle.char_lift.specs.Sums.{sum_of, table_of}
+use Rattle.char_lift.proofs.Names.{◌≡◌, ℕ, zero, suc, ◌+◌, ◌*◌, ◌%◌, ◌<◌, ◌≤◌, List, [], ◌∷◌, ◌++◌, length, get_or, refl, sym, ap, ◌∙◌, inl, inr, arith, length-append, add-one, mod-mod, mod-lt, get_or-append, get_or-append_seam, cases_eq, mul-mod_first, ap₂, AreBelow, mod-add-mod, add-mod-mod, sum_of, tabulated, length-tabulated, tabulated-at}
 
 -- ---- sums
 pub sum-zero : (f : ℕ → ℕ) → sum_of 0 f ≡ 0
@@ -40,38 +38,7 @@ running q n f sum term so_far more =
     ap₂ (λ a b. (a + b) % q) so_far more ∙ sym (add-residues q (sum_of n f) (f n)) ∙ ap (λ a. a % q) (sym (sum-more n f))
 
 -- ---- lists
-pub table-zero : {A : Type 0} (f : ℕ → A) → table_of 0 f ≡ []
-unfolding table_of
-table-zero f = refl
-
-pub table-suc : {A : Type 0} (n : ℕ) (f : ℕ → A) → table_of (suc n) f ≡ table_of n f ++ f n ∷ []
-unfolding table_of
-table-suc n f = refl
-
--- one more value at the end
-pub table-more : {A : Type 0} (n : ℕ) (f : ℕ → A) (xs ys : List A) (x : A) → xs ≡ table_of n f → ys ≡ xs ++ x ∷ [] → x ≡ f n → ys ≡ table_of (n + 1) f
-table-more n f xs ys x before added is =
-    added ∙ ap₂ (λ v a. v ++ a ∷ []) before is ∙ sym (table-suc n f) ∙ ap (λ k. table_of k f) (sym (add-one n))
-
-pub length-table : {A : Type 0} (n : ℕ) (f : ℕ → A) → length (table_of n f) ≡ n
-length-table zero f = ap length (table-zero f)
-length-table (suc n) f = omega (arith, ap length (table-suc n f), length-append (table_of n f) (f n ∷ []), length-table n f)
-
-pub table-at : {A : Type 0} (n i : ℕ) (f : ℕ → A) (d : A) → i < n → get_or (table_of n f) i d ≡ f i
-table-at zero i f d h = absurd (omega arith)
-table-at (suc n) i f d h = ap (λ xs. get_or xs i d) (table-suc n f) ∙ elim (cases_eq i n) [
-  | inl e ↦
-      ap (λ j. get_or (table_of n f ++ f n ∷ []) j d) (e ∙ sym (length-table n f)) ∙ get_or-append_seam (table_of n f) (f n) [] d ∙ ap f (sym e)
-  | inr apart ↦
-      get_or-append (table_of n f) (f n ∷ []) d i (omega (arith, length-table n f)) ∙ table-at n i f d (omega (arith, apart))
-]
-
-pub table-same : {A : Type 0} (n : ℕ) (f g : ℕ → A) → ((i : ℕ) → i < n → f i ≡ g i) → table_of n f ≡ table_of n g
-table-same zero f g same = table-zero f ∙ sym (table-zero g)
-table-same (suc n) f g same =
-    table-suc n f ∙ ap₂ (λ xs x. xs ++ x ∷ []) (table-same n f g (λ i h. same i (omega arith))) (same n (omega arith)) ∙ sym (table-suc n g)
-
-pub table-below : (q n : ℕ) (f : ℕ → ℕ) → ((i : ℕ) → i < n → f i < q) → AreBelow q (table_of n f)
-table-below q n f below i h =
-    let inside : i < n = omega (arith, length-table n f) in
-    omega (arith, table-at n i f 0 inside, below i inside)
+pub tabulated-below : (q n : ℕ) (f : ℕ → ℕ) → ((i : ℕ) → i < n → f i < q) → AreBelow q (tabulated n f)
+tabulated-below q n f below i h =
+    let inside : i < n = omega (arith, length-tabulated n f) in
+    omega (arith, tabulated-at n i f 0 inside, below i inside)

@@ -1,11 +1,7 @@
 -- The inverse transform of values that are known modulo q, and the values at powers.
-use Rattle.char_lift.proofs.Names.{◌≡◌, ℕ, suc, ◌+◌, ◌-◌, ◌*◌, ◌%◌, ◌<◌, ◌≤◌, List, length, get_or, refl, sym, ap, ◌∙◌, arith, add-one, mod-lt, mod-mod, mul-mod_first, mul-mod_second, slice_index, ap₂, power, product, identity_of, TwistedSubgroup, size, phase, place_power, power_phase, AreBelow, power_modulo}
-use Rattle.central_ext.proofs.PairPowers.{power_phase-suc}
-use Rattle.char_lift.specs.Sums.{sum_of, table_of}
-use Rattle.char_lift.specs.Ratios.{inverse_residue}
-use Rattle.char_lift.specs.Candidate.{inverse_transform, with_multiplicities}
+use Rattle.char_lift.proofs.Names.{◌≡◌, ℕ, suc, ◌+◌, ◌-◌, ◌*◌, ◌%◌, ◌<◌, ◌≤◌, List, length, get_or, refl, sym, ap, ◌∙◌, arith, add-one, mod-lt, mod-mod, mul-mod_first, mul-mod_second, slice_index, ap₂, power, product, identity_of, TwistedSubgroup, size, phase, place_power, power_phase, AreBelow, power_modulo, power_phase-suc, sum_of, tabulated, inverse_residue, inverse_transform, with_multiplicities, tabulated-at, tabulated-same, length-tabulated}
 use Rattle.char_lift.proofs.ValueLaws.{multiplicities_same}
-use Rattle.char_lift.proofs.SumLaws.{sum-residues, sum-same, table-at, table-same, length-table, table-below}
+use Rattle.char_lift.proofs.SumLaws.{sum-residues, sum-same, tabulated-below}
 
 module _ (q k z : ℕ) where
   -- the sum of an inverse transform may be taken modulo q
@@ -28,24 +24,24 @@ module _ (q k z : ℕ) where
       ∙ transform_of_sum others i
 
   -- so a table of residues gives the multiplicities
-  pub transform_of_table : (values : ℕ → ℕ) (numbers : List ℕ) → numbers ≡ table_of k (λ j. values j % q)
-      → table_of k (inverse_transform q k z (slice_index numbers)) ≡ table_of k (inverse_transform q k z values)
+  pub transform_of_table : (values : ℕ → ℕ) (numbers : List ℕ) → numbers ≡ tabulated k (λ j. values j % q)
+      → tabulated k (inverse_transform q k z (slice_index numbers)) ≡ tabulated k (inverse_transform q k z values)
   transform_of_table values numbers is =
-      table-same k (inverse_transform q k z (slice_index numbers)) (inverse_transform q k z values)
+      tabulated-same k (inverse_transform q k z (slice_index numbers)) (inverse_transform q k z values)
       (λ i h. transform_same (slice_index numbers) values i
-      (λ j below. ap (λ a. a % q) (ap (λ xs. get_or xs j 0) is ∙ table-at k j (λ n. values n % q) 0 below) ∙ residue_twice (values j)))
+      (λ j below. ap (λ a. a % q) (ap (λ xs. get_or xs j 0) is ∙ tabulated-at k j (λ n. values n % q) 0 below) ∙ residue_twice (values j)))
     where
       residue_twice : (a : ℕ) → a % q % q ≡ a % q
       residue_twice a = mod-mod a q
 
 -- a table is read at its places
-pub sum_of_table : (k : ℕ) (f : ℕ → ℕ) (numbers : List ℕ) → numbers ≡ table_of k f → sum_of (length numbers) (slice_index numbers) ≡ sum_of k f
+pub sum_of_table : (k : ℕ) (f : ℕ → ℕ) (numbers : List ℕ) → numbers ≡ tabulated k f → sum_of (length numbers) (slice_index numbers) ≡ sum_of k f
 sum_of_table k f numbers is =
-    ap (λ n. sum_of n (slice_index numbers)) (ap length is ∙ length-table k f)
-    ∙ sum-same k (slice_index numbers) f (λ i h. ap (λ xs. get_or xs i 0) is ∙ table-at k i f 0 h)
+    ap (λ n. sum_of n (slice_index numbers)) (ap length is ∙ length-tabulated k f)
+    ∙ sum-same k (slice_index numbers) f (λ i h. ap (λ xs. get_or xs i 0) is ∙ tabulated-at k i f 0 h)
 
-pub value_of_table : (k : ℕ) (f : ℕ → ℕ) (numbers : List ℕ) → numbers ≡ table_of k f → with_multiplicities k (slice_index numbers) ≡ with_multiplicities k f
-value_of_table k f numbers is = multiplicities_same k (slice_index numbers) f (λ i h. ap (λ xs. get_or xs i 0) is ∙ table-at k i f 0 h)
+pub value_of_table : (k : ℕ) (f : ℕ → ℕ) (numbers : List ℕ) → numbers ≡ tabulated k f → with_multiplicities k (slice_index numbers) ≡ with_multiplicities k f
+value_of_table k f numbers is = multiplicities_same k (slice_index numbers) f (λ i h. ap (λ xs. get_or xs i 0) is ∙ tabulated-at k i f 0 h)
 
 -- the place and the phase of one more power
 pub place_more : (s : TwistedSubgroup) (x j : ℕ) → product s.group (place_power s x j) x ≡ place_power s x (j + 1)

@@ -1,16 +1,11 @@
 -- Values with given multiplicities of roots of unity.
-use Rattle.char_lift.proofs.Names.{◌≡◌, ℕ, zero, suc, ◌+◌, ◌-◌, ◌*◌, ◌<◌, ◌≤◌, Bool, true, false, Option, Some, None, List, length, refl, sym, ap, ◌∙◌, inl, inr, arith, add-one, ℤ, slice_index, ap₂, multiple, sum_zero, is_conductor, value_sum, CyclotomicValue, cyclotomic_ring, cyclotomic_value, root, value_size, IsSumOfRoots}
-use Rattle.std.specs.Prelude.{is_some}
-use borrow.Author.Tests.{le-leb}
+use Rattle.char_lift.proofs.Names.{◌≡◌, ℕ, zero, suc, ◌+◌, ◌-◌, ◌*◌, ◌<◌, ◌≤◌, Bool, true, false, Option, Some, None, List, length, refl, sym, ap, ◌∙◌, inl, inr, arith, add-one, ℤ, slice_index, ap₂, multiple, sum_zero, is_conductor, value_sum, CyclotomicValue, cyclotomic_ring, cyclotomic_value, root, value_size, IsSumOfRoots, is_some, le-leb, sum_suc, multiple_zero, multiple_suc, sum_ext, sum_of, with_multiplicities}
 use Rattle.algebra.specs.Sums.{sum_below}
-use Rattle.algebra.proofs.SumLaws.{sum_suc, multiple_zero, multiple_suc, sum_ext}
 use Rattle.cyclotomic.specs.Ring.{value_nought}
 use Rattle.cyclotomic.specs.Fit.{value_fits, greatest_magnitude}
 use Rattle.cyclotomic.proofs.Bounds.{root_size}
 use Rattle.qd_ring.proofs.RootSumLaws.{no_root, one_root, roots_same, roots_together, roots_copied, roots_size}
 use Rattle.qd_ring.proofs.SizeLaws.{size_sum}
-use Rattle.char_lift.specs.Sums.{sum_of}
-use Rattle.char_lift.specs.Candidate.{with_multiplicities}
 use Rattle.char_lift.proofs.SumLaws.{sum-zero, sum-suc, sum-more}
 
 -- what is there isn't none

@@ -3,7 +3,7 @@ use Rattle.std.specs.Prelude.{◌≡◌, ℕ, ◌==◌, ℤ, List, Option, Some,
 use Rattle.scan.specs.First.{first}
 use Rattle.qd_ring.specs.CycArrays.{array_of}
 use Rattle.twisted.specs.Twist.{TwistedSubgroup, size, element}
-use Rattle.char_lift.specs.Sums.{table_of}
+use Rattle.group_table.specs.Numbers.{tabulated}
 use Rattle.char_lift.specs.Ratios.{character_ratios}
 use Rattle.char_lift.specs.Candidate.{degree_sum, degree_of, multiplicity_sum, lifted_value}
 use Rattle.char_lift.specs.declared.refusal.LiftRefusal.{LiftRefusal}
@@ -31,11 +31,11 @@ module _ (s : TwistedSubgroup) (q k z : ℕ) where
   -- the row of the candidate with these character ratios: the array of the lifted value at each place. It is asked for only where there
   -- is a degree, so the 0 of none is not met
   abbrev pub lifted_row : List ℕ → List (List ℤ)
-  lifted_row c = table_of (size s) (λ x. array_of (lifted_value s q k z c (unwrap_or (degree_of s q k z c) 0) x))
+  lifted_row c = tabulated (size s) (λ x. array_of (lifted_value s q k z c (unwrap_or (degree_of s q k z c) 0) x))
 
   -- the rows of the candidates, in their order
   abbrev pub lifted_rows : ℕ → (ℕ → ℕ → ℕ) → List (List (List ℤ))
-  lifted_rows count rows = table_of count (λ row. lifted_row (character_ratios s q k z (rows row)))
+  lifted_rows count rows = tabulated count (λ row. lifted_row (character_ratios s q k z (rows row)))
 
 -- a refusal is what fails first; want of memory says nothing
 abbrev pub Refuses : LiftRefusal → Option LiftRefusal → Type 0

@@ -11,7 +11,7 @@ use Rattle.twisted.specs.Twist.{TwistedSubgroup, size}
 use Rattle.twisted.specs.Regular.{kappa, is_regular, regular_representatives, rank}
 use Rattle.prime_field.specs.Inverses.{inverse_modulo}
 use Rattle.prime_field.specs.Laws.Moduli.{power_modulo}
-use Rattle.char_lift.specs.Sums.{table_of}
+use Rattle.group_table.specs.Numbers.{tabulated}
 
 -- 1/a modulo q. What isn't 0 modulo q has an inverse, so the 0 of none is not met below
 abbrev pub inverse_residue : ℕ → ℕ → ℕ
@@ -50,4 +50,4 @@ module _ (s : TwistedSubgroup) (q k z : ℕ) where
 
   -- c at each place
   abbrev pub character_ratios : (ℕ → ℕ) → List ℕ
-  character_ratios w = table_of (size s) (character_ratio w)
+  character_ratios w = tabulated (size s) (character_ratio w)

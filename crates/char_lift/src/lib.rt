@@ -9,7 +9,6 @@ mod multiplicities;
 mod ratios;
 mod refusal;
 mod root_powers;
-mod tabulate;
 mod value;
 
 pub use lifting::lift;

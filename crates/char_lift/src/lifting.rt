@@ -7,7 +7,7 @@ ghost use Rattle.twisted.specs.Twist.{size};
 ghost use Rattle.twisted.specs.Regular.{rank};
 ghost use Rattle.prime_field.specs.ResidueLists.{AreBelow};
 ghost use Rattle.dixon_split.specs.CentralLists.{central_value};
-ghost use Rattle.char_lift.specs.Sums.{table_of};
+ghost use Rattle.group_table.specs.Numbers.{tabulated};
 ghost use Rattle.char_lift.specs.Candidate.{lifted_value};
 ghost use Rattle.char_lift.specs.Faults.{place_fault, row_fault, lift_fault, lifted_row, lifted_rows, Refuses};
 
@@ -81,7 +81,7 @@ fn push_row<const K: u32>(
     ensures faultless { OnOk result (first (size twist.now)
         (place_fault twist.now powers.now.q powers.now.conductor powers.now.root row ratios.now degree) ≡ None) }
     ensures added { OnOk result (rows.new ≡ rows.old
-        ++ table_of (size twist.now) (λ x.
+        ++ tabulated (size twist.now) (λ x.
         array_of (lifted_value twist.now powers.now.q powers.now.conductor powers.now.root ratios.now degree x)) ∷ []) }
     ensures refused { IfErr result (λ why.
         Refuses why (first (size twist.now)

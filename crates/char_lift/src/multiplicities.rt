@@ -3,12 +3,12 @@
 ghost use Rattle.std.specs.Prelude.{◌≡◌, ◌%◌, ◌<◌, ◌≤◌, length, slice_index, IfOk};
 ghost use Rattle.twisted.specs.Twist.{size};
 ghost use Rattle.prime_field.specs.ResidueLists.{AreBelow};
-ghost use Rattle.char_lift.specs.Sums.{sum_of, table_of};
+ghost use Rattle.char_lift.specs.Sums.{sum_of};
+ghost use Rattle.group_table.specs.Numbers.{tabulated};
 ghost use Rattle.char_lift.specs.Ratios.{inverse_residue};
 ghost use Rattle.char_lift.specs.Candidate.{power_value, inverse_transform};
 
 use crate::root_powers::RootPowers;
-use crate::tabulate::tabulate;
 use group_table::{Memory, Nats};
 use std::alloc::Global;
 use twisted::Twist;
@@ -27,7 +27,7 @@ pub(crate) fn power_values(
     requires degree_below { degree < powers.now.q }
     requires x_below { x < size twist.now }
     ensures values { IfOk result (λ values. values
-        ≡ table_of powers.now.conductor (λ j.
+        ≡ tabulated powers.now.conductor (λ j.
         power_value twist.now powers.now.q powers.now.conductor powers.now.root ratios.now degree x j % powers.now.q)) }
 {
     let group = twist.group();
@@ -71,10 +71,10 @@ pub(crate) fn multiplicities(
     requires count { length values.now ≡ powers.now.conductor }
     requires below { AreBelow powers.now.q values.now }
     ensures multiplicities { IfOk result (λ numbers. numbers
-        ≡ table_of powers.now.conductor (inverse_transform powers.now.q powers.now.conductor powers.now.root (slice_index values.now))) }
+        ≡ tabulated powers.now.conductor (inverse_transform powers.now.q powers.now.conductor powers.now.root (slice_index values.now))) }
 {
     let inverse = powers.inverse(powers.conductor());
-    tabulate(
+    Nats::tabulate(
         alloc,
         powers.conductor(),
         |i| inverse_transform(powers, inverse, values, i),

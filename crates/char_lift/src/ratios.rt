@@ -5,11 +5,10 @@ ghost use Rattle.twisted.specs.Twist.{size};
 ghost use Rattle.twisted.specs.Regular.{regular_representatives, rank};
 ghost use Rattle.prime_field.specs.ResidueLists.{AreBelow};
 ghost use Rattle.dixon_split.specs.CentralLists.{central_value};
-ghost use Rattle.char_lift.specs.Sums.{table_of};
+ghost use Rattle.group_table.specs.Numbers.{tabulated};
 ghost use Rattle.char_lift.specs.Ratios.{regular_number, class_factor, character_ratio, character_ratios};
 
 use crate::root_powers::RootPowers;
-use crate::tabulate::tabulate;
 use classes::Classes;
 use dixon_split::Central;
 use group_table::{Memory, Nats};
@@ -68,18 +67,18 @@ impl Shares {
     /// The class numbers and factors of all places of the twist.
     pub(crate) fn of(alloc: Global, twist: &Twist, powers: &RootPowers) -> Result<Shares, Memory>
         ensures numbers { IfOk result (λ shares. shares.numbers
-            ≡ table_of (size twist.now) (regular_number twist.now)) }
-        ensures factors { IfOk result (λ shares. shares.factors ≡ table_of (size twist.now)
+            ≡ tabulated (size twist.now) (regular_number twist.now)) }
+        ensures factors { IfOk result (λ shares. shares.factors ≡ tabulated (size twist.now)
             (class_factor twist.now powers.now.q powers.now.conductor powers.now.root)) }
     {
         let classes = Classes::of(alloc, twist.group())?;
         let representatives = regular_reps(alloc, twist)?;
-        let numbers = tabulate(
+        let numbers = Nats::tabulate(
             alloc,
             twist.size(),
             |y| regular_number(twist, &classes, &representatives, y),
         )?;
-        let factors = tabulate(
+        let factors = Nats::tabulate(
             alloc,
             twist.size(),
             |y| class_factor(twist, &classes, powers, y),
@@ -97,8 +96,8 @@ fn character_ratio(
     row: u32,
     y: u32,
 ) -> u32
-    requires numbers { shares.now.numbers ≡ table_of (size twist.now) (regular_number twist.now) }
-    requires factors { shares.now.factors ≡ table_of (size twist.now)
+    requires numbers { shares.now.numbers ≡ tabulated (size twist.now) (regular_number twist.now) }
+    requires factors { shares.now.factors ≡ tabulated (size twist.now)
         (class_factor twist.now powers.now.q powers.now.conductor powers.now.root) }
     requires some { 0 < rank twist.now }
     requires width { central.now.width ≡ rank twist.now }
@@ -124,8 +123,8 @@ pub(crate) fn character_ratios(
     central: &Central,
     row: u32,
 ) -> Result<Nats, Memory>
-    requires numbers { shares.now.numbers ≡ table_of (size twist.now) (regular_number twist.now) }
-    requires factors { shares.now.factors ≡ table_of (size twist.now)
+    requires numbers { shares.now.numbers ≡ tabulated (size twist.now) (regular_number twist.now) }
+    requires factors { shares.now.factors ≡ tabulated (size twist.now)
         (class_factor twist.now powers.now.q powers.now.conductor powers.now.root) }
     requires some { 0 < rank twist.now }
     requires width { central.now.width ≡ rank twist.now }
@@ -136,7 +135,7 @@ pub(crate) fn character_ratios(
         ≡ character_ratios twist.now powers.now.q powers.now.conductor powers.now.root
         (central_value central.now row)) }
 {
-    tabulate(
+    Nats::tabulate(
         alloc,
         twist.size(),
         |y| character_ratio(twist, powers, shares, central, row, y),

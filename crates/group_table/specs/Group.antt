@@ -17,6 +17,13 @@ table_with n entries = record { order = n; entries = entries }
 abbrev pub product : Table → ℕ → ℕ → ℕ
 product t g h = slice_index t.entries (g * t.order + h)
 
+-- g h = h g, and the test of it
+abbrev pub Commute : Table → ℕ → ℕ → Type 0
+Commute t g h = product t g h ≡ product t h g
+
+abbrev pub commute : Table → ℕ → ℕ → Bool
+commute t g h = product t g h == product t h g
+
 -- First law: every entry is an element.
 abbrev pub entry_fault : Table → Option GroupFault
 entry_fault t = first t.order (λ g. first t.order (λ h. if nat_lt (product t g h) t.order then None else Some (Entry g h)))

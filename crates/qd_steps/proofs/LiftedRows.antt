@@ -1,11 +1,11 @@
 -- The lifted rows of all classes.
 use Rattle.qd_steps.proofs.Names.{◌≡◌, ℕ, ◌<◌, List, [], length, refl, sym, ap, subst, ◌∙◌, arith, ℤ, length-map-range_with_len, get_or-map-range_with_len, ap₂, representatives, representative_at, Cochain, ModRing, TwistedSubgroup, size, twist_of, row_at, central_value, central_characters, character_ratios, RowsOver, IsShaped, characters, twist_rows, Serves, Block, block_at}
+use Rattle.group_table.proofs.Numbers.{length-tabulated, tabulated-at}
 use Rattle.group_table.specs.Group.{product, identity_of}
 use Rattle.orders.specs.Order.{exponent_of}
 use Rattle.classes.specs.Conjugacy.{centraliser_of}
 use Rattle.classes.proofs.Conjugacy.{representative_at_is}
 use Rattle.char_lift.specs.Faults.{lifted_row}
-use Rattle.char_lift.proofs.SumLaws.{length-table, table-at}
 use Rattle.twist_lift.proofs.TwistLaws.{period_modulus}
 use Rattle.twist_lift.proofs.ServedClasses.{serves_classes}
 use Rattle.qd_doc.specs.Blocks.{block}
@@ -22,7 +22,7 @@ module _ (ring : ModRing) where
   lifted_width s i below =
       let n = length (central_characters ring s) in
       let row = λ (r : ℕ). lifted_row s ring.q ring.conductor ring.root (character_ratios s ring.q ring.conductor ring.root (central_value (characters ring s) r)) in
-      ap length (table-at n i row [] (subst (λ m. i < m) (length-table n row) below)) ∙ length-table (size s) _
+      ap length (tabulated-at n i row [] (subst (λ m. i < m) (length-tabulated n row) below)) ∙ length-tabulated (size s) _
 
   -- lifted rows are shaped as the check wants them
   pub lifted_shaped : (k : ℕ) (twist : TwistedSubgroup) (rows : List (List (List ℤ))) → ring.conductor ≡ k → Serves ring twist → rows ≡ twist_rows ring twist

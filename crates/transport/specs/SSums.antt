@@ -5,10 +5,6 @@ use Rattle.table_check.specs.Formed.{Formed, conjugated, multiplied, listed, whe
 use Rattle.transport.specs.Simples.{SimplesOver}
 use Rattle.transport.specs.FullCharacters.{full_character}
 
--- whether g h = h g
-abbrev pub commute : Table → ℕ → ℕ → Bool
-commute t g h = product t g h == product t h g
-
 module _ (k : ℕ) (s : SimplesOver) where
   -- conj(ch_i(g,h)) conj(ch_j(h,g))
   abbrev pub pair_term : ℕ → ℕ → ℕ → ℕ → Formed k

@@ -1,7 +1,4 @@
-use Rattle.char_lift.proofs.Names.{◌≡◌, ◌+◌, ◌%◌, ◌<◌, sym, ap, ◌∙◌, subst, arith, mod-lt, size, modulus_bound, modulus_positive}
-use Rattle.std.proofs.Math.Nat.{zero-mod}
-use Rattle.char_lift.specs.Sums.{sum_of}
-use Rattle.char_lift.specs.Candidate.{degree_term}
+use Rattle.char_lift.proofs.Names.{◌≡◌, ◌+◌, ◌%◌, ◌<◌, sym, ap, ◌∙◌, subst, arith, mod-lt, size, modulus_bound, modulus_positive, zero-mod, sum_of, degree_term}
 use Rattle.char_lift.proofs.SumLaws.{sum-zero, running}
 use Rattle.char_lift.proofs.degree.degree_sum.Goals as goal
 

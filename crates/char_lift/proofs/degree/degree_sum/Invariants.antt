@@ -1,6 +1,4 @@
-use Rattle.std.proofs.Common.{◌≡◌, ◌%◌, ◌<◌}
-use Rattle.char_lift.specs.Sums.{sum_of}
-use Rattle.char_lift.specs.Candidate.{degree_term}
+use Rattle.char_lift.proofs.Names.{◌≡◌, ◌%◌, ◌<◌, sum_of, degree_term}
 use Rattle.char_lift.proofs.degree.degree_sum.Given as goal
 
 -- the terms before x

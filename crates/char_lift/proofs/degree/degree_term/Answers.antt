@@ -1,6 +1,4 @@
-use Rattle.char_lift.proofs.Names.{◌≡◌, ◌*◌, ◌%◌, ap, ◌∙◌, get_or, ap₂, Table, phase}
-use Rattle.group_table.specs.Group.{inverse}
-use Rattle.char_lift.specs.Ratios.{inverse_root}
+use Rattle.char_lift.proofs.Names.{◌≡◌, ◌*◌, ◌%◌, ap, ◌∙◌, get_or, ap₂, Table, phase, inverse, inverse_root}
 use Rattle.char_lift.proofs.Residues.{product_of_three}
 use Rattle.char_lift.proofs.degree.degree_term.Goals as goal
 

@@ -1,5 +1,4 @@
-use Rattle.char_lift.proofs.Names.{◌≡◌, rules, Some, None, if◌then◌else◌}
-use Rattle.char_lift.specs.Candidate.{is_degree, least_degree}
+use Rattle.char_lift.proofs.Names.{◌≡◌, rules, Some, None, if◌then◌else◌, is_degree, least_degree}
 use Rattle.char_lift.proofs.DegreeLaws.{degree_square}
 use Rattle.char_lift.proofs.degree.least_degree.Goals as goal
 

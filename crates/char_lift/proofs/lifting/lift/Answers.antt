@@ -1,8 +1,4 @@
-use Rattle.char_lift.proofs.Names.{◌≡◌, ℕ, ◌+◌, ◌<◌, length, None, sym, ap, ◌∙◌, subst, arith, lit<, err_from_is_err_and, first, first-zero, first_none-step, ModRing, modulus_positive, AreBelow, central_value}
-use Rattle.std.proofs.Common.{◌^◌}
-use Rattle.char_lift.specs.Ratios.{character_ratios}
-use Rattle.char_lift.specs.Faults.{row_fault, lifted_row, lifted_rows, Refuses}
-use Rattle.char_lift.proofs.SumLaws.{table-zero, table-more, length-table}
+use Rattle.char_lift.proofs.Names.{◌≡◌, ℕ, ◌+◌, ◌<◌, length, None, sym, ap, ◌∙◌, subst, arith, lit<, err_from_is_err_and, first, first-zero, first_none-step, ModRing, modulus_positive, AreBelow, central_value, ◌^◌, character_ratios, row_fault, lifted_row, lifted_rows, Refuses, length-tabulated, tabulated-more}
 use Rattle.char_lift.proofs.RatioLaws.{ratios_width, ratios_below}
 use Rattle.char_lift.proofs.FaultLaws.{fault_at, rows_hold, rows_refused}
 use Rattle.char_lift.proofs.lifting.lift.Goals as goal
@@ -12,7 +8,7 @@ loop-row-init g c =
     let s = c.args.twist.now in
     let f = c.args.ring.now in
     record {
-      lifted = c.empty-rows.ensures ∙ sym (table-zero (λ row. lifted_row s f.q f.conductor f.root (character_ratios s f.q f.conductor f.root (central_value c.args.central.now row))));
+      lifted = c.empty-rows.ensures;
       holds = first-zero (fault_at s f.q f.conductor f.root 0 (central_value c.args.central.now));
     }
 
@@ -23,7 +19,7 @@ lift_row-requires g c =
     let w = central_value c.args.central.now c.loop-row.row in
     let same = c.in_ok-powers.ensures.field in
     let positive = modulus_positive f.q f.listed in
-    let all = length-table c.loop-row.row (λ row. lifted_row s c.args.ring.now.q c.args.ring.now.conductor c.args.ring.now.root (character_ratios s c.args.ring.now.q c.args.ring.now.conductor c.args.ring.now.root (central_value c.args.central.now row))) in (
+    let all = length-tabulated c.loop-row.row (λ row. lifted_row s c.args.ring.now.q c.args.ring.now.conductor c.args.ring.now.root (character_ratios s c.args.ring.now.q c.args.ring.now.conductor c.args.ring.now.root (central_value c.args.central.now row))) in (
       lit< tt,
       (
         ap (λ (r : ModRing). r.conductor) same ∙ c.requires.conductor,
@@ -62,8 +58,7 @@ loop-row-preserved g c =
     let here = subst (λ ratios. row_fault s f.q f.conductor f.root row ratios ≡ None) c.in_ok-ratios.ensures.ratios c.in_ok-lift_row.ensures.faultless in
     record {
       lifted =
-          table-more row (λ i. lifted_row s r.q r.conductor r.root (character_ratios s r.q r.conductor r.root (w i))) c.loop-row.rows c.lift_row.new.rows
-          (lifted_row s f.q f.conductor f.root c.in_ok-ratios.ratios) c.loop-row.invariant.lifted c.in_ok-lift_row.ensures.added
+          tabulated-more row (λ i. lifted_row s r.q r.conductor r.root (character_ratios s r.q r.conductor r.root (w i))) c.loop-row.invariant.lifted c.in_ok-lift_row.ensures.added
           (ap (lifted_row s f.q f.conductor f.root) c.in_ok-ratios.ensures.ratios
           ∙ ap (λ (m : ModRing). lifted_row s m.q m.conductor m.root (character_ratios s m.q m.conductor m.root (w row))) field);
       holds = first_none-step row (fault_at s r.q r.conductor r.root 0 w) c.loop-row.invariant.holds

@@ -1,6 +1,4 @@
-use Rattle.char_lift.proofs.Names.{◌≡◌, None, first, central_value}
-use Rattle.char_lift.specs.Ratios.{character_ratios}
-use Rattle.char_lift.specs.Faults.{row_fault, lifted_rows}
+use Rattle.char_lift.proofs.Names.{◌≡◌, None, first, central_value, character_ratios, row_fault, lifted_rows}
 use Rattle.char_lift.proofs.lifting.lift.Given as goal
 
 -- the rows before this one are lifted, and none of them fails

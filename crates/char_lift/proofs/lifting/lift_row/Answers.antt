@@ -1,8 +1,4 @@
-use Rattle.char_lift.proofs.Names.{◌≡◌, [], ◌∷◌, ◌++◌, Some, None, sym, ap, ◌∙◌, subst, ap₂}
-use Rattle.std.specs.Prelude.{OnOk, IfErr}
-use Rattle.char_lift.specs.Candidate.{least_degree, degree_of}
-use Rattle.char_lift.specs.Faults.{Refuses}
-use Rattle.char_lift.specs.declared.refusal.LiftRefusal.TheVariants.{NoDegree}
+use Rattle.char_lift.proofs.Names.{◌≡◌, [], ◌∷◌, ◌++◌, Some, None, sym, ap, ◌∙◌, subst, ap₂, OnOk, IfErr, least_degree, degree_of, Refuses, NoDegree}
 use Rattle.char_lift.proofs.FaultLaws.{row_without, row_with, row_is}
 use Rattle.char_lift.proofs.lifting.lift_row.Goals as goal
 

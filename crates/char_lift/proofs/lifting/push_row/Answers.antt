@@ -1,8 +1,4 @@
-use Rattle.char_lift.proofs.Names.{◌≡◌, ℕ, ◌+◌, ◌<◌, [], ◌∷◌, ◌++◌, length, None, sym, ap, ◌∙◌, subst, arith, lit<, err_from_is_err_and, first, first-zero, first_none-step, size, array_of}
-use Rattle.char_lift.specs.Sums.{table_of}
-use Rattle.char_lift.specs.Candidate.{lifted_value}
-use Rattle.char_lift.specs.Faults.{place_fault}
-use Rattle.char_lift.proofs.SumLaws.{table-zero, length-table}
+use Rattle.char_lift.proofs.Names.{◌≡◌, ℕ, ◌+◌, ◌<◌, [], ◌∷◌, ◌++◌, length, None, sym, ap, ◌∙◌, subst, arith, lit<, err_from_is_err_and, first, first-zero, first_none-step, size, array_of, tabulated, lifted_value, place_fault, length-tabulated}
 use Rattle.char_lift.proofs.RowLaws.{value_added, rows_added}
 use Rattle.char_lift.proofs.FaultLaws.{refused_first}
 use Rattle.char_lift.proofs.lifting.push_row.Goals as goal
@@ -12,8 +8,7 @@ loop-x-init g c =
     let s = c.args.twist.now in
     let f = c.args.powers.now in
     record {
-      added = c.in_ok-push_row.ensures.added
-          ∙ ap (λ r. c.args.rows.now ++ r ∷ []) (sym (table-zero (λ x. array_of (lifted_value s f.q f.conductor f.root c.args.ratios.now c.args.degree x))));
+      added = c.in_ok-push_row.ensures.added;
       holds = first-zero (place_fault s f.q f.conductor f.root c.args.row c.args.ratios.now c.args.degree);
     }
 
@@ -31,8 +26,8 @@ push_value-requires g c =
     let s = c.args.twist.now in
     let f = c.args.powers.now in
     let value = λ (x : ℕ). array_of (lifted_value s f.q f.conductor f.root c.args.ratios.now c.args.degree x) in
-    let shape = rows_added c.args.rows.now c.loop-x.rows (table_of c.loop-x.x value) c.loop-x.invariant.added in
-    (lit< tt, (lit< tt, (shape.0, omega (arith, ap length shape.1, length-table c.loop-x.x value, c.loop-x-test.true))))
+    let shape = rows_added c.args.rows.now c.loop-x.rows (tabulated c.loop-x.x value) c.loop-x.invariant.added in
+    (lit< tt, (lit< tt, (shape.0, omega (arith, ap length shape.1, length-tabulated c.loop-x.x value, c.loop-x-test.true))))
 
 pub loop-x-preserved : goal.loop-x-preserved
 loop-x-preserved g c =
@@ -55,5 +50,5 @@ pub returns-clause-added : goal.returns-clause-added
 returns-clause-added g c =
     let f = c.args.powers.now in
     let ended : c.loop-x.x ≡ size c.args.twist.now = omega (arith, c.loop-x-test.false, c.loop-x.auto.x-end, c.size-x-end.ensures.size) in
-    subst (λ n. c.loop-x.rows ≡ c.args.rows.now ++ table_of n (λ x. array_of (lifted_value c.args.twist.now f.q f.conductor f.root c.args.ratios.now c.args.degree x)) ∷ []) ended
+    subst (λ n. c.loop-x.rows ≡ c.args.rows.now ++ tabulated n (λ x. array_of (lifted_value c.args.twist.now f.q f.conductor f.root c.args.ratios.now c.args.degree x)) ∷ []) ended
     c.loop-x.invariant.added

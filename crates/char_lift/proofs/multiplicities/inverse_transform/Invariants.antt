@@ -1,5 +1,4 @@
-use Rattle.char_lift.proofs.Names.{◌≡◌, ◌-◌, ◌*◌, ◌%◌, ◌≤◌, slice_index, power_modulo}
-use Rattle.char_lift.specs.Sums.{sum_of}
+use Rattle.char_lift.proofs.Names.{◌≡◌, ◌-◌, ◌*◌, ◌%◌, ◌≤◌, slice_index, power_modulo, sum_of}
 use Rattle.char_lift.proofs.multiplicities.inverse_transform.Given as goal
 
 -- the terms before j, each below 337 * 337

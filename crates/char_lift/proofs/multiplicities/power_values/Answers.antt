@@ -1,9 +1,4 @@
-use Rattle.char_lift.proofs.Names.{◌≡◌, ℕ, ◌+◌, ◌*◌, ◌%◌, get_or, length, sym, ap, ◌∙◌, subst, arith, ap₂, power, Table, product, identity_of, phase, place_power, power_phase, conductor_bounds}
-use Rattle.central_ext.proofs.PairPowers.{power_phase-zero}
-use Rattle.char_lift.specs.Sums.{table_of}
-use Rattle.char_lift.specs.Ratios.{root_residue}
-use Rattle.char_lift.specs.Candidate.{power_value}
-use Rattle.char_lift.proofs.SumLaws.{table-zero, table-more, length-table}
+use Rattle.char_lift.proofs.Names.{◌≡◌, ℕ, ◌+◌, ◌*◌, ◌%◌, get_or, length, sym, ap, ◌∙◌, subst, arith, ap₂, power, Table, product, identity_of, phase, place_power, power_phase, conductor_bounds, power_phase-zero, tabulated, root_residue, power_value, length-tabulated, tabulated-more}
 use Rattle.char_lift.proofs.Residues.{product_of_three}
 use Rattle.char_lift.proofs.TransformLaws.{place_more, phase_more}
 use Rattle.char_lift.proofs.multiplicities.power_values.Goals as goal
@@ -14,7 +9,7 @@ loop-exponent-init c =
     let f = c.args.powers.now in
     let order = ap (λ (t : Table). t.order) c.group-group.ensures.group in
     record {
-      so_far = c.empty-values.ensures.empty ∙ sym (table-zero (λ j. power_value c.args.twist.now f.q f.conductor f.root c.args.ratios.now c.args.degree c.args.x j % f.q));
+      so_far = c.empty-values.ensures.empty;
       at = c.identity-place.ensures.identity ∙ ap (λ (t : Table). identity_of t) c.group-group.ensures.group;
       place_below = omega (arith, c.identity-place.ensures.identity, c.identity-place.ensures.below, order);
       with = sym (power_phase-zero c.args.twist.now c.args.x);
@@ -28,7 +23,7 @@ push-requires c =
     let bounds = conductor_bounds f.conductor f.entry in
     record {
       room = omega
-          (arith, ap length c.loop-exponent.invariant.so_far, length-table c.loop-exponent._exponent value, c.loop-exponent-test.true, c.conductor-exponent-end.ensures.conductor, bounds.0);
+          (arith, ap length c.loop-exponent.invariant.so_far, length-tabulated c.loop-exponent._exponent value, c.loop-exponent-test.true, c.conductor-exponent-end.ensures.conductor, bounds.0);
     }
 
 pub loop-exponent-preserved : goal.loop-exponent-preserved
@@ -41,7 +36,7 @@ loop-exponent-preserved c =
     let order = ap (λ (t : Table). t.order) c.group-group.ensures.group in
     record {
       so_far =
-          table-more e value c.loop-exponent.values c.push.new.self c.product.result c.loop-exponent.invariant.so_far c.in_ok-push.ensures.added
+          tabulated-more e value c.loop-exponent.invariant.so_far c.in_ok-push.ensures.added
           (c.product.ensures.product
           ∙ ap₂ (λ a b. (a * b) % f.q)
           (c.product-scaled.ensures.product
@@ -65,4 +60,4 @@ returns c =
     let value = λ (j : ℕ). power_value c.args.twist.now f.q f.conductor f.root c.args.ratios.now c.args.degree c.args.x j % f.q in
     let ended : c.loop-exponent._exponent ≡ f.conductor =
     omega (arith, c.loop-exponent-test.false, c.loop-exponent.auto._exponent-end, c.conductor-exponent-end.ensures.conductor) in
-    record { values = subst (λ n. c.loop-exponent.values ≡ table_of n value) ended c.loop-exponent.invariant.so_far }
+    record { values = subst (λ n. c.loop-exponent.values ≡ tabulated n value) ended c.loop-exponent.invariant.so_far }

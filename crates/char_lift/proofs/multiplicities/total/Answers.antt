@@ -1,5 +1,4 @@
-use Rattle.char_lift.proofs.Names.{◌≡◌, ◌+◌, sym, ap, ◌∙◌, length, arith, slice_index}
-use Rattle.char_lift.specs.Sums.{sum_of}
+use Rattle.char_lift.proofs.Names.{◌≡◌, ◌+◌, sym, ap, ◌∙◌, length, arith, slice_index, sum_of}
 use Rattle.char_lift.proofs.SumLaws.{sum-zero, sum-more}
 use Rattle.char_lift.proofs.multiplicities.total.Goals as goal
 

@@ -1,5 +1,4 @@
-use Rattle.char_lift.proofs.Names.{◌≡◌, ◌*◌, ◌≤◌, slice_index}
-use Rattle.char_lift.specs.Sums.{sum_of}
+use Rattle.char_lift.proofs.Names.{◌≡◌, ◌*◌, ◌≤◌, slice_index, sum_of}
 use Rattle.char_lift.proofs.multiplicities.total.Given as goal
 
 -- the numbers before i

@@ -1,6 +1,5 @@
-use Rattle.char_lift.proofs.Names.{◌≡◌, ◌+◌, ◌≤◌, sym, ap, ◌∙◌, arith, lit<, slice_index, multiple, sum_zero, cyclotomic_ring, cyclotomic_value, root, array_of}
+use Rattle.char_lift.proofs.Names.{◌≡◌, ◌+◌, ◌≤◌, sym, ap, ◌∙◌, arith, lit<, slice_index, multiple, sum_zero, cyclotomic_ring, cyclotomic_value, root, array_of, sum_of}
 use Rattle.qd_ring.proofs.CycSums.{array-of_value}
-use Rattle.char_lift.specs.Sums.{sum_of}
 use Rattle.char_lift.proofs.SumLaws.{sum-more}
 use Rattle.char_lift.proofs.ValueLaws.{first_copies, copies_next, copies_size, sum-part, multiplicities_are}
 use Rattle.char_lift.proofs.value.with_multiplicities.Goals as goal

@@ -1,5 +1,4 @@
-use Rattle.char_lift.proofs.Names.{◌≡◌, ◌<◌, power_modulo}
-use Rattle.char_lift.specs.Tables.{ListsPowers}
+use Rattle.char_lift.proofs.Names.{◌≡◌, ◌<◌, power_modulo, ListsPowers}
 use Rattle.char_lift.proofs.root_powers.RootPowers.of.Given as goal
 
 -- the powers with lower exponents are listed, and this is the next one

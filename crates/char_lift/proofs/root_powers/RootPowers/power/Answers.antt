@@ -1,5 +1,4 @@
-use Rattle.char_lift.proofs.Names.{◌≡◌, ◌<◌, suc, ap, ◌∙◌, arith, ModRing, power_modulo, modulus_positive}
-use Rattle.char_lift.specs.Tables.{ListsPowers}
+use Rattle.char_lift.proofs.Names.{◌≡◌, ◌<◌, suc, ap, ◌∙◌, arith, ModRing, power_modulo, modulus_positive, ListsPowers}
 use Rattle.char_lift.proofs.Residues.{power_below}
 use Rattle.char_lift.proofs.root_powers.RootPowers.power.Goals as goal
 
