@@ -1,19 +1,7 @@
 -- The centre of a twisted group algebra as a commutative ring: an element is its numbers at the class sums of the regular classes.
-use Rattle.std.proofs.Common.{◌≡◌, ◌≢◌, ℕ, zero, suc, ◌<◌, ◌≤◌, ◌%◌, get_or, refl, sym, ◌∙◌, ap, arith, inl, inr, ◌⊎◌, eqb-true}
-use Rattle.std.proofs.Math.Dec.{eqb}
-use Rattle.std.proofs.lemmas.Bool.{cases_lt, cases_eq, eq-eqb, ne_eqb}
-use mathlib.Core.Path.{fun_ext, ap₂}
-use Rattle.algebra.specs.Structures.{CommRing}
-use Rattle.algebra.specs.Sums.{sum_below, pick, multiple, power}
-use Rattle.algebra.specs.Below.{Below, below_equal}
-use Rattle.algebra.specs.Roots.{RootOfUnity}
+use Rattle.centre_algebra.proofs.Names.{◌≡◌, ◌≢◌, ℕ, zero, suc, ◌<◌, ◌≤◌, ◌%◌, get_or, refl, sym, ◌∙◌, ap, arith, inl, inr, ◌⊎◌, eqb-true, eqb, cases_lt, cases_eq, eq-eqb, ne_eqb, fun_ext, ap₂, CommRing, sum_below, pick, multiple, power, Below, below_equal, RootOfUnity, sum_zero, sum_suc, sum_ext, sum_add, mul_sum, sum_pick, mul_pick, pick_of, pick_off, pick_mul, pick_same, multiple_zero, multiple_suc, power_zero, power_suc, identity_of, TwistedSubgroup, size, IsTwist, regular_representatives, rank, unit_vector, twisted_product, IsCentral, class_sum, combination, HasCharacteristic, twist_ring, twist_crossed, restricted}
 use Rattle.algebra.proofs.RingLaws.{mul_left_comm, one_mul, add_mul}
-use Rattle.algebra.proofs.SumLaws.{sum_zero, sum_suc, sum_ext, sum_add, mul_sum, sum_pick, mul_pick, pick_of, pick_off, pick_mul, pick_same, multiple_zero, multiple_suc, power_zero, power_suc}
 use Rattle.algebra.specs.Totals.{equals}
-use Rattle.group_table.specs.Group.{identity_of}
-use Rattle.twisted.specs.Twist.{TwistedSubgroup, size, IsTwist}
-use Rattle.twisted.specs.Regular.{regular_representatives, rank}
-use Rattle.twisted.specs.Algebra.{unit_vector, twisted_product, IsCentral, class_sum, combination}
 use Rattle.twisted.proofs.AlgebraLaws.{product_on_places, central_combination, combination_central, combination_unique}
 use Rattle.twisted.proofs.Translation.{places, place_group}
 use Rattle.twisted.proofs.RegularClasses.{representative_below_at, representative_place, regular_classes}
@@ -22,12 +10,10 @@ use Rattle.twisted.proofs.Carrying.{carry, carry_one}
 use Rattle.central_ext.specs.PowersOfUnits.{algebra_power}
 use Rattle.splitting_theory.specs.Splitting.{IsFixed}
 use Rattle.splitting_theory.specs.Algebras.{HasBasis}
-use Rattle.power_theory.specs.Traces.{HasCharacteristic}
 use Rattle.power_theory.specs.Rings.{Ring}
 use Rattle.power_theory.specs.CrossedProducts.{CrossedProduct}
 use Rattle.power_theory.proofs.RingSums.{sum_holds}
 use Rattle.power_theory.proofs.RingSums as any
-use Rattle.centre_powers.proofs.FixedPowers.{twist_ring, twist_crossed, restricted}
 
 -- r numbers as a function that is nought from r on
 module _ {A : Type 0} (R : CommRing A) (r : ℕ) where

@@ -1,18 +1,9 @@
 -- The lists of the values at the pieces of the centre are those of all central characters.
-use Rattle.std.proofs.Common.{◌≡◌, ◌≢◌, ℕ, suc, ◌+◌, ◌*◌, ◌/◌, ◌%◌, ◌<◌, ◌≤◌, true, false, List, [], ◌∷◌, length, get_or, sym, ◌∙◌, ap, subst, arith, inl, inr, ◌⊎◌, eqb-true}
-use Rattle.std.proofs.Math.Dec.{eqb}
+use Rattle.centre_algebra.proofs.Names.{◌≡◌, ◌≢◌, ℕ, suc, ◌+◌, ◌*◌, ◌/◌, ◌%◌, ◌<◌, ◌≤◌, true, false, List, [], ◌∷◌, length, get_or, sym, ◌∙◌, ap, subst, arith, inl, inr, ◌⊎◌, eqb-true, eqb, cases_lt, cases_eq, eq-eqb, fun_ext, ap₂, CommRing, sum_below, multiple, Below, below_equal, RootOfUnity, sum_ext, product, identity_of, TwistedSubgroup, size, IsTwist, rank, regular_representatives, twisted_product, HasCharacteristic, residues_central_powers, Each, IsCentralCharacter, IsCharacterList, IsBefore, regular_sum, linear_value}
 use Rattle.std.proofs.Math.Nat.{div-add-mod, mod-eq_of_lt, mul-mod_right, mul_assoc, mul-one}
-use Rattle.std.proofs.lemmas.Bool.{cases_lt, cases_eq, eq-eqb}
-use mathlib.Core.Path.{fun_ext, ap₂}
 use Rattle.scan.specs.First.{all_below}
 use Rattle.scan.proofs.Places.{all_below-at, all_below-all}
-use Rattle.algebra.specs.Structures.{CommRing}
-use Rattle.algebra.specs.Sums.{sum_below, multiple}
-use Rattle.algebra.specs.Below.{Below, below_equal}
-use Rattle.algebra.specs.Roots.{RootOfUnity}
-use Rattle.algebra.proofs.SumLaws.{sum_ext}
 use Rattle.orders.specs.Order.{exponent_of}
-use Rattle.group_table.specs.Group.{product, identity_of}
 use Rattle.prime_field.specs.declared.mod_ring.ModRing.{ModRing}
 use Rattle.prime_field.specs.Moduli.{is_modulus}
 use Rattle.prime_field.specs.Field.{field, field_residue}
@@ -21,20 +12,13 @@ use Rattle.prime_field.specs.Laws.Moduli.{modulus_positive, modulus_over_one}
 use Rattle.prime_field.specs.Laws.Residues.{multiple_value}
 use Rattle.prime_field.specs.Laws.Field.{value_nought, nought_value, multiple_cancels, field_unit}
 use Rattle.prime_field.proofs.PolynomialValues.{residue_field}
-use Rattle.twisted.specs.Twist.{TwistedSubgroup, size, IsTwist}
-use Rattle.twisted.specs.Regular.{rank, regular_representatives}
-use Rattle.twisted.specs.Algebra.{twisted_product}
-use Rattle.power_theory.specs.Traces.{HasCharacteristic}
 use Rattle.centre_powers.specs.CentralPowers.{unit_period}
-use Rattle.centre_powers.proofs.FixedPowers.{residues_central_powers}
-use Rattle.splitting_theory.specs.Lists.{Each}
 use Rattle.splitting_theory.specs.Splitting.{IsFixed, ZeroTest, number, IsPiece, Precedes, IsSplitting, pieces}
 use Rattle.splitting_theory.specs.Algebras.{HasBasis, evaluate, IsCharacter, HasValues, Among}
 use Rattle.splitting_theory.proofs.Pieces.{pieces_split}
 use Rattle.splitting_theory.proofs.Coordinates.{of_number, evaluate_is}
 use Rattle.splitting_theory.proofs.Characters.{scale_equal, values_character, character_listed}
 use Rattle.splitting_theory.proofs.Counting.{splitting_counts}
-use Rattle.centre_algebra.specs.CentralCharacters.{IsCentralCharacter, IsCharacterList, IsBefore, regular_sum, linear_value}
 use Rattle.centre_algebra.specs.Laws.{AreCentralCharacters, CentreSplits}
 use Rattle.centre_algebra.proofs.CentreRing.{spread, spread_at, spread_below, Centre, centre_ring, centre_basis, basis_at, basis_product, product_at, scales, centre_fixed}
 use Rattle.centre_algebra.proofs.Numbers.{tabled, length-tabled, tabled_at, lists_equal, before_at, Zipped, zipped_each, zipped_pairwise, zipped_length}

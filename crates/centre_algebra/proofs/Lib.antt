@@ -1,3 +1,4 @@
 pub mod CentreRing
-pub mod Numbers
 pub mod CharacterLists
+pub mod Names
+pub mod Numbers

@@ -1,11 +1,7 @@
 -- Lists of numbers made place by place, and compared.
-use Rattle.std.proofs.Common.{◌≡◌, ℕ, zero, suc, ◌+◌, ◌<◌, ◌≤◌, List, [], ◌∷◌, ◌++◌, length, length-append, get_or, refl, sym, ◌∙◌, ap, arith, inl, inr, ◌⊎◌}
+use Rattle.centre_algebra.proofs.Names.{◌≡◌, ℕ, zero, suc, ◌+◌, ◌<◌, ◌≤◌, List, [], ◌∷◌, ◌++◌, length, length-append, get_or, refl, sym, ◌∙◌, ap, arith, inl, inr, ◌⊎◌, cases_lt, ap₂, Each, Pairwise, IsBefore}
 use Rattle.std.proofs.Math.Numerals.{add-one}
-use Rattle.std.proofs.lemmas.Bool.{cases_lt}
 use Rattle.std.proofs.lemmas.List.{get_or_append_left, get_or_push}
-use mathlib.Core.Path.{ap₂}
-use Rattle.splitting_theory.specs.Lists.{Each, Pairwise}
-use Rattle.centre_algebra.specs.CentralCharacters.{IsBefore}
 
 -- f 0, f 1, .., f (n - 1)
 abbrev pub tabled : ℕ → (ℕ → ℕ) → List ℕ

@@ -1,24 +1,18 @@
 -- The twisted group algebra as a ring, and as a crossed product.
-use Rattle.std.proofs.Common.{◌≡◌, ℕ, zero, suc, ◌+◌, ◌-◌, ◌*◌, ◌<◌, Bool, refl, sym, ◌∙◌, ap, arith}
-use mathlib.Core.Path.{fun_ext, ap₂}
-use Rattle.algebra.specs.Structures.{CommRing}
-use Rattle.algebra.specs.Sums.{sum_below, pick}
+use Rattle.centre_powers.proofs.Names.{◌≡◌, ℕ, zero, suc, ◌+◌, ◌-◌, ◌*◌, ◌<◌, Bool, refl, sym, ◌∙◌, ap, arith, fun_ext, ap₂, CommRing, sum_below, pick, Roots, pick_cong, pick_same, mul_pick, CrossedProduct}
 use Rattle.algebra.specs.Totals.{Finite, equals}
 use Rattle.algebra.specs.Groups.{Group}
-use Rattle.algebra.specs.Roots.{Roots}
 use Rattle.algebra.specs.Congruences.{Same}
 use Rattle.algebra.specs.Convolution.{IsTwoCocycle, twisted_convolution}
 use Rattle.algebra.proofs.CongruenceLaws.{same_of, same_trans, same_multiple}
 use Rattle.algebra.proofs.RingLaws.{one_mul, add_mul, product_rules}
 use Rattle.algebra.proofs.SumLaws as sums
-use Rattle.algebra.proofs.SumLaws.{pick_cong, pick_same, mul_pick}
 use Rattle.algebra.proofs.TotalLaws.{total_sum, total_ext, total_add, mul_total, total_pick, equals_true, equals_of}
 use Rattle.algebra.proofs.GroupLaws.{inv_one, op_op_inv, op_inv_cancel}
 use Rattle.algebra.proofs.ConvolutionLaws.{convolution_at, convolution_assoc}
 use Rattle.twisted.proofs.ConjugationPhases.{IsConjugationPhase}
 use Rattle.twisted.proofs.CentreLaws.{unit_at, times_unit, unit_times}
 use Rattle.power_theory.specs.Rings.{Ring, ring_sum}
-use Rattle.power_theory.specs.CrossedProducts.{CrossedProduct}
 use Rattle.power_theory.proofs.RingSums.{sum_zero, sum_suc}
 
 around : (n v : ℕ) → 0 < n → (n - 1) * v + v ≡ v * n

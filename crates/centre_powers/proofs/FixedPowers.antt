@@ -1,14 +1,8 @@
 -- The central elements of the algebra of a twist over a ring of characteristic q.
-use Rattle.std.proofs.Common.{◌≡◌, ◌≢◌, ℕ, true, Some, zero, suc, ◌+◌, ◌-◌, ◌*◌, ◌/◌, ◌%◌, ◌<◌, refl, sym, ◌∙◌, ap, arith}
+use Rattle.centre_powers.proofs.Names.{◌≡◌, ◌≢◌, ℕ, true, Some, zero, suc, ◌+◌, ◌-◌, ◌*◌, ◌/◌, ◌%◌, ◌<◌, refl, sym, ◌∙◌, ap, arith, fun_ext, ap₂, CommRing, multiple, power, RootOfUnity, power_mul, one_power, exponent_of, CrossedProduct}
 use Rattle.std.proofs.Math.Nat.{div-add-mod, mod-eq_of_lt, mul-mod_right, mul_assoc, mul_comm}
-use mathlib.Core.Path.{fun_ext, ap₂}
-use Rattle.algebra.specs.Structures.{CommRing}
-use Rattle.algebra.specs.Sums.{multiple, power}
 use Rattle.algebra.specs.Totals.{equals}
 use Rattle.algebra.specs.Below.{Below}
-use Rattle.algebra.specs.Roots.{RootOfUnity}
-use Rattle.algebra.proofs.SumLaws.{power_mul, one_power}
-use Rattle.orders.specs.Order.{exponent_of}
 use Rattle.orders.proofs.Exponents.{exponent_is_least}
 use Rattle.group_table.specs.Group.{product, identity_of}
 use Rattle.group_table.proofs.Sentences as group
@@ -28,7 +22,6 @@ use Rattle.prime_field.specs.Laws.Field.{value_nought, multiple_cancels, residue
 use Rattle.prime_field.proofs.RootOrder.{order_divides_units}
 use Rattle.power_theory.specs.Rings.{Ring, ring_power}
 use Rattle.power_theory.specs.Traces.{HasCharacteristic}
-use Rattle.power_theory.specs.CrossedProducts.{CrossedProduct}
 use Rattle.power_theory.proofs.RingSums as ring
 use Rattle.power_theory.proofs.CentralElements.{central_fixed, power_of_scaled}
 use Rattle.centre_powers.specs.CentralPowers.{unit_period, CentralPowers}

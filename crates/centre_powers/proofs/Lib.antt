@@ -1,2 +1,3 @@
 pub mod ConvolutionRing
 pub mod FixedPowers
+pub mod Names

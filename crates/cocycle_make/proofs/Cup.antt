@@ -1,16 +1,6 @@
 -- A product of an additive map and a 2-cocycle is a 3-cocycle (cup product).
-use Rattle.std.proofs.Common.{◌≡◌, ℕ, ◌+◌, ◌*◌, ◌/◌, ◌%◌, ◌<◌, None, refl, sym, ap, ◌∙◌, arith}
-use Rattle.std.proofs.Math.Nat.{zero-mod, mul-add, add-mul, mul_assoc, mul_comm}
-use Rattle.std.proofs.lemmas.Nat.{div-add-mod'}
-use Rattle.algebra.specs.Congruences.{Same}
-use Rattle.algebra.proofs.CongruenceLaws.{same_of, same_sym, same_trans, same_add_right, same_mul_left, same_mul_right}
-use Rattle.orders.specs.Group.{IsGroupBelow}
-use Rattle.group_table.specs.Group.{product, identity_of}
-use Rattle.group_make.specs.Formulas.{table_by}
+use Rattle.cocycle_make.proofs.Names.{◌≡◌, ℕ, ◌+◌, ◌*◌, ◌/◌, ◌%◌, ◌<◌, None, refl, sym, ap, ◌∙◌, arith, zero-mod, mul-add, add-mul, mul_assoc, mul_comm, div-add-mod', Same, same_of, same_sym, same_trans, same_add_right, same_mul_left, same_mul_right, IsGroupBelow, product, identity_of, table_by, exponents_by, cochain_of, cocycle_fault, IsLawful, lawful}
 use Rattle.group_make.proofs.Tables.{product_by, table_group, table_identity}
-use Rattle.cochain.specs.Cochain.{exponents_by, cochain_of, cocycle_fault}
-use Rattle.cochain.specs.Laws.{IsLawful}
-use Rattle.cochain.proofs.Lawful.{lawful}
 
 -- laws for a formula of products are laws for its table
 pub lawful_by : (n e : ℕ) (op : ℕ → ℕ → ℕ) → IsGroupBelow n op e → (roots : ℕ) (at : ℕ → ℕ → ℕ → ℕ) → IsLawful n op e roots at

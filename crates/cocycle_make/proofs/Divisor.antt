@@ -1,13 +1,5 @@
 -- The greatest common divisor divides both numbers, and what is left of each.
-use Rattle.std.proofs.Common.{◌≡◌, ℕ, zero, suc, ◌+◌, ◌*◌, ◌/◌, ◌%◌, ◌<◌, ◌≤◌, Bool, true, false, ◌&&◌, nat_eq, cond, refl, sym, ap, ◌∙◌, arith, add-one}
-use Rattle.std.proofs.Math.Nat.{mod-lt, mod-one, div-le_self, mul_comm, mul_assoc}
-use Rattle.std.proofs.lemmas.Nat.{div-add-mod', le-div}
-use Rattle.std.proofs.lemmas.Bool.{eqb-true}
-use Rattle.scan.proofs.Places.{and_true}
-use Rattle.algebra.specs.Congruences.{Same}
-use Rattle.algebra.proofs.CongruenceLaws.{same_of, same_trans, same_multiple}
-use Rattle.cocycle_make.specs.Divisors.{greatest, divides_both, common_divisor}
-use Rattle.cocycle_make.specs.Cocycles.{roots_of, step_of}
+use Rattle.cocycle_make.proofs.Names.{◌≡◌, ℕ, zero, suc, ◌+◌, ◌*◌, ◌/◌, ◌%◌, ◌<◌, ◌≤◌, Bool, true, false, ◌&&◌, nat_eq, cond, refl, sym, ap, ◌∙◌, arith, add-one, mod-lt, mod-one, div-le_self, mul_comm, mul_assoc, div-add-mod', le-div, eqb-true, and_true, Same, same_of, same_trans, same_multiple, greatest, divides_both, common_divisor, roots_of, step_of}
 
 pub greatest-zero : (test : ℕ → Bool) → greatest 0 test ≡ 0
 unfolding greatest

@@ -1,19 +1,8 @@
 -- A cocycle of the images under a map that respects products is a cocycle.
-use Rattle.std.proofs.Common.{◌≡◌, ℕ, ◌%◌, ◌<◌, Bool, true, false, cond, List, None, Some, refl, sym, ap, ◌∙◌}
-use Rattle.std.specs.Prelude.{slice_index}
-use Rattle.std.proofs.Math.Nat.{zero-mod}
-use Rattle.std.proofs.lemmas.Bool.{eqb-true}
-use Rattle.scan.proofs.Places.{first_none-at}
-use Rattle.orders.specs.Group.{IsGroupBelow}
-use Rattle.group_table.specs.Group.{Table, product, identity_of, IsGroup}
+use Rattle.cocycle_make.proofs.Names.{◌≡◌, ℕ, ◌%◌, ◌<◌, Bool, true, false, cond, List, None, Some, refl, sym, ap, ◌∙◌, slice_index, zero-mod, eqb-true, first_none-at, IsGroupBelow, Table, product, identity_of, IsGroup, Cochain, value, cocycle_fault, IsCocycle, IsLawful, lawful, inflated, is_multiplicative, map_fault}
 use Rattle.group_table.proofs.Sentences.{group_below, identity_below}
-use Rattle.cochain.specs.Cochain.{Cochain, value, cocycle_fault, IsCocycle}
 use Rattle.cochain.proofs.Sentences.{first_one, second_one, third_one, closed_at}
-use Rattle.cochain.specs.Laws.{IsLawful}
-use Rattle.cochain.proofs.Lawful.{lawful}
 use Rattle.scan.proofs.Searches.{passes}
-use Rattle.cocycle_make.specs.Cocycles.{inflated}
-use Rattle.cocycle_make.specs.Refusal.{is_multiplicative, map_fault}
 use Rattle.cocycle_make.specs.declared.refusal.InflateRefusal.TheVariants.{BadMap}
 
 -- an element that is its own square is the identity

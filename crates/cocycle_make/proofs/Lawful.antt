@@ -1,17 +1,8 @@
 -- The formulas give normalised 3-cocycles.
-use Rattle.std.proofs.Common.{◌≡◌, ℕ, ◌+◌, ◌*◌, ◌/◌, ◌%◌, ◌<◌, None, refl, ap, ◌∙◌, arith}
-use Rattle.std.proofs.Math.Nat.{mod-lt, zero-mod, zero-div, mul-add, add-mul, mod-mod_of_dvd}
+use Rattle.cocycle_make.proofs.Names.{◌≡◌, ℕ, ◌+◌, ◌*◌, ◌/◌, ◌%◌, ◌<◌, None, refl, ap, ◌∙◌, arith, mod-lt, zero-mod, zero-div, mul-add, add-mul, mod-mod_of_dvd, Same, same_refl, same_of, same_sym, same_trans, same_mod, same_add, same_add_left, same_mul_left, same_mul_right, same_add_multiple, Table, IsGroup, cyclic_product, triple_product, cocycle_fault, lawful, common_divisor, carry, roots_of, step_of, trivial_cocycle, type_one_cocycle, type_two_cocycle, divisor_of_three, type_three_cocycle}
 use Rattle.std.proofs.lemmas.Nat.Gcd.{dvd_of_mod-eq-zero, mod-eq-zero_of_dvd, dvd_trans}
-use Rattle.algebra.specs.Congruences.{Same}
-use Rattle.algebra.proofs.CongruenceLaws.{same_refl, same_of, same_sym, same_trans, same_mod, same_add, same_add_left, same_mul_left, same_mul_right, same_add_multiple}
-use Rattle.group_table.specs.Group.{Table, IsGroup}
-use Rattle.group_make.specs.Formulas.{cyclic_product, triple_product}
 use Rattle.group_make.proofs.Extensions.{cyclic_below}
 use Rattle.group_make.proofs.FormulaGroups.{product_below}
-use Rattle.cochain.specs.Cochain.{cocycle_fault}
-use Rattle.cochain.proofs.Lawful.{lawful}
-use Rattle.cocycle_make.specs.Divisors.{common_divisor}
-use Rattle.cocycle_make.specs.Cocycles.{carry, roots_of, step_of, trivial_cocycle, type_one_cocycle, type_two_cocycle, divisor_of_three, type_three_cocycle}
 use Rattle.cocycle_make.proofs.Divisor.{Divides, divisor, lowest_terms}
 use Rattle.cocycle_make.proofs.Cup.{lawful_by, IsCup, cup}
 use Rattle.cocycle_make.proofs.Products.{carry_zero_left, carry_zero_right, carry_closed, pair_of, first_of, second_of, third_of}

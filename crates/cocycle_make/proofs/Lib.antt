@@ -1,6 +1,7 @@
-pub mod Divisor
 pub mod Cup
-pub mod Products
-pub mod Lawful
+pub mod Divisor
 pub mod Inflated
+pub mod Lawful
 pub mod Made
+pub mod Names
+pub mod Products

@@ -1,9 +1,6 @@
 -- From the parts that the code makes to the cocycle of a formula.
-use Rattle.std.proofs.Common.{◌≡◌, ℕ, ◌*◌, ◌<◌, ◌≤◌, None, List}
-use Rattle.group_table.specs.Group.{Table, IsSmall}
-use Rattle.group_make.specs.Formulas.{cyclic_group, product_group}
+use Rattle.cocycle_make.proofs.Names.{◌≡◌, ℕ, ◌*◌, ◌<◌, ◌≤◌, None, List, Table, IsSmall, cyclic_group, product_group, cochain_of, exponents_by, cocycle_fault}
 use Rattle.group_make.proofs.Bounds.{small_factors}
-use Rattle.cochain.specs.Cochain.{cochain_of, exponents_by, cocycle_fault}
 
 pub made : (t t' : Table) (roots roots' order : ℕ) (exponents : List ℕ) (at at' : ℕ → ℕ → ℕ → ℕ)
     → t ≡ t' → roots ≡ roots' → order ≡ t.order → at ≡ at' → exponents ≡ exponents_by order at

@@ -1,10 +1,5 @@
 -- Carries, and the coordinates of a product of triples.
-use Rattle.std.proofs.Common.{◌≡◌, ℕ, ◌+◌, ◌-◌, ◌*◌, ◌/◌, ◌%◌, ◌<◌, ◌≤◌, Bool, true, false, nat_le, cond, refl, sym, ap, ◌∙◌, arith}
-use Rattle.std.proofs.Math.Nat.{mod-lt, mod-eq_of_lt, add-mod-mod, mod-add-mod, add-mul-mod_self_left, eq_of_mul-eq-mul_left, mul-add}
-use Rattle.std.proofs.lemmas.Nat.{div-mul-add, mod-mul-add}
-use Rattle.std.proofs.lemmas.Bool.{leb-true, leb-false}
-use Rattle.group_make.specs.Formulas.{triple_product}
-use Rattle.cocycle_make.specs.Cocycles.{carry}
+use Rattle.cocycle_make.proofs.Names.{◌≡◌, ℕ, ◌+◌, ◌-◌, ◌*◌, ◌/◌, ◌%◌, ◌<◌, ◌≤◌, Bool, true, false, nat_le, cond, refl, sym, ap, ◌∙◌, arith, mod-lt, mod-eq_of_lt, add-mod-mod, mod-add-mod, add-mul-mod_self_left, eq_of_mul-eq-mul_left, mul-add, div-mul-add, mod-mul-add, leb-true, leb-false, triple_product, carry}
 
 -- the carry is what the remainder leaves
 pub carry_is : (b y z : ℕ) → y < b → z < b → b * carry b y z + (y + z) % b ≡ y + z

@@ -1,15 +1,6 @@
 -- A parse takes plain words, and finds the first as the command and the others as the values.
-use Rattle.std.proofs.Common.{◌≡◌, Bool, true, false, ◌&&◌, cond, List, [], ◌∷◌, Some, Option, refl, sym, ap, ◌∙◌, codes, drop}
-use Rattle.std.specs.Prelude.{is_some, unwrap_or}
-use Rattle.std.specs.List.{list_all}
-use Rattle.clap.specs.Walk.{Held, Row, Text, walk, nothing_held, finished, settled, first_of, all_of}
-use Rattle.clap.specs.Simple.{built, is_simple, matches_of}
-use Rattle.clap.specs.Takes.{takes, level_passes, default_passes, is_valid}
+use Rattle.command_words.proofs.Names.{◌≡◌, Bool, true, false, ◌&&◌, cond, List, [], ◌∷◌, Some, Option, refl, sym, ap, ◌∙◌, codes, drop, is_some, unwrap_or, list_all, Held, Row, Text, walk, nothing_held, finished, settled, first_of, all_of, built, is_simple, matches_of, takes, level_passes, default_passes, is_valid, clap_on_literals, are_plain, command_line, found_in}
 use Rattle.clap.proofs.TakesLemmas.{leaf_takes}
-use Rattle.clap.proofs.OnLiterals.{clap_on_literals}
-use Rattle.command_words.specs.PlainWords.{are_plain}
-use Rattle.command_words.specs.CommandLine.{command_line}
-use Rattle.command_words.specs.Found.{found_in}
 use Rattle.command_words.proofs.Walk.{rules, words_end}
 
 pub is_simple_line : is_simple command_line ≡ true

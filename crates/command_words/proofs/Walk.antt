@@ -1,14 +1,5 @@
 -- How a parse goes over plain words: each goes to the positional that is next, and the last one takes all that are left.
-use Rattle.std.proofs.Common.{◌≡◌, ℕ, Bool, true, false, not, ◌&&◌, nat_eq, List, [], ◌∷◌, ◌++◌, Some, None, refl, ap, ◌∙◌, codes}
-use Rattle.std.specs.Prelude.{fold}
-use Rattle.std.specs.List.{list_all}
-use Rattle.clap.specs.Walk.{Row, Rule, Text, Walk, walked, walk_from, settled, nothing_held, idle, positional}
-use Rattle.clap.specs.Simple.{built}
-use Rattle.clap.specs.Takes.{turn_passes, walk_passes, settle_passes}
-use Rattle.clap.proofs.OnLiterals.{clap_on_literals}
-use Rattle.command_words.specs.PlainWords.{is_plain, are_plain}
-use Rattle.command_words.specs.CommandLine.{command_line}
-use Rattle.command_words.specs.Found.{found_in}
+use Rattle.command_words.proofs.Names.{◌≡◌, ℕ, Bool, true, false, not, ◌&&◌, nat_eq, List, [], ◌∷◌, ◌++◌, Some, None, refl, ap, ◌∙◌, codes, fold, list_all, Row, Rule, Text, Walk, walked, walk_from, settled, nothing_held, idle, positional, built, turn_passes, walk_passes, settle_passes, clap_on_literals, is_plain, are_plain, command_line, found_in}
 
 -- the arguments as they are built
 abbrev pub rules : List Rule

@@ -1,8 +1,6 @@
 -- Lines that were added so far are a front of all lines.
-use Rattle.std.proofs.Common.{◌≡◌, ℕ, zero, suc, ◌+◌, ◌≤◌, List, [], ◌++◌, refl, sym, ap, ◌∙◌, append_assoc, arith, add-one, ◌⊎◌, inl, inr}
-use Rattle.std.specs.Prelude.{Result, Ok, Err, OnErr}
+use Rattle.data_print.proofs.Names.{◌≡◌, ℕ, zero, suc, ◌+◌, ◌≤◌, List, [], ◌++◌, refl, sym, ap, ◌∙◌, append_assoc, arith, add-one, ◌⊎◌, inl, inr, Result, Ok, Err, OnErr, first_lines, AddsFront}
 use Rattle.std.proofs.lemmas.List.{append-nil}
-use Rattle.data_print.specs.Text.{first_lines, AddsFront}
 
 pub first_lines-step : (line : ℕ → List ℕ) (n : ℕ) → first_lines line (n + 1) ≡ first_lines line n ++ line n
 unfolding first_lines

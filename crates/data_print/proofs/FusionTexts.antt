@@ -1,11 +1,7 @@
 -- The lines of a pair's results are those of all simples whose number is over 0.
-use Rattle.std.proofs.Common.{◌≡◌, ℕ, zero, suc, ◌+◌, ◌-◌, ◌⊎◌, inl, inr, Bool, true, false, cond, nat_lt, List, [], ◌∷◌, ◌++◌, map, refl, sym, ap, ◌∙◌, arith}
+use Rattle.data_print.proofs.Names.{◌≡◌, ℕ, zero, suc, ◌+◌, ◌-◌, ◌⊎◌, inl, inr, Bool, true, false, cond, nat_lt, List, [], ◌∷◌, ◌++◌, map, refl, sym, ap, ◌∙◌, arith, flat_map_more, WebEntries, count_of, row_of, first_lines, number_line, product_text}
 use Rattle.std.specs.List.{filter, flat_map, range_with_len}
-use Rattle.std.proofs.lemmas.List.{flat_map_more}
 use Rattle.std.proofs.lemmas.List.Concat.{flat_map-cons}
-use Rattle.fusion_web.specs.Entries.{WebEntries, count_of, row_of}
-use Rattle.data_print.specs.Text.{first_lines}
-use Rattle.data_print.specs.FusionLines.{number_line, product_text}
 
 -- the lines of these results of i and j
 abbrev pub results_text : ℕ → ℕ → List (ℕ × ℕ) → List ℕ

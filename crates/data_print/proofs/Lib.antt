@@ -1,5 +1,6 @@
-pub mod Ranks
 pub mod Fronts
+pub mod Names
+pub mod Ranks
 mod ValueTexts
 mod Places
 mod FusionTexts

@@ -1,10 +1,9 @@
 -- The places of the centraliser of a simple.
-use Rattle.std.proofs.Common.{◌≡◌, ℕ, ◌<◌, length, refl, sym, ap, ◌∙◌}
+use Rattle.data_print.proofs.Names.{◌≡◌, ℕ, ◌<◌, length, refl, sym, ap, ◌∙◌, SimplesOver, AreSimples, class_at, over_at}
 use Rattle.classes.specs.Conjugacy.{centraliser_of, representative_at}
 use Rattle.cochain.specs.Cochain.{Cochain}
 use Rattle.slant.specs.Twists.{twist_of}
 use Rattle.twisted.specs.Twist.{size}
-use Rattle.transport.specs.Simples.{SimplesOver, AreSimples, class_at, over_at}
 
 centraliser_size : (w : Cochain) (a : ℕ) → size (twist_of w a) ≡ length (centraliser_of w.group a)
 unfolding twist_of

@@ -1,6 +1,5 @@
 -- The sum of few small ranks.
-use Rattle.std.proofs.Common.{ℕ, ◌*◌, ◌≤◌, ◌<◌, ◌^◌, List, length, All, arith}
-use Rattle.std.specs.Prelude.{sum}
+use Rattle.data_print.proofs.Names.{ℕ, ◌*◌, ◌≤◌, ◌<◌, ◌^◌, List, length, All, arith, sum}
 use Rattle.std.proofs.lemmas.List.Sums.{sum_by-le}
 
 pub sum_small : (xs : List ℕ) → length xs ≤ 60 → All (λ x. x ≤ 60) xs → sum xs < 2 ^ 32

@@ -1,8 +1,5 @@
 -- The text of a value, by its coefficients and by the array of them.
-use Rattle.std.proofs.Common.{◌≡◌, ℕ, zero, suc, ◌-◌, Bool, true, false, List, [], ◌∷◌, ◌++◌, length, refl, sym, ap, ◌∙◌, eqb}
-use Rattle.std.specs.Prelude.{ℤ, pos, nat_abs}
-use Rattle.std.proofs.lemmas.List.{flat_map_more}
-use Rattle.cyclotomic.specs.CyclotomicRing.{cyclotomic_value}
+use Rattle.data_print.proofs.Names.{◌≡◌, ℕ, zero, suc, ◌-◌, Bool, true, false, List, [], ◌∷◌, ◌++◌, length, refl, sym, ap, ◌∙◌, eqb, ℤ, pos, nat_abs, flat_map_more, cyclotomic_value, value_word, value_words}
 use Rattle.cyclotomic.specs.Ring.{Value}
 use Rattle.cyclotomic.specs.Polynomial.{zeros}
 use Rattle.qd_ring.specs.CycArrays.{array_of}
@@ -10,7 +7,6 @@ use Rattle.qd_ring.specs.ValueText.{term_text, terms_text, or_nought, value_text
 use Rattle.qd_ring.specs.declared.cyc.Cyc.{Cyc}
 use Rattle.qd_ring.proofs.CycSums.{array-of_value}
 use Rattle.qd_ring.proofs.ValueTextLaws.{terms_nil, terms_nought, terms_term}
-use Rattle.data_print.specs.Values.{value_word, value_words}
 
 -- zeros have no terms
 terms_of_zeros : (later : Bool) (p n : ℕ) → terms_text later p (zeros n) ≡ []

@@ -1,17 +1,11 @@
 -- The centre of a twisted group algebra by its structure, and the lists of the numbers at its pieces.
-use Rattle.dixon_split.proofs.Names.{◌≡◌, ℕ, ◌*◌, ◌%◌, ◌<◌, ◌≤◌, true, Bool, List, [], ◌∷◌, length, get_or, refl, sym, ◌∙◌, ap, subst, CommRing, sum_below, Below, sum_ext, ModRing, is_modulus, field_residue, AreBelow, residue_of_value, TwistedSubgroup, size, IsTwist, rank, regular_representatives, twisted_product, regular_sum, IsFixed, ZeroTest, number, IsSplitting, AreCentralCharacters, Zipped, residue_field}
+use Rattle.dixon_split.proofs.Names.{◌≡◌, ℕ, ◌*◌, ◌%◌, ◌<◌, ◌≤◌, true, Bool, List, [], ◌∷◌, length, get_or, refl, sym, ◌∙◌, ap, subst, CommRing, sum_below, Below, sum_ext, ModRing, is_modulus, field_residue, AreBelow, residue_of_value, TwistedSubgroup, size, IsTwist, rank, regular_representatives, twisted_product, regular_sum, IsFixed, ZeroTest, number, IsSplitting, AreCentralCharacters, Zipped, residue_field, divides, R, U, C, E, fixed, nought_test, AreNumbers, lists_characters, number_at, image_at, constant_value, Element, constant, HasStructure, IsCentreOf, Structure}
 use Rattle.std.proofs.Math.Bool.{Bool-set}
 use Rattle.std.specs.declared.vec.Vec.{Vec}
 use Rattle.std.specs.declared.alloc.Global.{Global}
 use Rattle.centre_powers.specs.CentralPowers.{unit_period}
 use Rattle.splitting_theory.proofs.Counting.{splitting_counts}
 use Rattle.centre_algebra.proofs.CentreRing.{unit_at_place}
-use Rattle.centre_algebra.proofs.CharacterLists.{divides, R, U, C, E, fixed, nought_test, AreNumbers, lists_characters, number_at, image_at}
-use Rattle.dixon_split.specs.ClassSums.{constant_value}
-use Rattle.dixon_split.specs.Elements.{Element}
-use Rattle.dixon_split.specs.Structures.{constant, HasStructure}
-use Rattle.dixon_split.specs.Values.{IsCentreOf}
-use Rattle.dixon_split.specs.declared.structure.Structure.{Structure}
 
 -- the numbers by which the basis multiplies e
 pub record AreNumbersAt (a : Structure) (Z : CommRing (Element a.q a.rank)) (H : HasStructure a Z) (e : Element a.q a.rank) (values : List ℕ) : Type 0 where

@@ -1,19 +1,12 @@
 -- Class sums and their products, number by number.
-use Rattle.dixon_split.proofs.Names.{◌≡◌, ℕ, zero, suc, ◌+◌, ◌*◌, ◌/◌, ◌%◌, ◌<◌, ◌≤◌, true, List, length, get_or, refl, sym, ◌∙◌, ap, subst, arith, zero-mod, mod-eq_of_lt, mod-lt, mul-le, ap₂, CommRing, sum_below, Below, mul_nought, sum_zero, sum_ext, ModRing, is_modulus, field, field_residue, AreBelow, IsTabulated, residue_of_value, row_of, column_at, TwistedSubgroup, size, phase, IsTwist, rank, regular_representatives, left_quotient, root, twisted_product, regular_sum}
+use Rattle.dixon_split.proofs.Names.{◌≡◌, ℕ, zero, suc, ◌+◌, ◌*◌, ◌/◌, ◌%◌, ◌<◌, ◌≤◌, true, List, length, get_or, refl, sym, ◌∙◌, ap, subst, arith, zero-mod, mod-eq_of_lt, mod-lt, mul-le, ap₂, CommRing, sum_below, Below, mul_nought, sum_zero, sum_ext, ModRing, is_modulus, field, field_residue, AreBelow, IsTabulated, residue_of_value, row_of, column_at, TwistedSubgroup, size, phase, IsTwist, rank, regular_representatives, left_quotient, root, twisted_product, regular_sum, slice_range, div-lt_iff_lt-mul, nought_add, nought_mul, sum_suc, at_slice, place_in, length_slice, values_below, product_term, residue_root, residues_at, sum_number, term_at, product_value, constant_value, constant_number}
 use Rattle.std.proofs.Common.{add-one}
-use Rattle.std.specs.Prelude.{slice_range}
-use Rattle.std.proofs.Math.Nat.{div-lt_iff_lt-mul}
-use Rattle.algebra.proofs.RingLaws.{nought_add, nought_mul}
-use Rattle.algebra.proofs.SumLaws.{sum_suc}
 use Rattle.group_table.specs.Group.{Table, product, inverse}
 use Rattle.group_table.proofs.Numbers.{length-passing_below}
-use Rattle.prime_field.proofs.ResidueSums.{at_slice}
-use Rattle.prime_field.proofs.ResidueRows.{place_in, length_slice, values_below}
-use Rattle.twisted.specs.Algebra.{product_term}
 use Rattle.twisted.proofs.Translation.{table_group}
 use Rattle.twisted.proofs.Representatives.{length-regular_representatives}
 use Rattle.twisted.proofs.RegularClasses.{representatives_listed, other_test, representative_below_at}
-use Rattle.dixon_split.specs.ClassSums.{residue_field, residue_root, residues_at, sum_number, term_at, product_value, constant_value, constant_number}
+use Rattle.dixon_split.specs.ClassSums.{residue_field}
 use Rattle.dixon_split.proofs.Lists.{rows_below}
 use Rattle.dixon_split.proofs.Residues.{constant_below}
 

@@ -1,14 +1,7 @@
 -- Powers, Horner's sums and parts, number by number.
-use Rattle.dixon_split.proofs.Names.{◌≡◌, ℕ, zero, suc, ◌+◌, ◌-◌, ◌*◌, ◌<◌, ◌≤◌, List, [], ◌++◌, length, length-append, get_or, refl, sym, ◌∙◌, ap, subst, arith, inl, inr, ◌⊎◌, zero-mod, suc-mul, add-one, mul-le, modulus_bound, cases_lt, get_or_append_left, get_or-append-add, fun_ext, ap₂, CommRing, Below, power, field, field_residue, IsTabulated, residue_of_value, number, part}
-use Rattle.std.proofs.lemmas.List.{get_or-append_right}
-use Rattle.algebra.proofs.RingLaws.{one_mul}
-use Rattle.algebra.proofs.SumLaws.{power_zero, power_suc}
+use Rattle.dixon_split.proofs.Names.{◌≡◌, ℕ, zero, suc, ◌+◌, ◌-◌, ◌*◌, ◌<◌, ◌≤◌, List, [], ◌++◌, length, length-append, get_or, refl, sym, ◌∙◌, ap, subst, arith, inl, inr, ◌⊎◌, zero-mod, suc-mul, add-one, mul-le, modulus_bound, cases_lt, get_or_append_left, get_or-append-add, fun_ext, ap₂, CommRing, Below, power, field, field_residue, IsTabulated, residue_of_value, number, part, get_or-append_right, one_mul, power_zero, power_suc, Element, IsElement, residues, HasStructure, ArePowers, horner_value, part_value, Structure}
 use Rattle.splitting_theory.specs.Splitting.{horner}
 use Rattle.splitting_theory.proofs.Parts.{horner_zero, horner_suc, part_is}
-use Rattle.dixon_split.specs.Elements.{Element, IsElement}
-use Rattle.dixon_split.specs.Structures.{residues, HasStructure}
-use Rattle.dixon_split.specs.Layers.{ArePowers, horner_value, part_value}
-use Rattle.dixon_split.specs.declared.structure.Structure.{Structure}
 use Rattle.dixon_split.proofs.Lists.{rows_below}
 
 module _ (a : Structure) (t : ℕ) (e : List ℕ) where

@@ -1,8 +1,5 @@
 -- Lists of one width that stand one after another.
-use Rattle.dixon_split.proofs.Names.{◌≡◌, ℕ, zero, suc, ◌+◌, ◌*◌, ◌/◌, ◌%◌, ◌<◌, ◌≤◌, List, [], ◌∷◌, ◌++◌, length, take, get_or, All, refl, sym, ap, subst, ◌∙◌, arith, concat, suc-mul, All-nil, All-cons}
-use Rattle.std.proofs.Common.{drop}
-use Rattle.std.proofs.lemmas.List.{take-append-drop, length-take-le, length-drop, get_or-take, get_or-drop}
-use Rattle.std.proofs.Math.Nat.{mul-le-mul_right}
+use Rattle.dixon_split.proofs.Names.{◌≡◌, ℕ, zero, suc, ◌+◌, ◌*◌, ◌/◌, ◌%◌, ◌<◌, ◌≤◌, List, [], ◌∷◌, ◌++◌, length, take, get_or, All, refl, sym, ap, subst, ◌∙◌, arith, concat, suc-mul, All-nil, All-cons, drop, take-append-drop, length-take-le, length-drop, get_or-take, get_or-drop, mul-le-mul_right}
 use Rattle.dixon_split.specs.CentralLists.{CentralLists, lists_of, central_lists, central_value}
 
 pub length-lists_of : (w n : ℕ) (numbers : List ℕ) → length (lists_of w n numbers) ≡ n

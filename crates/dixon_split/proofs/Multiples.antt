@@ -1,9 +1,5 @@
 -- Numbers by which an element of the basis multiplies an element.
-use Rattle.dixon_split.proofs.Names.{◌≡◌, ℕ, ◌*◌, ◌%◌, ◌<◌, Bool, true, false, cond, Option, Some, None, IfSome, IfNone, List, get_or, refl, sym, ◌∙◌, ap, subst, arith, eqb-true, eqb, mod-eq_of_lt, eq-eqb, fun_ext, all_below, first, all_below-at, all_below-all, first_some, first_none-at, CommRing, Below, below_equal, field, field_residue, number, Acts}
-use Rattle.std.proofs.lemmas.Nat.{mul-mod_first, mul-mod_second}
-use Rattle.dixon_split.specs.Elements.{Element, IsElement}
-use Rattle.dixon_split.specs.Structures.{residues, HasStructure}
-use Rattle.dixon_split.specs.declared.structure.Structure.{Structure}
+use Rattle.dixon_split.proofs.Names.{◌≡◌, ℕ, ◌*◌, ◌%◌, ◌<◌, Bool, true, false, cond, Option, Some, None, IfSome, IfNone, List, get_or, refl, sym, ◌∙◌, ap, subst, arith, eqb-true, eqb, mod-eq_of_lt, eq-eqb, fun_ext, all_below, first, all_below-at, all_below-all, first_some, first_none-at, CommRing, Below, below_equal, field, field_residue, number, Acts, mul-mod_first, mul-mod_second, Element, IsElement, residues, HasStructure, Structure}
 
 -- what the test at v finds
 abbrev pub multiple_test : Structure → List ℕ → List ℕ → ℕ → Bool

@@ -1,10 +1,6 @@
 -- Parts that are added to a list, and those that are nought and left out.
-use Rattle.dixon_split.proofs.Names.{◌≡◌, ◌≢◌, ℕ, suc, true, false, List, [], ◌∷◌, ◌++◌, map, get_or, append_assoc, refl, sym, ◌∙◌, ap, arith, eqb-true, eqb, mod-eq_of_lt, eq-eqb, fun_ext, ap₂, all_below, all_below-at, all_below-all, CommRing, field_residue, ZeroTest, part, parts_below}
+use Rattle.dixon_split.proofs.Names.{◌≡◌, ◌≢◌, ℕ, suc, true, false, List, [], ◌∷◌, ◌++◌, map, get_or, append_assoc, refl, sym, ◌∙◌, ap, arith, eqb-true, eqb, mod-eq_of_lt, eq-eqb, fun_ext, ap₂, all_below, all_below-at, all_below-all, CommRing, field_residue, ZeroTest, part, parts_below, parts_zero, parts_skip, parts_keep, test_true, test_false, Element, IsElement, residues, HasStructure, Structure}
 use Rattle.prime_field.specs.Laws.Field.{nought_value}
-use Rattle.splitting_theory.proofs.Pieces.{parts_zero, parts_skip, parts_keep, test_true, test_false}
-use Rattle.dixon_split.specs.Elements.{Element, IsElement}
-use Rattle.dixon_split.specs.Structures.{residues, HasStructure}
-use Rattle.dixon_split.specs.declared.structure.Structure.{Structure}
 
 pub map_push : {X Y : Type 0} (f : X → Y) (xs : List X) (x : X) → map f (xs ++ x ∷ []) ≡ map f xs ++ f x ∷ []
 map_push f [] x = refl

@@ -1,11 +1,7 @@
 -- The number by which an element of the basis multiplies an element, from one place at which the element isn't 0.
-use Rattle.dixon_split.proofs.Names.{◌≡◌, ◌≢◌, ℕ, ◌*◌, ◌%◌, ◌<◌, Bool, true, false, cond, Option, Some, None, List, get_or, refl, sym, ◌∙◌, ap, subst, arith, eqb-true, eqb, mod-eq_of_lt, zero-mod, eq-eqb, fun_ext, first, first_some, first_none-at, CommRing, Below, below_equal, mul_nought, field, field_residue, number, Acts}
-use Rattle.std.proofs.Common.{unwrap_or}
+use Rattle.dixon_split.proofs.Names.{◌≡◌, ◌≢◌, ℕ, ◌*◌, ◌%◌, ◌<◌, Bool, true, false, cond, Option, Some, None, List, get_or, refl, sym, ◌∙◌, ap, subst, arith, eqb-true, eqb, mod-eq_of_lt, zero-mod, eq-eqb, fun_ext, first, first_some, first_none-at, CommRing, Below, below_equal, mul_nought, field, field_residue, number, Acts, unwrap_or, Element, IsElement, image_value, residues, HasStructure, Structure}
 use Rattle.algebra.specs.Fields.{Field}
 use Rattle.prime_field.proofs.PolynomialValues.{residue_field}
-use Rattle.dixon_split.specs.Elements.{Element, IsElement}
-use Rattle.dixon_split.specs.Structures.{image_value, residues, HasStructure}
-use Rattle.dixon_split.specs.declared.structure.Structure.{Structure}
 use Rattle.dixon_split.proofs.Multiples.{chosen, not_chosen, least_below, product_residue}
 use Rattle.dixon_split.proofs.Residues.{image_below}
 

@@ -1,12 +1,7 @@
 -- The parts of the pieces so far, and of one more.
-use Rattle.dixon_split.proofs.Names.{◌≡◌, ℕ, zero, suc, ◌+◌, ◌<◌, ◌≤◌, ◌≢◌, Bool, true, false, cond, All, Option, Some, None, IfSome, IfNone, List, [], ◌∷◌, ◌++◌, map, take, length, get_or, append_assoc, refl, sym, ◌∙◌, ap, subst, arith, flat_map, add-one, eqb, All-nil, All-cons, fun_ext, CommRing, field, field_residue, IsTabulated, modulus_positive, Each, IsFixed, ZeroTest, IsPiece, pieces, pieces_split}
+use Rattle.dixon_split.proofs.Names.{◌≡◌, ℕ, zero, suc, ◌+◌, ◌<◌, ◌≤◌, ◌≢◌, Bool, true, false, cond, All, Option, Some, None, IfSome, IfNone, List, [], ◌∷◌, ◌++◌, map, take, length, get_or, append_assoc, refl, sym, ◌∙◌, ap, subst, arith, flat_map, add-one, eqb, All-nil, All-cons, fun_ext, CommRing, field, field_residue, IsTabulated, modulus_positive, Each, IsFixed, ZeroTest, IsPiece, pieces, pieces_split, pick_true, pick_false, modulus_over_one, Element, IsElement, residues, HasStructure, Structure}
 use Rattle.algebra.specs.Sums.{pick}
-use Rattle.algebra.proofs.SumLaws.{pick_true, pick_false}
-use Rattle.prime_field.specs.Laws.Moduli.{modulus_over_one}
 use Rattle.splitting_theory.proofs.Lists.{each_map}
-use Rattle.dixon_split.specs.Elements.{Element, IsElement}
-use Rattle.dixon_split.specs.Structures.{residues, HasStructure}
-use Rattle.dixon_split.specs.declared.structure.Structure.{Structure}
 use Rattle.dixon_split.proofs.PushedParts.{append_none}
 
 pub some_at : {X : Type 0} (o : Option X) (x : X) (P : X → Type 0) → o ≡ Some x → IfSome o P → P x

@@ -1,9 +1,5 @@
 -- Lists of residues as elements of an algebra with a structure.
-use Rattle.dixon_split.proofs.Names.{◌≡◌, ℕ, ◌+◌, ◌*◌, ◌<◌, ◌≤◌, List, get_or, sym, ◌∙◌, ap, subst, arith, fun_ext, CommRing, sum_below, field, field_residue, IsTabulated}
-use Rattle.std.proofs.Common.{Result, Ok, Err, IfOk}
-use Rattle.dixon_split.specs.Elements.{Element, IsElement}
-use Rattle.dixon_split.specs.Structures.{constant, image_value, residues, HasStructure}
-use Rattle.dixon_split.specs.declared.structure.Structure.{Structure}
+use Rattle.dixon_split.proofs.Names.{◌≡◌, ℕ, ◌+◌, ◌*◌, ◌<◌, ◌≤◌, List, get_or, sym, ◌∙◌, ap, subst, arith, fun_ext, CommRing, sum_below, field, field_residue, IsTabulated, Result, Ok, Err, IfOk, Element, IsElement, constant, image_value, residues, HasStructure, Structure}
 use Rattle.dixon_split.proofs.Lists.{rows_below}
 
 pub constant_below : (r t j k : ℕ) → t < r → j < r → k < r → (t * r + j) * r + k < r * r * r

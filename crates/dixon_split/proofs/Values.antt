@@ -1,12 +1,5 @@
 -- Numbers by which the basis multiplies elements, one after another and as lists of one width.
-use Rattle.dixon_split.proofs.Names.{◌≡◌, ℕ, zero, suc, ◌+◌, ◌*◌, ◌/◌, ◌%◌, ◌<◌, ◌≤◌, All, List, [], ◌∷◌, ◌++◌, map, length, length-append, get_or, refl, sym, ◌∙◌, ap, subst, arith, inl, inr, ◌⊎◌, concat, suc-mul, cases_lt, get_or_append_left, get_or-append-add, get_or-map, length-map, CommRing, ModRing, row_of, column_at, TwistedSubgroup, Each, number, Acts, IsPiece, IsSplitting, pieces, pieces_split, AreCentralCharacters, Zipped}
-use Rattle.std.proofs.Math.Nat.{eq_of_mul-eq-mul_left}
-use Rattle.std.proofs.lemmas.List.{get_or_push}
-use Rattle.std.proofs.lemmas.List.Elements.{All-head, All-tail}
-use Rattle.dixon_split.specs.Elements.{Element}
-use Rattle.dixon_split.specs.Structures.{residues, HasStructure}
-use Rattle.dixon_split.specs.Values.{AreValues}
-use Rattle.dixon_split.specs.declared.structure.Structure.{Structure}
+use Rattle.dixon_split.proofs.Names.{◌≡◌, ℕ, zero, suc, ◌+◌, ◌*◌, ◌/◌, ◌%◌, ◌<◌, ◌≤◌, All, List, [], ◌∷◌, ◌++◌, map, length, length-append, get_or, refl, sym, ◌∙◌, ap, subst, arith, inl, inr, ◌⊎◌, concat, suc-mul, cases_lt, get_or_append_left, get_or-append-add, get_or-map, length-map, CommRing, ModRing, row_of, column_at, TwistedSubgroup, Each, number, Acts, IsPiece, IsSplitting, pieces, pieces_split, AreCentralCharacters, Zipped, eq_of_mul-eq-mul_left, get_or_push, All-head, All-tail, Element, residues, HasStructure, AreValues, Structure}
 use Rattle.dixon_split.proofs.Lists.{rows_below}
 use Rattle.dixon_split.proofs.Characters.{AreNumbersAt, GivesCharacters}
 

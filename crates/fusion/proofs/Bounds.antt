@@ -1,14 +1,9 @@
 -- Fusion numbers are small, since the dimensions of the simples are.
-use Rattle.fusion.proofs.Names.{◌≡◌, ℕ, zero, suc, ◌+◌, ◌*◌, ◌<◌, ◌≤◌, None, ap, arith, mul-le-mul, inl, inr, SimplesOver, count, AreSimples}
-use mathlib.Core.Logic.{◌⊎◌}
-use Rattle.transport.specs.Simples.{dimension_at}
+use Rattle.fusion.proofs.Names.{◌≡◌, ℕ, zero, suc, ◌+◌, ◌*◌, ◌<◌, ◌≤◌, None, ap, arith, mul-le-mul, inl, inr, SimplesOver, count, AreSimples, ◌⊎◌, dimension_at, degree, numbers_of_dimensions, fusion_number, pair_fault}
 use Rattle.transport.specs.Matrices.{sum_numbers}
 use Rattle.transport.proofs.Rows.{last_or_less}
-use Rattle.transport.proofs.DoubleSimples.{degree}
 use Rattle.transport.proofs.Dimensions.{some_member}
 use Rattle.transport.proofs.SMatrixLaws.{squares_of_dimensions}
-use Rattle.transport.proofs.FusionLaws.{numbers_of_dimensions}
-use Rattle.fusion.specs.Numbers.{fusion_number, pair_fault}
 use Rattle.fusion.proofs.Faults.{pair_numbers_of}
 
 -- each of the numbers of a sum is at most the sum

@@ -1,8 +1,5 @@
 -- Fusion sums that are whole, and the first that isn't.
-use Rattle.fusion.proofs.Names.{◌≡◌, ℕ, ◌*◌, ◌<◌, Option, Some, None, refl, sym, ◌∙◌, ap, is_some, if◌then◌else◌, whole, SimplesOver, count, fusion_sum, IsFusionNumber}
-use Rattle.std.specs.Option.{unwrap_or}
-use Rattle.scan.proofs.Places.{first_found, first_none-at}
-use Rattle.fusion.specs.Numbers.{quotient_at, fusion_number, sum_fault, pair_fault, simple_fault, whole_fault, SumsBeforeAreWhole}
+use Rattle.fusion.proofs.Names.{◌≡◌, ℕ, ◌*◌, ◌<◌, Option, Some, None, refl, sym, ◌∙◌, ap, is_some, if◌then◌else◌, whole, SimplesOver, count, fusion_sum, IsFusionNumber, unwrap_or, first_found, first_none-at, quotient_at, fusion_number, sum_fault, pair_fault, simple_fault, whole_fault, SumsBeforeAreWhole}
 use Rattle.fusion.proofs.Quotients.{quotient_means}
 
 module _ (k : ℕ) (s : SimplesOver) where

@@ -1,10 +1,5 @@
 -- A number of which a fusion sum is the multiple is its fusion number.
-use Rattle.fusion.proofs.Names.{◌≡◌, ℕ, ◌*◌, ◌/◌, ◌<◌, Some, ap, ◌∙◌, SimplesOver, AreSimples, fusion_sum, IsFusionNumber}
-use Rattle.std.proofs.Math.Nat.{mul_comm, mul-mod_right, mul-div_cancel}
-use Rattle.transport.specs.Headline.{OfAllSimples}
-use Rattle.transport.proofs.Doubles.{order_positive}
-use Rattle.transport.proofs.DoubleSimples.{divides}
-use Rattle.fusion.specs.Numbers.{quotient_at}
+use Rattle.fusion.proofs.Names.{◌≡◌, ℕ, ◌*◌, ◌/◌, ◌<◌, Some, ap, ◌∙◌, SimplesOver, AreSimples, fusion_sum, IsFusionNumber, mul_comm, mul-mod_right, mul-div_cancel, OfAllSimples, order_positive, divides, quotient_at}
 use Rattle.fusion.specs.Laws.{NumbersAreFound, NumbersAreOfSums}
 use Rattle.fusion.proofs.Quotients.{quotient_found}
 use Rattle.fusion.proofs.Faults.{no_fault, number_found, number_of}

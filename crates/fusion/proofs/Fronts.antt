@@ -1,10 +1,6 @@
 -- Webs while fusion numbers are added.
-use Rattle.fusion.proofs.Names.{◌≡◌, ℕ, ◌+◌, ◌*◌, ◌/◌, ◌%◌, ◌<◌, ◌≤◌, ◌==◌, ◌&&◌, Bool, true, false, [], refl, sym, ap, ap₂, ◌∙◌, subst, arith, eq-eqb, if◌then◌else◌, mul-le-mul, div-mul-add, mod-mul-add, and_true, WebEntries, count_of, SimplesOver, count}
-use Rattle.std.proofs.Common.{nat_lt}
+use Rattle.fusion.proofs.Names.{◌≡◌, ℕ, ◌+◌, ◌*◌, ◌/◌, ◌%◌, ◌<◌, ◌≤◌, ◌==◌, ◌&&◌, Bool, true, false, [], refl, sym, ap, ap₂, ◌∙◌, subst, arith, eq-eqb, if◌then◌else◌, mul-le-mul, div-mul-add, mod-mul-add, and_true, WebEntries, count_of, SimplesOver, count, nat_lt, most_nodes, fusion_number, triple, HasCount, IsFront}
 use Rattle.std.proofs.lemmas.Bool.{eqb-true, lt-ltb, le-ltb, ltb-true, ltb-false}
-use Rattle.fusion_web.specs.Entries.{most_nodes}
-use Rattle.fusion.specs.Numbers.{fusion_number}
-use Rattle.fusion.specs.Fronts.{triple, HasCount, IsFront}
 use Rattle.fusion.proofs.Places.{pair_below}
 
 -- three simples

@@ -1,10 +1,9 @@
 -- The terms of fusion sums are the same at all conjugates of a pair of elements that commute.
-use Rattle.fusion.proofs.Names.{◌≡◌, ℕ, ◌<◌, sym, ap, ap₂, ◌∙◌, CyclotomicValue, SimplesOver, count, AreSimples}
+use Rattle.fusion.proofs.Names.{◌≡◌, ℕ, ◌<◌, sym, ap, ap₂, ◌∙◌, CyclotomicValue, SimplesOver, count, AreSimples, conjugate_value, double_classes, conjugate_value_is, setting, simples, character_is, tensor_is, inner_term}
 use Rattle.algebra.specs.Groups.{conj}
 use Rattle.algebra.specs.Below.{Below, below_equal}
 use Rattle.algebra.proofs.GroupLaws.{op_assoc, inv_inv, conj_is}
 use Rattle.classes.specs.Conjugacy.{conjugate}
-use Rattle.cyclotomic.specs.CyclotomicRing.{conjugate as conjugate_value}
 use Rattle.pair_orbits.specs.Laws.{IsInvariant}
 use Rattle.slant.proofs.Instances.{group}
 use Rattle.characters.specs.Setting.{Setting, Classes, Commuting}
@@ -14,11 +13,6 @@ use Rattle.characters.specs.Fusion.{tensor_character as abstract_tensor}
 use Rattle.characters.proofs.SettingLaws.{commuting_conj, transport_root_bar, cancel_pair}
 use Rattle.characters.proofs.CharacterLaws.{covariance}
 use Rattle.characters.proofs.FusionLaws.{tensor_covariant}
-use Rattle.transport.proofs.Doubles.{double_classes, conjugate_value_is}
-use Rattle.transport.proofs.DoubleSimples.{setting, simples}
-use Rattle.transport.proofs.CharacterLaws.{character_is}
-use Rattle.transport.proofs.TensorProducts.{tensor_is}
-use Rattle.fusion.specs.Kept.{inner_term}
 
 module _ (k : ℕ) (s : SimplesOver) (S : AreSimples k s) where
   abbrev Element : Type 0

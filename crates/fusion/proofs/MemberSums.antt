@@ -1,9 +1,6 @@
 -- Sums over lists of numbers that pass a test.
-use Rattle.std.proofs.Common.{◌≡◌, ◌<◌, ◌==◌, ◌∷◌, [], ℕ, Bool, true, false, List, length, get_or, map, refl, sym, ◌∙◌, ap, eq-eqb, eqb-true}
+use Rattle.fusion.proofs.Names.{◌≡◌, ◌<◌, ◌==◌, ◌∷◌, [], ℕ, Bool, true, false, List, length, get_or, map, refl, sym, ◌∙◌, ap, eq-eqb, eqb-true, sum_below, sum_list, pick, sum_zero, sum_first, sum_ext, sum_list_nil, sum_list_cons, pick_of, pick_off, Table, IsGroup}
 use Rattle.algebra.specs.Structures.{CommRing}
-use Rattle.algebra.specs.Sums.{sum_below, sum_list, pick}
-use Rattle.algebra.proofs.SumLaws.{sum_zero, sum_first, sum_ext, sum_list_nil, sum_list_cons, pick_of, pick_off}
-use Rattle.group_table.specs.Group.{Table, IsGroup}
 use Rattle.group_table.specs.Numbers.{passing_below}
 use Rattle.pair_orbits.proofs.Passing.{passing_sum}
 use Rattle.classes.specs.Conjugacy.{is_conjugate, representatives, representative_at, representative_of, class_of, members_of}

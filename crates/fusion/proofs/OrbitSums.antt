@@ -1,16 +1,10 @@
 -- Fusion sums as sums over the listed pairs.
-use Rattle.fusion.proofs.Names.{◌≡◌, ◌<◌, ◌*◌, ◌/◌, ◌%◌, ◌==◌, ℕ, Bool, false, length, get_or, sym, ◌∙◌, ap, sum_below, sum_ext, class_of, cyclotomic, value_nought, value_product, CyclotomicValue, cyclotomic_ring, conjugate, listed_pairs, SimplesOver, count, class_at, AreSimples, full_character, commute, tensor_character, fusion_sum}
-use Rattle.algebra.specs.Sums.{multiple}
-use Rattle.algebra.proofs.SumLaws.{multiple_nought, multiple_is_mul, mul_multiple}
+use Rattle.fusion.proofs.Names.{◌≡◌, ◌<◌, ◌*◌, ◌/◌, ◌%◌, ◌==◌, ℕ, Bool, false, length, get_or, sym, ◌∙◌, ap, sum_below, sum_ext, class_of, cyclotomic, value_nought, value_product, CyclotomicValue, cyclotomic_ring, conjugate, listed_pairs, SimplesOver, count, class_at, AreSimples, full_character, commute, tensor_character, fusion_sum, multiple, multiple_nought, multiple_is_mul, mul_multiple, IsPassing, passing_below-all, whole_multiple, where_picked, inner_term, listed_at, places_of, weighted_conjugate, orbit_term}
 use Rattle.std.proofs.lemmas.List.Elements.{All-get_or}
-use Rattle.group_table.proofs.Numbers.{IsPassing, passing_below-all}
 use Rattle.pair_orbits.specs.Listing.{no_pair}
 use Rattle.pair_orbits.proofs.Sums.{sum_by_orbits}
 use Rattle.qd_ring.specs.Formed.{whole}
 use Rattle.qd_ring.proofs.NoughtLaws.{unless_so, conjugate_of_nought}
-use Rattle.transport.proofs.DoubleSimples.{whole_multiple}
-use Rattle.transport.proofs.CharacterLaws.{where_picked}
-use Rattle.fusion.specs.Kept.{inner_term, listed_at, places_of, weighted_conjugate, orbit_term}
 use Rattle.fusion.proofs.MemberSums.{sum_items, sum_of_passing}
 use Rattle.fusion.proofs.TensorSums.{product_nought}
 use Rattle.fusion.proofs.Invariance.{inner_terms_invariant}

@@ -1,7 +1,5 @@
 -- Full characters that are kept.
-use Rattle.fusion.proofs.Names.{◌≡◌, ◌+◌, ◌*◌, ◌/◌, ◌<◌, ℕ, List, Option, get_or, sym, ◌∙◌, ap, subst, arith, Vec, Box, div-mul-add, mod-mul-add, class_of, Monomial, SimplesOver, count, class_at}
-use Rattle.std.proofs.lemmas.Nat.{row_fits}
-use Rattle.fusion.specs.Kept.{IsFullRow, AreFullValues}
+use Rattle.fusion.proofs.Names.{◌≡◌, ◌+◌, ◌*◌, ◌/◌, ◌<◌, ℕ, List, Option, get_or, sym, ◌∙◌, ap, subst, arith, Vec, Box, div-mul-add, mod-mul-add, class_of, Monomial, SimplesOver, count, class_at, row_fits, IsFullRow, AreFullValues}
 
 -- a place among the pairs
 pub pair_below : (i m g n : ℕ) → i < m → g < n → i * n + g < m * n

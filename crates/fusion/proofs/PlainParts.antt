@@ -1,9 +1,6 @@
 -- How products and root multiples are formed.
-use Rattle.fusion.proofs.Names.{◌≡◌, ◌%◌, ◌&&◌, ℕ, true, Option, Some, None, sym, ◌∙◌, ap, ap₂, subst, is_some, IfSome, is_conductor, cyclotomic, cyclotomic_value, root, value_product, root_modulo, Formed, Forms, multiplied}
-use Rattle.cyclotomic.specs.Fit.{value_fits, product_fits}
+use Rattle.fusion.proofs.Names.{◌≡◌, ◌%◌, ◌&&◌, ℕ, true, Option, Some, None, sym, ◌∙◌, ap, ap₂, subst, is_some, IfSome, is_conductor, cyclotomic, cyclotomic_value, root, value_product, root_modulo, Formed, Forms, multiplied, value_fits, product_fits, turned, Answers}
 use Rattle.qd_ring.specs.declared.cyc.Cyc.{Cyc}
-use Rattle.qd_ring.specs.Formed.{turned}
-use Rattle.fusion.specs.Kept.{Answers}
 
 module _ (k : ℕ) where
   -- the product of two values

@@ -1,20 +1,14 @@
 -- Values that are multiples of a whole number.
-use Rattle.fusion.proofs.Names.{◌≡◌, ℕ, zero, suc, ◌*◌, ◌/◌, ◌%◌, ◌<◌, ◌≤◌, ◌==◌, ◌&&◌, Bool, true, false, List, [], ◌∷◌, length, Some, None, refl, sym, ◌∙◌, ap, arith, pos, w128, to_z, of_z, cyclotomic, is_conductor, CyclotomicValue, cyclotomic_value, read_128, whole}
-use Rattle.std.proofs.Common.{take, drop}
-use Rattle.std.specs.Prelude.{ℤ, negsuc, nat_abs}
-use Rattle.std.specs.List.{list_all}
-use Rattle.std.proofs.Math.Nat.{div-add-mod}
+use Rattle.fusion.proofs.Names.{◌≡◌, ℕ, zero, suc, ◌*◌, ◌/◌, ◌%◌, ◌<◌, ◌≤◌, ◌==◌, ◌&&◌, Bool, true, false, List, [], ◌∷◌, length, Some, None, refl, sym, ◌∙◌, ap, arith, pos, w128, to_z, of_z, cyclotomic, is_conductor, CyclotomicValue, cyclotomic_value, read_128, whole, take, drop, ℤ, negsuc, nat_abs, list_all, div-add-mod, size_of, natural_of, quotient_of, whole_quotient}
 use Rattle.cyclotomic.specs.Polynomial.{coefficient, zeros}
 use Rattle.cyclotomic.specs.Conductors.{phi_of}
 use Rattle.qd_ring.specs.CycArrays.{is_array, is_nought, is_small}
 use Rattle.qd_ring.specs.ReductionSigns.{conductor_bounds}
 use Rattle.qd_ring.specs.ArrayLaws.{value_of-padded, zeros_noughts, coefficients_of, size-value}
 use Rattle.qd_ring.proofs.CycLaws.{small_means}
-use Rattle.cyclotomic.specs.Fit.{size_of}
 use Rattle.table_check.specs.Check.{is_same, where_holds}
 use Rattle.table_check.proofs.Same.{is_same-Decides}
 use Rattle.transport.proofs.Wholes.{whole_injective}
-use Rattle.fusion.specs.Numbers.{natural_of, quotient_of, whole_quotient}
 
 where_true : (test : Bool) (v : ℕ) → test ≡ true → where_holds test v ≡ Some v
 where_true true v e = refl

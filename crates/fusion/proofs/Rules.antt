@@ -1,8 +1,5 @@
 -- What is known of all fusion numbers once each fusion sum is whole.
-use Rattle.fusion.proofs.Names.{◌≡◌, ℕ, ◌*◌, ◌≤◌, ◌<◌, None, ap, ◌∙◌, sym, subst, whole, SimplesOver, count, AreSimples}
-use Rattle.transport.specs.Headline.{IsFusionRule}
-use Rattle.transport.proofs.FusionLaws.{numbers_are_rule}
-use Rattle.fusion.specs.Numbers.{fusion_number, whole_fault, HoldsSmallNumbers}
+use Rattle.fusion.proofs.Names.{◌≡◌, ℕ, ◌*◌, ◌≤◌, ◌<◌, None, ap, ◌∙◌, sym, subst, whole, SimplesOver, count, AreSimples, IsFusionRule, numbers_are_rule, fusion_number, whole_fault, HoldsSmallNumbers}
 use Rattle.fusion.proofs.Faults.{pair_numbers_of, pair_whole}
 use Rattle.fusion.proofs.Bounds.{number_small}
 

@@ -1,15 +1,9 @@
 -- Tensor characters as sums over the members of a class.
-use Rattle.fusion.proofs.Names.{◌≡◌, ◌+◌, ◌<◌, ◌%◌, ◌==◌, ◌&&◌, ℕ, Bool, true, false, length, get_or, refl, sym, ◌∙◌, ap, ap₂, sum_below, IsGroup, class_of, representatives, is_conductor, cyclotomic, value_nought, value_sum, value_product, CyclotomicValue, cyclotomic_ring, root, root_modulo, Formed, gamma, SimplesOver, class_at, root_exponent, full_character, commute, left_quotient, tensor_character}
-use Rattle.std.proofs.Common.{add-one}
+use Rattle.fusion.proofs.Names.{◌≡◌, ◌+◌, ◌<◌, ◌%◌, ◌==◌, ◌&&◌, ℕ, Bool, true, false, length, get_or, refl, sym, ◌∙◌, ap, ap₂, sum_below, IsGroup, class_of, representatives, is_conductor, cyclotomic, value_nought, value_sum, value_product, CyclotomicValue, cyclotomic_ring, root, root_modulo, Formed, gamma, SimplesOver, class_at, root_exponent, full_character, commute, left_quotient, tensor_character, add-one, sum_suc, turned_product, where_so, tensor_term, members_at, tensor_part}
 use Rattle.cyclotomic.specs.Laws.Values.{product_comm, sum_nought}
 use Rattle.cyclotomic.proofs.Images.{root-zero}
 use Rattle.algebra.proofs.RingLaws.{one_mul}
-use Rattle.algebra.proofs.SumLaws.{sum_suc}
-use Rattle.qd_ring.specs.Folding.{turned_product}
-use Rattle.qd_ring.specs.Formed.{where_so}
 use Rattle.qd_ring.proofs.SpreadLaws.{product-nought}
-use Rattle.transport.specs.Fusion.{tensor_term}
-use Rattle.fusion.specs.Kept.{members_at, tensor_part}
 use Rattle.fusion.proofs.MemberSums.{sum_of_members}
 
 module _ (k : ℕ) where

@@ -1,11 +1,6 @@
 -- Entries of a web, and their counts.
-use Rattle.std.proofs.Common.{◌≡◌, ℕ, zero, suc, ◌+◌, ◌<◌, ◌⊎◌, Bool, true, false, List, [], ◌∷◌, ◌++◌, Some, None, length, get_or, refl, sym, ap, subst, ◌∙◌, arith, inl, inr, eq-eqb, length-append}
-use Rattle.std.specs.List.{find}
-use Rattle.std.specs.Option.{option_map_or}
-use Rattle.std.proofs.lemmas.Bool.{eqb-true}
-use Rattle.std.proofs.lemmas.List.{get_or_push, get_or_append_left}
+use Rattle.fusion_web.proofs.Names.{◌≡◌, ℕ, zero, suc, ◌+◌, ◌<◌, ◌⊎◌, Bool, true, false, List, [], ◌∷◌, ◌++◌, Some, None, length, get_or, refl, sym, ap, subst, ◌∙◌, arith, inl, inr, eq-eqb, length-append, find, option_map_or, eqb-true, get_or_push, get_or_append_left, Entry, WebEntries, IsEntry, IsWeb, AreApart, entry_at, no_entry, is_entry_of, count_of, most_nodes}
 use Rattle.scan.proofs.Places.{and_true}
-use Rattle.fusion_web.specs.Entries.{Entry, WebEntries, IsEntry, IsWeb, AreApart, entry_at, no_entry, is_entry_of, count_of, most_nodes}
 use Rattle.fusion_web.proofs.RingLaws.{below_suc}
 
 pub cases : (b : Bool) → (b ≡ true) ⊎ (b ≡ false)

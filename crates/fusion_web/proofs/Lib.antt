@@ -4,3 +4,4 @@ mod EntryLaws
 mod WebLaws
 mod WalkLaws
 mod SumLaws
+pub mod Names

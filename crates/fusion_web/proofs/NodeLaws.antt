@@ -1,13 +1,6 @@
 -- Nodes with other links.
-use Rattle.std.proofs.Common.{◌≡◌, ◌≢◌, ℕ, ◌+◌, ◌<◌, ◌≤◌, List, Option, Some, None, length, map, get_or, set, refl, sym, ap, subst, ◌∙◌, arith, length-set, get_or-set_other, get_or-set_same}
-use Rattle.std.proofs.lemmas.List.{get_or-map}
+use Rattle.fusion_web.proofs.Names.{◌≡◌, ◌≢◌, ℕ, ◌+◌, ◌<◌, ◌≤◌, List, Option, Some, None, length, map, get_or, set, refl, sym, ap, subst, ◌∙◌, arith, length-set, get_or-set_other, get_or-set_same, get_or-map, Entry, entry_at, no_entry, IsRinged, AreDistinct, IsPlaceBefore, entry_of, node_at, no_node, ring_of, key_of, next_of, with_next, ring_at, key_at, next_at, AreLinked, Node, Side, Row, Into}
 use Rattle.std.proofs.Math.Seq.{map-set_same}
-use Rattle.fusion_web.specs.Entries.{Entry, entry_at, no_entry}
-use Rattle.fusion_web.specs.Rings.{IsRinged, AreDistinct, IsPlaceBefore}
-use Rattle.fusion_web.specs.Links.{entry_of, node_at, no_node, ring_of, key_of, next_of, with_next, ring_at, key_at, next_at, AreLinked}
-use Rattle.fusion_web.specs.declared.node.Node.{Node}
-use Rattle.fusion_web.specs.declared.side.Side.{Side}
-use Rattle.fusion_web.specs.declared.side.Side.TheVariants.{Row, Into}
 use Rattle.fusion_web.proofs.RingLaws.{ringed_agrees, ringed_alone, ringed_last, ringed_between}
 
 -- the entry of the node at a place

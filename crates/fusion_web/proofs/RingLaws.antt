@@ -1,7 +1,5 @@
 -- A place more in a ring.
-use Rattle.std.proofs.Common.{◌≡◌, ℕ, ◌+◌, ◌<◌, ◌≤◌, ◌⊎◌, inl, inr, List, Option, Some, None, length, get_or, set, refl, sym, ap, subst, ◌∙◌, arith, eq-or-lt_of_le, length-set, get_or-set_other, get_or-set_same}
-use Rattle.std.proofs.lemmas.Bool.{cases_eq, cases_lt}
-use Rattle.fusion_web.specs.Rings.{IsNext, IsFirst, IsLast, IsEmpty, IsRinged, AreDistinct, IsPlaceBefore}
+use Rattle.fusion_web.proofs.Names.{◌≡◌, ℕ, ◌+◌, ◌<◌, ◌≤◌, ◌⊎◌, inl, inr, List, Option, Some, None, length, get_or, set, refl, sym, ap, subst, ◌∙◌, arith, eq-or-lt_of_le, length-set, get_or-set_other, get_or-set_same, cases_eq, cases_lt, IsNext, IsFirst, IsLast, IsEmpty, IsRinged, AreDistinct, IsPlaceBefore}
 
 -- a number below m + 1 is m or below it
 pub below_suc : (r m : ℕ) → r < m + 1 → (r ≡ m) ⊎ (r < m)

@@ -1,12 +1,7 @@
 -- Sums along rings, and counts after an insertion.
-use Rattle.std.proofs.Common.{◌≡◌, ℕ, ◌+◌, ◌-◌, ◌*◌, ◌/◌, ◌%◌, Bool, false, cond, nat_lt, List, [], ◌∷◌, Option, Some, None, map, refl, sym, ap, ◌∙◌, arith, inl, inr, zero-add}
-use Rattle.std.specs.List.{filter, find, range_with_len, sum_by}
-use Rattle.std.specs.Option.{option_map_or, option_or}
-use Rattle.std.proofs.lemmas.Bool.{ltb-false}
+use Rattle.fusion_web.proofs.Names.{◌≡◌, ℕ, ◌+◌, ◌-◌, ◌*◌, ◌/◌, ◌%◌, Bool, false, cond, nat_lt, List, [], ◌∷◌, Option, Some, None, map, refl, sym, ap, ◌∙◌, arith, inl, inr, zero-add, filter, find, range_with_len, sum_by, option_map_or, option_or, ltb-false, ap₂, Entry, entry_at, no_entry, count_of, is_entry_of}
 use Rattle.std.proofs.lemmas.List.Folds.{find-append}
 use Rattle.std.proofs.lemmas.List.Sums.{sum_by-cons}
-use mathlib.Core.Path.{ap₂}
-use Rattle.fusion_web.specs.Entries.{Entry, entry_at, no_entry, count_of, is_entry_of}
 use Rattle.fusion_web.specs.Laws.{RowSums, IntoSums, CountsGrow}
 use Rattle.fusion_web.proofs.EntryLaws.{cases, is_of, find_none, absent}
 

@@ -1,16 +1,5 @@
 -- Walks along rings.
-use Rattle.std.proofs.Common.{◌≡◌, ℕ, zero, suc, ◌+◌, ◌-◌, ◌*◌, ◌/◌, ◌%◌, ◌<◌, ◌≤◌, Bool, true, false, cond, nat_lt, List, [], ◌∷◌, Option, Some, None, length, map, refl, sym, ap, subst, ◌∙◌, arith, inl, inr, eq-eqb, ◌==◌}
-use Rattle.std.specs.List.{filter, find, range_with_len}
-use Rattle.std.specs.Option.{option_map_or}
-use Rattle.std.proofs.lemmas.Bool.{cases_lt, lt-ltb, ltb-false, ne_eqb}
-use Rattle.std.proofs.lemmas.Nat.{div-mul-add, mod-mul-add, div-add-mod', row_fits}
-use mathlib.Core.Path.{ap₂}
-use Rattle.fusion_web.specs.Entries.{WebEntries, IsWeb, entry_at, count_of, kept_from, row_from, row_of, into_from, into_of}
-use Rattle.fusion_web.specs.Rings.{IsNext, IsFirst, IsEmpty}
-use Rattle.fusion_web.specs.Links.{pair_number, Follows, IsHead}
-use Rattle.fusion_web.specs.Walks.{row_rest, into_rest, LeadsTo}
-use Rattle.fusion_web.specs.declared.side.Side.{Side}
-use Rattle.fusion_web.specs.declared.side.Side.TheVariants.{Row, Into}
+use Rattle.fusion_web.proofs.Names.{◌≡◌, ℕ, zero, suc, ◌+◌, ◌-◌, ◌*◌, ◌/◌, ◌%◌, ◌<◌, ◌≤◌, Bool, true, false, cond, nat_lt, List, [], ◌∷◌, Option, Some, None, length, map, refl, sym, ap, subst, ◌∙◌, arith, inl, inr, eq-eqb, ◌==◌, filter, find, range_with_len, option_map_or, cases_lt, lt-ltb, ltb-false, ne_eqb, div-mul-add, mod-mul-add, div-add-mod', row_fits, ap₂, WebEntries, IsWeb, entry_at, count_of, kept_from, row_from, row_of, into_from, into_of, IsNext, IsFirst, IsEmpty, pair_number, Follows, IsHead, row_rest, into_rest, LeadsTo, Side, Row, Into}
 use Rattle.fusion_web.proofs.EntryLaws.{cases, count_of-entry, count_of-none}
 use Rattle.fusion_web.proofs.WebLaws.{pair_apart}
 

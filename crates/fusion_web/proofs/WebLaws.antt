@@ -1,13 +1,5 @@
 -- A node more in a web.
-use Rattle.std.proofs.Common.{◌≡◌, ℕ, ◌+◌, ◌*◌, ◌/◌, ◌%◌, ◌<◌, List, [], ◌∷◌, ◌++◌, Option, length, map, take, drop, sym, ap, subst, ◌∙◌, arith, append-nil}
-use Rattle.std.proofs.lemmas.Nat.{div-mul-add, mod-mul-add}
-use Rattle.std.proofs.lemmas.List.{get_or_append_left, map_push, drop_all, take_all, length-map}
-use Rattle.fusion_web.specs.Entries.{WebEntries, IsEntry, IsWeb, entry_at, no_entry, count_of, most_nodes}
-use Rattle.fusion_web.specs.Rings.{AreDistinct}
-use Rattle.fusion_web.specs.Links.{ring_of, key_of, entry_of, node_at, no_node, next_of, with_next, web_of, ring_at, key_at, next_at, AreLinked, IsLinkedWeb}
-use Rattle.fusion_web.specs.declared.node.Node.{Node}
-use Rattle.fusion_web.specs.declared.side.Side.{Side}
-use Rattle.fusion_web.specs.declared.side.Side.TheVariants.{Row, Into}
+use Rattle.fusion_web.proofs.Names.{◌≡◌, ℕ, ◌+◌, ◌*◌, ◌/◌, ◌%◌, ◌<◌, List, [], ◌∷◌, ◌++◌, Option, length, map, take, drop, sym, ap, subst, ◌∙◌, arith, append-nil, div-mul-add, mod-mul-add, get_or_append_left, map_push, drop_all, take_all, length-map, WebEntries, IsEntry, IsWeb, entry_at, no_entry, count_of, most_nodes, AreDistinct, ring_of, key_of, entry_of, node_at, no_node, next_of, with_next, web_of, ring_at, key_at, next_at, AreLinked, IsLinkedWeb, Node, Side, Row, Into}
 use Rattle.fusion_web.proofs.RingLaws.{ringed_agrees}
 use Rattle.fusion_web.proofs.EntryLaws.{web_more}
 use Rattle.fusion_web.proofs.NodeLaws.{seen}

@@ -1,10 +1,8 @@
 -- Bounds of the numbers that the formulas work with.
-use Rattle.std.proofs.Common.{◌≡◌, ℕ, zero, suc, Bool, true, false, nat_eq, cond, Some, None, ◌+◌, ◌*◌, ◌%◌, ◌^◌, ◌<◌, ◌≤◌, refl, sym, ap, ◌∙◌, arith}
-use Rattle.std.proofs.Math.Nat.{mul_comm, le-mul_of_pos_right, pow-suc, add-mod-mod}
+use Rattle.group_make.proofs.Names.{◌≡◌, ℕ, zero, suc, Bool, true, false, nat_eq, cond, Some, None, ◌+◌, ◌*◌, ◌%◌, ◌^◌, ◌<◌, ◌≤◌, refl, sym, ap, ◌∙◌, arith, mul_comm, le-mul_of_pos_right, pow-suc, add-mod-mod, mul-add-lt, mul-le, mul-mod, mul-mod_first}
 use Rattle.std.proofs.lemmas.Bool.{eqb-true}
 use Rattle.group_make.specs.Refusal.{action_fault}
 use Rattle.group_make.specs.declared.refusal.MakeRefusal.TheVariants.{Action}
-use Rattle.std.proofs.lemmas.Nat.{mul-add-lt, mul-le, mul-mod, mul-mod_first}
 
 -- the number of a triple, and that of its first two coordinates
 pub record TripleFits (a b c x y z : ℕ) : Type 0 where

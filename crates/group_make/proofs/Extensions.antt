@@ -1,12 +1,6 @@
 -- A group extended by a cyclic group, by an action through factors and a factor set (Schreier 1926).
-use Rattle.std.proofs.Common.{◌≡◌, ℕ, ◌+◌, ◌-◌, ◌*◌, ◌/◌, ◌%◌, ◌<◌, ◌≤◌, refl, sym, ap, ◌∙◌, arith}
+use Rattle.group_make.proofs.Names.{◌≡◌, ℕ, ◌+◌, ◌-◌, ◌*◌, ◌/◌, ◌%◌, ◌<◌, ◌≤◌, refl, sym, ap, ◌∙◌, arith, mod-lt, mod-eq_of_lt, div-eq_of_lt, add-mul-mod_self_left, add-mul-div_left, mul-le-mul_left, mul-add, mul_assoc, one-mul, div_below, Same, same_of, same_sym, same_trans, same_mod, same_add, same_add_left, same_add_right, same_mul_left, same_mul_right, same_lin, same_equal, same_multiple, IsGroupBelow, pair, cyclic_product}
 use mathlib.Core.Path.{ap₂}
-use Rattle.std.proofs.Math.Nat.{mod-lt, mod-eq_of_lt, div-eq_of_lt, add-mul-mod_self_left, add-mul-div_left, mul-le-mul_left, mul-add, mul_assoc, one-mul}
-use Rattle.std.proofs.lemmas.Nat.{div_below}
-use Rattle.algebra.specs.Congruences.{Same}
-use Rattle.algebra.proofs.CongruenceLaws.{same_of, same_sym, same_trans, same_mod, same_add, same_add_left, same_add_right, same_mul_left, same_mul_right, same_lin, same_equal, same_multiple}
-use Rattle.orders.specs.Group.{IsGroupBelow}
-use Rattle.group_make.specs.Formulas.{pair, cyclic_product}
 
 -- pairs and their numbers
 

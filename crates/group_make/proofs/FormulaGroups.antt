@@ -1,12 +1,6 @@
 -- The formulas give groups.
-use Rattle.std.proofs.Common.{◌≡◌, ℕ, zero, suc, ◌+◌, ◌-◌, ◌*◌, ◌/◌, ◌%◌, ◌^◌, ◌<◌, ◌≤◌, ◌⊎◌, inl, inr, sym, ap, subst, ◌∙◌, arith}
-use Rattle.std.proofs.Math.Nat.{mod-lt, mod-eq_of_lt, add-mul, add-mul-mod_self_left, pow-zero, mul_comm, one-mul, mul-one}
-use Rattle.std.proofs.lemmas.Nat.{pow-add}
+use Rattle.group_make.proofs.Names.{◌≡◌, ℕ, zero, suc, ◌+◌, ◌-◌, ◌*◌, ◌/◌, ◌%◌, ◌^◌, ◌<◌, ◌≤◌, ◌⊎◌, inl, inr, sym, ap, subst, ◌∙◌, arith, mod-lt, mod-eq_of_lt, add-mul, add-mul-mod_self_left, pow-zero, mul_comm, one-mul, mul-one, pow-add, Same, same_refl, same_of, same_sym, same_trans, same_add_left, same_add_right, same_mul_right, same_lin, same_multiple, IsGroupBelow, pair, cyclic_product, reflected, dihedral_product, dicyclic_product, triple_product, semidirect_product}
 use Rattle.std.proofs.Math.Dec.{eqb-suc-zero}
-use Rattle.algebra.specs.Congruences.{Same}
-use Rattle.algebra.proofs.CongruenceLaws.{same_refl, same_of, same_sym, same_trans, same_add_left, same_add_right, same_mul_right, same_lin, same_multiple}
-use Rattle.orders.specs.Group.{IsGroupBelow}
-use Rattle.group_make.specs.Formulas.{pair, cyclic_product, reflected, dihedral_product, dicyclic_product, triple_product, semidirect_product}
 use Rattle.group_make.proofs.Tables.{same_group}
 use Rattle.group_make.proofs.Extensions.{cyclic_below, IsFactorSet, moved, extended, extension}
 

@@ -1,4 +1,5 @@
-pub mod Tables
+pub mod Bounds
 pub mod Extensions
 pub mod FormulaGroups
-pub mod Bounds
+pub mod Names
+pub mod Tables

@@ -1,10 +1,7 @@
 -- Tables by formulas.
-use Rattle.std.proofs.Common.{◌≡◌, ℕ, ◌<◌, List, ◌∙◌}
-use Rattle.orders.specs.Group.{IsGroupBelow}
+use Rattle.group_make.proofs.Names.{◌≡◌, ℕ, ◌<◌, List, ◌∙◌, IsGroupBelow, is_group, identity_is_unit, table_by}
 use Rattle.group_table.specs.Group.{product, identity_of, IsGroup}
-use Rattle.group_table.proofs.Lawful.{is_group, identity_is_unit}
 use Rattle.group_table.proofs.Square.{length-by_pairs, pair_at}
-use Rattle.group_make.specs.Formulas.{table_by}
 
 -- the product of g and h stands in row g at place h
 pub product_by : (n g h : ℕ) (op : ℕ → ℕ → ℕ) → g < n → h < n → product (table_by n op) g h ≡ op g h

@@ -1,22 +1,16 @@
 -- How products and root multiples are formed, and terms that are 0.
-use Rattle.std.proofs.Common.{◌≡◌, ◌+◌, ◌*◌, ◌^◌, ◌&&◌, ℕ, List, true, pos, [], ◌∷◌, Option, Some, None, refl, ◌∙◌, ap, subst, arith}
+use Rattle.indicators.proofs.Names.{◌≡◌, ◌+◌, ◌*◌, ◌^◌, ◌&&◌, ℕ, List, true, pos, [], ◌∷◌, Option, Some, None, refl, ◌∙◌, ap, subst, arith, slice_index, ap₂, CyclotomicValue, cyclotomic_value, root, Formed, Forms, given, whole, multiplied, turned, IsTotal, quotient_exponent, indicator_term}
 use Rattle.std.specs.Option.{is_some, IfSome}
-use Rattle.std.specs.Prelude.{slice_index}
 use Rattle.std.proofs.lemmas.Bool.{le-leb, lt-ltb}
-use mathlib.Core.Path.{ap₂}
 use Rattle.cyclotomic.specs.Cyclotomic.{cyclotomic}
-use Rattle.cyclotomic.specs.CyclotomicRing.{CyclotomicValue, cyclotomic_value, root}
 use Rattle.cyclotomic.specs.Fit.{value_size, value_fits, product_fits, greatest_magnitude}
 use Rattle.cyclotomic.specs.Laws.Values.{sum_nought, product_comm}
 use Rattle.cyclotomic.specs.Ring.{Value, value_nought, value_product, value_sum}
 use Rattle.cyclotomic.proofs.Sizes.{size-zeros}
-use Rattle.qd_ring.specs.Formed.{Formed, Forms, given, whole, multiplied, turned}
-use Rattle.qd_ring.specs.Totals.{IsTotal}
 use Rattle.qd_ring.specs.declared.cyc.Cyc.{Cyc}
 use Rattle.qd_ring.specs.ArrayLaws.{value_of-zeros}
 use Rattle.qd_ring.proofs.SpreadLaws.{product-nought}
 use Rattle.qd_ring.proofs.TotalLaws.{total_more}
-use Rattle.indicators.specs.Indicators.{quotient_exponent, indicator_term}
 
 module _ (k : ℕ) where
   pub whole_forms : (n : ℕ) (c : Cyc k) → cyclotomic_value k c.coefficients ≡ cyclotomic_value k (pos n ∷ []) → Forms (given k (whole k n)) (Some c)

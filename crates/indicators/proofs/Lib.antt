@@ -1,1 +1,2 @@
 mod FormedLaws
+pub mod Names

@@ -1,7 +1,5 @@
 -- Properties of elements at their places.
-use Rattle.modular_st.proofs.Names.{◌≡◌, ◌<◌, ℕ, List, [], ◌∷◌, ◌++◌, length, get_or, sym, subst, ap, inl, inr, arith, length-append, cases_eq, get_or_push}
-use Rattle.std.proofs.lemmas.List.{get_or_append_left}
-use Rattle.modular_st.specs.Conjugates.{AllAt}
+use Rattle.modular_st.proofs.Names.{◌≡◌, ◌<◌, ℕ, List, [], ◌∷◌, ◌++◌, length, get_or, sym, subst, ap, inl, inr, arith, length-append, cases_eq, get_or_push, get_or_append_left, AllAt}
 
 -- some element of a list that has one
 pub some_of : {A : Type 0} (xs : List A) (p : ℕ) → p < length xs → A

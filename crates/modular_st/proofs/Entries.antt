@@ -1,8 +1,6 @@
 -- The entries of the matrix S, from its rows.
-use Rattle.modular_st.proofs.Names.{◌≡◌, ℕ, ◌<◌, ℤ, List, [], length, map, get_or, sym, ◌∙◌, ap, arith, zero-add, range_with_len, length-map, get_or-map, length-map-range_with_len, cyclotomic_value, value_nought, row_at, SimplesOver, count, s_sum}
+use Rattle.modular_st.proofs.Names.{◌≡◌, ℕ, ◌<◌, ℤ, List, [], length, map, get_or, sym, ◌∙◌, ap, arith, zero-add, range_with_len, length-map, get_or-map, length-map-range_with_len, cyclotomic_value, value_nought, row_at, SimplesOver, count, s_sum, get_or-map-range_with_len, row_values, values_of_rows, s_front, s_rows}
 use Rattle.std.specs.Prelude.{slice_index_or}
-use Rattle.std.proofs.lemmas.List.FromFn.{get_or-map-range_with_len}
-use Rattle.modular_st.specs.SMatrices.{row_values, values_of_rows, s_front, s_rows}
 use Rattle.modular_st.proofs.RowsMade.{front_width}
 
 -- all rows are made

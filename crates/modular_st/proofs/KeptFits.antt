@@ -1,21 +1,13 @@
 -- Where the conjugates at the listed pairs are small, all terms of the numerators fit.
-use Rattle.modular_st.proofs.Names.{◌≡◌, ◌+◌, ◌*◌, ◌^◌, ◌<◌, ◌==◌, ◌&&◌, ℕ, Bool, true, false, List, length, map, refl, sym, ◌∙◌, ap, ap₂, subst, arith, Vec, div-mul-add, mod-mul-add, length-map, get_or-map, cyclotomic, value_nought, value_product, CyclotomicValue, root, conjugate, value_size, value_fits, Table, representatives, class_of, Pair, listed_pairs, no_pair, pair_at, Monomial, conjugated, SimplesOver, count, class_at, AreSimples, full_character, pair_term}
-use Rattle.std.proofs.lemmas.Bool.{eqb-true, eq-eqb}
+use Rattle.modular_st.proofs.Names.{◌≡◌, ◌+◌, ◌*◌, ◌^◌, ◌<◌, ◌==◌, ◌&&◌, ℕ, Bool, true, false, List, length, map, refl, sym, ◌∙◌, ap, ap₂, subst, arith, Vec, div-mul-add, mod-mul-add, length-map, get_or-map, cyclotomic, value_nought, value_product, CyclotomicValue, root, conjugate, value_size, value_fits, Table, representatives, class_of, Pair, listed_pairs, no_pair, pair_at, Monomial, conjugated, SimplesOver, count, class_at, AreSimples, full_character, pair_term, eqb-true, eq-eqb, product, inverse, IsGroup, Carries, AllFit, as_so, root_exponent, carried_value, KeptConjugates, exchanged, meets, IsSmall, conjugate_at, AreKeptRows, AreKept}
 use Rattle.cyclotomic.proofs.Sizes.{size-zeros}
-use Rattle.group_table.specs.Group.{product, inverse, IsGroup}
 use Rattle.group_table.proofs.Sentences.{group_below, two_sided_inverse, closed}
 use Rattle.classes.specs.Conjugacy.{conjugate as conjugate_element, transporter_of}
 use Rattle.classes.proofs.Conjugacy.{class_below, class_of_conjugate, conjugate_below, conjugate_of_product}
 use Rattle.slant.specs.Phases.{carried, transport_phase}
-use Rattle.pair_orbits.specs.Listing.{Carries}
 use Rattle.pair_orbits.specs.Laws.{IsInvariant}
-use Rattle.pair_orbits.specs.FormedSums.{AllFit}
 use Rattle.pair_orbits.proofs.Listings.{listed_commute, listed_cover, weight_positive}
-use Rattle.qd_ring.proofs.NoughtLaws.{as_so}
-use Rattle.transport.specs.FullCharacters.{root_exponent, carried_value}
 use Rattle.transport.proofs.CharacterLaws.{characters_covariant, terms_invariant}
-use Rattle.modular_st.specs.declared.conjugates.KeptConjugates.{KeptConjugates}
-use Rattle.modular_st.specs.Conjugates.{exchanged, meets, IsSmall, conjugate_at, AreKeptRows, AreKept}
 use Rattle.modular_st.proofs.Terms.{pair_below, other_class}
 use Rattle.modular_st.proofs.AllAts.{some_of}
 use Rattle.modular_st.proofs.Smalls.{small_by_multiple, turned_size, turned_conjugate_fits, turned_fits, small_together}

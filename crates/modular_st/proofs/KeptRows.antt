@@ -1,9 +1,6 @@
 -- Rows of kept conjugates, pair by pair.
-use Rattle.modular_st.proofs.Names.{◌≡◌, ◌+◌, ◌<◌, ℕ, Bool, true, false, cond, List, [], ◌∷◌, ◌++◌, length, map, sym, ◌∙◌, ap, ap₂, subst, arith, inl, inr, cases_eq, map-append, length-map, get_or-map, Table, Pair, no_pair, pair_at, AreCommuting, Monomial, value_of_terms, SimplesOver, class_at}
-use Rattle.std.proofs.Common.{take}
-use Rattle.std.proofs.lemmas.List.{append-nil, take_all}
+use Rattle.modular_st.proofs.Names.{◌≡◌, ◌+◌, ◌<◌, ℕ, Bool, true, false, cond, List, [], ◌∷◌, ◌++◌, length, map, sym, ◌∙◌, ap, ap₂, subst, arith, inl, inr, cases_eq, map-append, length-map, get_or-map, Table, Pair, no_pair, pair_at, AreCommuting, Monomial, value_of_terms, SimplesOver, class_at, take, append-nil, take_all, exchanged, meets, IsSmall, conjugate_at, met_pairs, IsKeptRow}
 use Rattle.std.proofs.lemmas.List.Elements.{filter_more}
-use Rattle.modular_st.specs.Conjugates.{exchanged, meets, IsSmall, conjugate_at, met_pairs, IsKeptRow}
 
 module _ (k : ℕ) (s : SimplesOver) (pairs : List Pair) (i d : ℕ) where
   abbrev met : Pair → Bool

@@ -1,21 +1,12 @@
 -- The numerators from the conjugates that are kept.
-use Rattle.modular_st.proofs.Names.{◌≡◌, ◌+◌, ◌*◌, ◌/◌, ◌<◌, ◌&&◌, ◌==◌, ℕ, Bool, true, false, cond, Option, Some, None, IfSome, List, [], ◌∷◌, length, get_or, map, refl, sym, ◌∙◌, ap, ap₂, subst, arith, Vec, div-mul-add, mod-mul-add, length-map, get_or-map, multiple, representatives, class_of, cyclotomic, value_product, value_nought, CyclotomicValue, cyclotomic_ring, conjugate, Pair, listed_pairs, no_pair, Monomial, value_of_terms, given, IsTurnedProduct, SimplesOver, count, class_at, AreSimples, full_character, pair_term, s_sum}
-use Rattle.std.specs.List.{filter}
-use Rattle.std.proofs.lemmas.Bool.{and_cases}
+use Rattle.modular_st.proofs.Names.{◌≡◌, ◌+◌, ◌*◌, ◌/◌, ◌<◌, ◌&&◌, ◌==◌, ℕ, Bool, true, false, cond, Option, Some, None, IfSome, List, [], ◌∷◌, length, get_or, map, refl, sym, ◌∙◌, ap, ap₂, subst, arith, Vec, div-mul-add, mod-mul-add, length-map, get_or-map, multiple, representatives, class_of, cyclotomic, value_product, value_nought, CyclotomicValue, cyclotomic_ring, conjugate, Pair, listed_pairs, no_pair, Monomial, value_of_terms, given, IsTurnedProduct, SimplesOver, count, class_at, AreSimples, full_character, pair_term, s_sum, filter, and_cases, multiple_mul, multiple_one, multiple_nought, added, weighted, formed_by_orbits, Forms, KeptConjugates, product_at, dot_product, exchanged, meets, conjugate_at, met_pairs, IsKeptRow, AreKeptRows, AreKept}
 use mathlib.Core.Logic.{inl, inr}
 use mathlib.Core.Path.{fun_ext}
 use Rattle.algebra.specs.Structures.{CommRing}
 use Rattle.algebra.proofs.RingLaws.{nought_mul, mul_nought, one_mul}
-use Rattle.algebra.proofs.SumLaws.{multiple_mul, multiple_one, multiple_nought}
 use Rattle.cyclotomic.proofs.Images.{root-zero}
-use Rattle.pair_orbits.specs.FormedSums.{added, weighted}
-use Rattle.pair_orbits.proofs.FormedSums.{formed_by_orbits}
 use Rattle.pair_orbits.proofs.AddedSums.{listed_added, added_filtered}
 use Rattle.qd_ring.specs.declared.cyc.Cyc.{Cyc}
-use Rattle.qd_ring.specs.Formed.{Forms}
-use Rattle.modular_st.specs.declared.conjugates.KeptConjugates.{KeptConjugates}
-use Rattle.modular_st.specs.Dots.{product_at, dot_product}
-use Rattle.modular_st.specs.Conjugates.{exchanged, meets, conjugate_at, met_pairs, IsKeptRow, AreKeptRows, AreKept}
 use Rattle.modular_st.proofs.Terms.{pair_below, other_class}
 use Rattle.modular_st.proofs.KeptFits.{terms_fit, pair_terms_invariant}
 

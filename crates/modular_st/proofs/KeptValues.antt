@@ -1,8 +1,6 @@
 -- A conjugate as it is kept: as often as its weight says, in sparse form.
-use Rattle.modular_st.proofs.Names.{◌≡◌, ◌^◌, ◌<◌, ℕ, true, List, Option, Some, None, IfSome, ◌∙◌, ap₂, is_conductor, cyclotomic, value_product, CyclotomicValue, conjugate, Pair, Monomial, value_of_terms, total_of_terms, SimplesOver, full_character}
-use Rattle.qd_ring.specs.Formed.{whole}
+use Rattle.modular_st.proofs.Names.{◌≡◌, ◌^◌, ◌<◌, ℕ, true, List, Option, Some, None, IfSome, ◌∙◌, ap₂, is_conductor, cyclotomic, value_product, CyclotomicValue, conjugate, Pair, Monomial, value_of_terms, total_of_terms, SimplesOver, full_character, whole, IsSmall, conjugate_at}
 use Rattle.transport.proofs.Wholes.{times_whole}
-use Rattle.modular_st.specs.Conjugates.{IsSmall, conjugate_at}
 use Rattle.modular_st.proofs.Smalls.{small_by_terms}
 
 module _ (k : ℕ) (s : SimplesOver) (i : ℕ) (pair : Pair) (number value weighted : CyclotomicValue k)

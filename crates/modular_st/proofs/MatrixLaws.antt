@@ -1,10 +1,8 @@
 -- The matrix S whose entries are the sums of the program is symmetric and unitary, and its row at the vacuum holds the dimensions.
-use Rattle.modular_st.proofs.Names.{◌≡◌, ℕ, ◌<◌, sym, ap₂, ◌∙◌, cyclotomic_ring, conjugate, SimplesOver, count, AreSimples, s_sum}
-use Rattle.algebra.proofs.SumLaws.{sum_ext}
+use Rattle.modular_st.proofs.Names.{◌≡◌, ℕ, ◌<◌, sym, ap₂, ◌∙◌, cyclotomic_ring, conjugate, SimplesOver, count, AreSimples, s_sum, sum_ext, IsSymmetric, HoldsDimensions, IsUnitary}
 use Rattle.transport.specs.Matrices.{Matrix}
 use Rattle.transport.proofs.GoodTables.{first}
 use Rattle.transport.proofs.SMatrixLaws.{s_symmetric, vacuum_row, s_is_unitary}
-use Rattle.modular_st.specs.ModularMatrices.{IsSymmetric, HoldsDimensions, IsUnitary}
 
 module _ (k : ℕ) (s : SimplesOver) (S : AreSimples k s) (a : Matrix k) (entries : (i j : ℕ) → i < count k s → j < count k s → a i j ≡ (s_sum k s i j).value) where
   pub matrix_symmetric : IsSymmetric k s a

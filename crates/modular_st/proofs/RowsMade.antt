@@ -1,10 +1,6 @@
 -- Rows of values while they are added, value by value and row by row.
-use Rattle.modular_st.proofs.Names.{◌≡◌, ℕ, ◌+◌, ◌-◌, ℤ, List, [], ◌∷◌, ◌++◌, length, get_or, sym, ◌∙◌, ap, arith, length-append, zero-add, map-append, length-map, get_or-map, get_or_push, map-range_with_len_more, length-map-range_with_len, CyclotomicValue, cyclotomic_value, row_at, SimplesOver, s_sum}
-use Rattle.std.proofs.Common.{set}
-use Rattle.std.proofs.lemmas.List.{map-set, set_at}
+use Rattle.modular_st.proofs.Names.{◌≡◌, ℕ, ◌+◌, ◌-◌, ℤ, List, [], ◌∷◌, ◌++◌, length, get_or, sym, ◌∙◌, ap, arith, length-append, zero-add, map-append, length-map, get_or-map, get_or_push, map-range_with_len_more, length-map-range_with_len, CyclotomicValue, cyclotomic_value, row_at, SimplesOver, s_sum, set, map-set, set_at, with_value, row_values, values_of_rows, s_front}
 use mathlib.Core.Path.{ap₂}
-use Rattle.qd_ring.specs.RowLists.{with_value}
-use Rattle.modular_st.specs.SMatrices.{row_values, values_of_rows, s_front}
 
 module _ (k : ℕ) (rows : List (List (List ℤ))) (front : List (List (CyclotomicValue k))) (last : List (CyclotomicValue k)) (is : values_of_rows k rows ≡ front ++ last ∷ []) where
   -- how many rows there are

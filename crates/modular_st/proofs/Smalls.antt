@@ -1,16 +1,10 @@
 -- Values whose multiples by roots of unity are small, and which values fit by them.
-use Rattle.modular_st.proofs.Names.{◌≡◌, ◌-◌, ◌*◌, ◌^◌, ◌<◌, ◌≤◌, ℕ, true, List, sym, ◌∙◌, ap, subst, arith, mul-le-mul, multiple, is_conductor, cyclotomic, value_product, CyclotomicValue, cyclotomic_ring, root, conjugate, value_size, value_fits, Monomial, value_of_terms, total_of_terms}
-use Rattle.std.proofs.Math.Nat.{mul-le-mul_right}
-use Rattle.std.proofs.lemmas.Bool.{le-leb, lt-ltb}
-use Rattle.algebra.proofs.SumLaws.{mul_multiple}
+use Rattle.modular_st.proofs.Names.{◌≡◌, ◌-◌, ◌*◌, ◌^◌, ◌<◌, ◌≤◌, ℕ, true, List, sym, ◌∙◌, ap, subst, arith, mul-le-mul, multiple, is_conductor, cyclotomic, value_product, CyclotomicValue, cyclotomic_ring, root, conjugate, value_size, value_fits, Monomial, value_of_terms, total_of_terms, mul-le-mul_right, le-leb, lt-ltb, mul_multiple, product_fits, greatest_magnitude, size_weighted, IsSmall}
 use Rattle.cyclotomic.specs.Conductors.{phi_of}
-use Rattle.cyclotomic.specs.Fit.{product_fits, greatest_magnitude}
 use Rattle.cyclotomic.proofs.Inverses.{conjugation_prime, galois_product, galois_root, conjugate_conjugate}
 use Rattle.qd_ring.specs.ReductionSigns.{conductor_bounds}
 use Rattle.qd_ring.proofs.SizeLaws.{size_image}
 use Rattle.qd_ring.proofs.SparseLaws.{size-turned}
-use Rattle.pair_orbits.proofs.FormedSums.{size_weighted}
-use Rattle.modular_st.specs.Conjugates.{IsSmall}
 
 module _ (k : ℕ) (entry : is_conductor k ≡ true) where
   -- a value is small by its sparse form

@@ -1,9 +1,6 @@
 -- Conjugates that are 0, and sites of numerators.
-use Rattle.modular_st.proofs.Names.{◌≡◌, ◌+◌, ◌*◌, ◌<◌, ◌==◌, ℕ, false, refl, sym, subst, arith, class_of, conjugated, SimplesOver, count, class_at, full_character, s_sum}
-use Rattle.std.proofs.lemmas.Nat.{row_fits}
+use Rattle.modular_st.proofs.Names.{◌≡◌, ◌+◌, ◌*◌, ◌<◌, ◌==◌, ℕ, false, refl, sym, subst, arith, class_of, conjugated, SimplesOver, count, class_at, full_character, s_sum, row_fits, IsNought, unless_so, conjugate_of_nought, s_site, IsOverflow}
 use Rattle.qd_ring.specs.declared.site.Site.{Site}
-use Rattle.qd_ring.proofs.NoughtLaws.{IsNought, unless_so, conjugate_of_nought}
-use Rattle.modular_st.specs.Numerators.{s_site, IsOverflow}
 
 -- a place among the pairs
 pub pair_below : (i m g n : ℕ) → i < m → g < n → i * n + g < m * n

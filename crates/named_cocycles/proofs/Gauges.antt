@@ -1,26 +1,12 @@
 -- Samples are normalised 3-cocycles: the numbers that they are gauged by are 0 at the pairs with the identity.
-use Rattle.std.proofs.Common.{◌≡◌, ℕ, ◌+◌, ◌*◌, ◌/◌, ◌%◌, ◌<◌, Bool, true, false, ◌||◌, nat_eq, cond, List, None, Some, Result, Ok, Err, refl, sym, ap, subst, ◌∙◌, arith, lit≤, lit<}
+use Rattle.named_cocycles.proofs.Names.{◌≡◌, ℕ, ◌+◌, ◌*◌, ◌/◌, ◌%◌, ◌<◌, Bool, true, false, ◌||◌, nat_eq, cond, List, None, Some, Result, Ok, Err, refl, sym, ap, subst, ◌∙◌, arith, lit≤, lit<, zero-mod, eq-eqb, get_or-map-range_with_len, first_none, no_fault, where_asked, identity_of, dicyclic_group, table_group, dicyclic_below, Cochain, IsCocycle, trivial_cocycle, type_two_cocycle, type_three_cocycle, TypeTwo, TypeThree, reflections_cocycle, sample_base, has_identity, gauge_number, gauge_numbers, sample_cocycle}
 use Rattle.std.specs.Prelude.{slice_index, IfOk}
-use Rattle.std.proofs.Math.Nat.{zero-mod}
-use Rattle.std.proofs.lemmas.Bool.{eq-eqb}
 use Rattle.std.proofs.lemmas.Nat.{div-mul-add, mod-mul-add}
-use Rattle.std.proofs.lemmas.List.FromFn.{get_or-map-range_with_len}
-use Rattle.scan.proofs.Places.{first_none}
-use Rattle.scan.proofs.Searches.{no_fault, where_asked}
-use Rattle.group_table.specs.Group.{identity_of}
 use Rattle.group_table.proofs.Square.{place_below}
-use Rattle.group_make.specs.Formulas.{dicyclic_group}
-use Rattle.group_make.proofs.Tables.{table_group}
-use Rattle.group_make.proofs.FormulaGroups.{dicyclic_below}
-use Rattle.cochain.specs.Cochain.{Cochain, IsCocycle}
 use Rattle.cochain.specs.Gauge.{pair_value, is_normal_pair, gauge_fault, gauged, RefusesGauge}
 use Rattle.cochain.specs.declared.fault.GaugeRefusal.{GaugeRefusal}
 use Rattle.cochain.specs.declared.fault.GaugeRefusal.TheVariants.{NotNormal}
 use Rattle.cochain.proofs.Gauged.{gauged_is_cocycle}
-use Rattle.cocycle_make.specs.Cocycles.{trivial_cocycle, type_two_cocycle, type_three_cocycle}
-use Rattle.named_cocycles.specs.declared.maker.Maker.TheVariants.{TypeTwo, TypeThree}
-use Rattle.named_cocycles.specs.Makers.{reflections_cocycle}
-use Rattle.named_cocycles.specs.Samples.{sample_base, has_identity, gauge_number, gauge_numbers, sample_cocycle}
 use Rattle.named_cocycles.proofs.Named.{is_small, plain, reflections, made_is_cocycle}
 
 module _ (w : Cochain) (s : ℕ) where

@@ -1,10 +1,5 @@
 -- The generator of samples, one pair after the other.
-use Rattle.std.proofs.Common.{◌≡◌, ℕ, suc, ◌+◌, ◌*◌, ◌/◌, ◌%◌, ◌^◌, ◌<◌, Bool, cond, List, [], ◌∷◌, ◌++◌, map, refl, sym, ◌∙◌, add-one, arith}
-use Rattle.std.specs.List.{range_with_len}
-use Rattle.std.proofs.lemmas.List.FromFn.{map-range_with_len_more}
-use Rattle.group_table.specs.Group.{Table}
-use Rattle.cochain.specs.Cochain.{Cochain}
-use Rattle.named_cocycles.specs.Samples.{next_number, has_identity, number_at, gauge_number}
+use Rattle.named_cocycles.proofs.Names.{◌≡◌, ℕ, suc, ◌+◌, ◌*◌, ◌/◌, ◌%◌, ◌^◌, ◌<◌, Bool, cond, List, [], ◌∷◌, ◌++◌, map, refl, sym, ◌∙◌, add-one, arith, range_with_len, map-range_with_len_more, Table, Cochain, next_number, has_identity, number_at, gauge_number}
 
 pub number-start : (t : Table) (s : ℕ) → number_at t s 0 ≡ s % 2 ^ 31
 unfolding number_at

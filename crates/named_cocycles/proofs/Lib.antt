@@ -1,4 +1,5 @@
-pub mod Signs
-pub mod Named
 pub mod Gauges
 pub mod Generator
+pub mod Named
+pub mod Names
+pub mod Signs

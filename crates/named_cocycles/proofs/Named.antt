@@ -1,27 +1,13 @@
 -- The cocycles that have names are normalised 3-cocycles.
-use Rattle.std.proofs.Common.{◌≡◌, ℕ, ◌*◌, ◌%◌, ◌<◌, ◌≤◌, Bool, true, false, ◌&&◌, nat_le, cond, length, None, Some, refl, ◌∙◌, arith, lit≤}
-use Rattle.std.proofs.Math.Nat.{mod-lt}
-use Rattle.std.proofs.lemmas.Bool.{leb-true}
+use Rattle.named_cocycles.proofs.Names.{◌≡◌, ℕ, ◌*◌, ◌%◌, ◌<◌, ◌≤◌, Bool, true, false, ◌&&◌, nat_le, cond, length, None, Some, refl, ◌∙◌, arith, lit≤, mod-lt, leb-true, and_true, or_none, Table, IsGroup, IsSmall, product_group, dihedral_group, cyclic_group, table_group, cyclic_below, dihedral_below, dicyclic_below, product_below, semidirect_below, cochain_of, exponents_by, cocycle_fault, IsRoots, IsCocycle, passes, trivial_cocycle, roots_of, step_of, type_one_value, type_one_cocycle, type_two_value, type_two_cocycle, type_three_value, type_three_cocycle, divisor_of_three, Factors, Cyclic, Product, TypeTwo, TypeThree, Dihedral, Dicyclic, Semidirect, reflections_value, reflections_cocycle, dihedral_cocycle, made_cocycle, maker_fault}
 use Rattle.std.proofs.lemmas.List.{get_or-map, length-map}
-use Rattle.scan.proofs.Places.{and_true, or_none}
-use Rattle.group_table.specs.Group.{Table, IsGroup, IsSmall}
-use Rattle.group_make.specs.Formulas.{product_group, dihedral_group, cyclic_group}
 use Rattle.group_make.specs.Refusal.{size_fault, action_fault}
 use Rattle.group_make.specs.declared.refusal.MakeRefusal.TheVariants.{Size}
-use Rattle.group_make.proofs.Tables.{table_group}
 use Rattle.group_make.proofs.Bounds.{small_factors, acts_once}
-use Rattle.group_make.proofs.Extensions.{cyclic_below}
-use Rattle.group_make.proofs.FormulaGroups.{dihedral_below, dicyclic_below, product_below, semidirect_below}
-use Rattle.cochain.specs.Cochain.{cochain_of, exponents_by, cocycle_fault, IsRoots, IsCocycle}
-use Rattle.scan.proofs.Searches.{passes}
 use Rattle.cochain.proofs.Lawful.{is_cocycle}
-use Rattle.cocycle_make.specs.Cocycles.{trivial_cocycle, roots_of, step_of, type_one_value, type_one_cocycle, type_two_value, type_two_cocycle, type_three_value, type_three_cocycle, divisor_of_three}
 use Rattle.cocycle_make.proofs.Divisor.{divisor, lowest_terms}
 use Rattle.cocycle_make.proofs.Lawful.{trivial_lawful, type_one_lawful, type_two_lawful, type_three_lawful, three_positive}
-use Rattle.cocycle_make.proofs.Made.{Factors}
 use Rattle.named_cocycles.specs.declared.maker.Maker.{Maker}
-use Rattle.named_cocycles.specs.declared.maker.Maker.TheVariants.{Cyclic, Product, TypeTwo, TypeThree, Dihedral, Dicyclic, Semidirect}
-use Rattle.named_cocycles.specs.Makers.{reflections_value, reflections_cocycle, dihedral_cocycle, made_cocycle, maker_fault}
 use Rattle.named_cocycles.proofs.Signs.{reflections_lawful}
 
 -- an order that is not refused

@@ -1,16 +1,10 @@
 -- The reflections of a dihedral group give a normalised 3-cocycle: the product of three maps onto the group of order 2.
-use Rattle.std.proofs.Common.{◌≡◌, ℕ, ◌+◌, ◌*◌, ◌/◌, ◌%◌, ◌<◌, None, refl, ap, subst, arith}
+use Rattle.named_cocycles.proofs.Names.{◌≡◌, ℕ, ◌+◌, ◌*◌, ◌/◌, ◌%◌, ◌<◌, None, refl, ap, subst, arith, mod-lt, mul-add, add-mul, one-mul, pair, dihedral_product, second_of, dihedral_below, cocycle_fault, reflections_value, reflections_cocycle}
 use mathlib.Core.Path.{fun_ext}
-use Rattle.std.proofs.Math.Nat.{mod-lt, mul-add, add-mul, one-mul}
 use Rattle.algebra.specs.Congruences.{Same}
 use Rattle.algebra.proofs.CongruenceLaws.{same_of, same_sym, same_trans, same_mod, same_add_left, same_mul_left, same_mul_right}
-use Rattle.group_make.specs.Formulas.{pair, dihedral_product}
-use Rattle.group_make.proofs.Extensions.{second_of}
-use Rattle.group_make.proofs.FormulaGroups.{dihedral_below}
-use Rattle.cochain.specs.Cochain.{cocycle_fault}
 use Rattle.cochain.specs.Laws.{IsLawful}
 use Rattle.cocycle_make.proofs.Cup.{lawful_by, IsCup, cup}
-use Rattle.named_cocycles.specs.Makers.{reflections_value, reflections_cocycle}
 
 -- products of two signs are a 2-cocycle
 closed : (x y z xy yz : ℕ) → Same 2 xy (x + y) → Same 2 yz (y + z) → Same 2 (x * y + xy * z) (y * z + x * yz)

@@ -1,7 +1,6 @@
 -- Conjugation of pairs is an action, conjugacy of pairs an equivalence, and conjugates of commuting pairs commute.
-use Rattle.pair_orbits.proofs.Names.{◌≡◌, ℕ, ◌+◌, ◌*◌, ◌/◌, ◌%◌, ◌<◌, true, refl, sym, ap, ap₂, ◌∙◌, arith, eq-eqb, eqb-true, mod-lt, div-add-mod, div-lt_iff_lt-mul, mul_comm, div-mul-add, mod-mul-add, row_fits, Table, product, identity_of, IsGroup, conjugate, IsAction, carrier, met_by, met_refl, met_sym, met_trans, conjugate_below, conjugate_by_product, conjugate_of_product, conjugate_by_identity}
+use Rattle.pair_orbits.proofs.Names.{◌≡◌, ℕ, ◌+◌, ◌*◌, ◌/◌, ◌%◌, ◌<◌, true, refl, sym, ap, ap₂, ◌∙◌, arith, eq-eqb, eqb-true, mod-lt, div-add-mod, div-lt_iff_lt-mul, mul_comm, div-mul-add, mod-mul-add, row_fits, Table, product, identity_of, IsGroup, conjugate, IsAction, carrier, met_by, met_refl, met_sym, met_trans, conjugate_below, conjugate_by_product, conjugate_of_product, conjugate_by_identity, pair_number, first_of, second_of, is_commuting, conjugate_pair, are_conjugate}
 use Rattle.group_table.proofs.Sentences.{identity_below}
-use Rattle.pair_orbits.specs.PairOrbits.{pair_number, first_of, second_of, is_commuting, conjugate_pair, are_conjugate}
 
 module _ (t : Table) where
   -- a pair by its elements

@@ -1,10 +1,7 @@
 -- Sums of values over a list: term by term, and with the elements left out at which the value is 0.
-use Rattle.pair_orbits.proofs.Names.{◌≡◌, ℕ, ◌+◌, ◌<◌, Bool, true, false, cond, not, ◌||◌, List, [], ◌∷◌, length, map, get_or, refl, sym, ap, ap₂, ◌∙◌, arith, nat_lt, zero-add, sum_by, range_with_len, filter, length-map, get_or-map, fill_by_all, sum_by-cons, fun_ext, all_below, all_below-all, sum_list_cons, sum_list_range, CyclotomicValue, cyclotomic_ring, size-zeros, listed, given, added}
-use Rattle.algebra.specs.Sums.{sum_below, sum_list}
+use Rattle.pair_orbits.proofs.Names.{◌≡◌, ℕ, ◌+◌, ◌<◌, Bool, true, false, cond, not, ◌||◌, List, [], ◌∷◌, length, map, get_or, refl, sym, ap, ap₂, ◌∙◌, arith, nat_lt, zero-add, sum_by, range_with_len, filter, length-map, get_or-map, fill_by_all, sum_by-cons, fun_ext, all_below, all_below-all, sum_list_cons, sum_list_range, CyclotomicValue, cyclotomic_ring, size-zeros, listed, given, added, sum_below, sum_list, value_nought, sum_overflows}
 use Rattle.algebra.proofs.RingLaws.{nought_add}
-use Rattle.cyclotomic.specs.Ring.{value_nought}
 use Rattle.cyclotomic.specs.Fit.{value_size, sizes_overflow, greatest_magnitude}
-use Rattle.qd_ring.specs.Fit.{sum_overflows}
 
 module _ (k : ℕ) where
   size_nought : (u : CyclotomicValue k) → u ≡ value_nought → value_size u ≡ 0

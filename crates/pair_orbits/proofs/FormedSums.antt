@@ -1,14 +1,10 @@
 -- Listed sums over all commuting pairs are sums over the listed ones.
-use Rattle.pair_orbits.proofs.Names.{◌≡◌, ℕ, zero, suc, ◌+◌, ◌*◌, ◌≤◌, max, Bool, true, false, not, ◌||◌, ◌∷◌, List, [], map, refl, sym, ap, ap₂, ◌∙◌, arith, inl, inr, eqb-true, nat_lt, zero-add, ℤ, pos, nat_abs, sum_by, range_with_len, mul-le-mul_left, mul-zero, cases_lt, sum_by-map-range_with_len_more, fun_ext, all_below, all_below-all, sum_ext, pick_true, pick_false, CyclotomicValue, cyclotomic_ring, magnitude-product, size-zeros, Table, IsGroup, Formed, where_so, IsInvariant, added, pairs_sum, weighted, AllFit, FormedOverOrbits}
+use Rattle.pair_orbits.proofs.Names.{◌≡◌, ℕ, zero, suc, ◌+◌, ◌*◌, ◌≤◌, max, Bool, true, false, not, ◌||◌, ◌∷◌, List, [], map, refl, sym, ap, ap₂, ◌∙◌, arith, inl, inr, eqb-true, nat_lt, zero-add, ℤ, pos, nat_abs, sum_by, range_with_len, mul-le-mul_left, mul-zero, cases_lt, sum_by-map-range_with_len_more, fun_ext, all_below, all_below-all, sum_ext, pick_true, pick_false, CyclotomicValue, cyclotomic_ring, magnitude-product, size-zeros, Table, IsGroup, Formed, where_so, IsInvariant, added, pairs_sum, weighted, AllFit, FormedOverOrbits, multiple, pick_in, value_multiple, value_nought, sum_overflows, first_of, second_of, is_commuting, commuting_pairs_of, listed_pairs}
 use Rattle.orders.proofs.Sums.{total, pick, total_same}
-use Rattle.algebra.specs.Sums.{multiple, pick as pick_in}
 use Rattle.cyclotomic.specs.Cyclotomic.{cyclotomic}
 use Rattle.cyclotomic.specs.Polynomial.{scaled}
-use Rattle.cyclotomic.specs.Ring.{value_multiple, value_nought}
 use Rattle.cyclotomic.specs.Fit.{size_of, value_size, sizes_overflow, greatest_magnitude}
 use Rattle.cyclotomic.proofs.Orthogonality.{multiple-is}
-use Rattle.qd_ring.specs.Fit.{sum_overflows}
-use Rattle.pair_orbits.specs.PairOrbits.{first_of, second_of, is_commuting, commuting_pairs_of, listed_pairs}
 use Rattle.pair_orbits.proofs.Actions.{first_below, second_below}
 use Rattle.pair_orbits.proofs.Passing.{passing_total, sum_by_again}
 use Rattle.pair_orbits.proofs.Sums.{sum_by_orbits, size_by_orbits}

@@ -1,7 +1,6 @@
 -- The pairs below a number that are listed, one number after the other.
-use Rattle.pair_orbits.proofs.Names.{◌≡◌, ℕ, ◌+◌, ◌*◌, ◌≤◌, true, false, List, [], ◌∷◌, ◌++◌, length, map, refl, sym, ap, ◌∙◌, arith, map-append, length-map, mul-le-mul, Table, passing_below, passing_below-zero, passing_below-passes, passing_below-fails, length-passing_below}
+use Rattle.pair_orbits.proofs.Names.{◌≡◌, ℕ, ◌+◌, ◌*◌, ◌≤◌, true, false, List, [], ◌∷◌, ◌++◌, length, map, refl, sym, ap, ◌∙◌, arith, map-append, length-map, mul-le-mul, Table, passing_below, passing_below-zero, passing_below-passes, passing_below-fails, length-passing_below, least_pairs, weighted_pair, listed_pairs}
 use Rattle.pair_orbits.specs.declared.pair.Pair.{Pair}
-use Rattle.pair_orbits.specs.PairOrbits.{least_pairs, weighted_pair, listed_pairs}
 use Rattle.pair_orbits.proofs.Sums.{is_listed}
 
 module _ (t : Table) where

@@ -1,6 +1,5 @@
 -- The least of the conjugates of a pair.
-use Rattle.pair_orbits.proofs.Names.{◌≡◌, ℕ, ◌*◌, ◌<◌, ◌≤◌, Bool, true, false, not, nat_lt, Some, None, cond, refl, arith, unwrap_or, ltb-false, le-ltb, not_from_false, first, all_below-at, all_below-all, Table, IsGroup, IsLeastPassing, least_passing, least_passing_found}
-use Rattle.pair_orbits.specs.PairOrbits.{conjugate_pair, are_conjugate, is_least}
+use Rattle.pair_orbits.proofs.Names.{◌≡◌, ℕ, ◌*◌, ◌<◌, ◌≤◌, Bool, true, false, not, nat_lt, Some, None, cond, refl, arith, unwrap_or, ltb-false, le-ltb, not_from_false, first, all_below-at, all_below-all, Table, IsGroup, IsLeastPassing, least_passing, least_passing_found, conjugate_pair, are_conjugate, is_least}
 use Rattle.pair_orbits.proofs.Actions.{pair_carrier, pair_conjugate_by, pair_refl, pair_sym, pair_trans, carried_below}
 
 false_of_not : (b : Bool) → not b ≡ true → b ≡ false

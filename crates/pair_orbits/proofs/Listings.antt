@@ -1,9 +1,8 @@
 -- The list of commuting pairs has the properties of Listing.
-use Rattle.pair_orbits.proofs.Names.{◌≡◌, ℕ, ◌+◌, ◌*◌, ◌<◌, ◌≤◌, ◌&&◌, true, length, get_or, refl, sym, ap, ap₂, ◌∙◌, arith, inl, inr, eq-eqb, eqb-true, subst, fun_ext, mul-one, cases_lt, row_fits, length-map, get_or-map, get_or_default, and_true, Table, product, IsGroup, passing_below, IsPassing, passing_below-all, passing_below-contains, passing_below-ascending, conjugate, conjugate_below, OfListedPairs, IsInvariant, passing_length}
+use Rattle.pair_orbits.proofs.Names.{◌≡◌, ℕ, ◌+◌, ◌*◌, ◌<◌, ◌≤◌, ◌&&◌, true, length, get_or, refl, sym, ap, ap₂, ◌∙◌, arith, inl, inr, eq-eqb, eqb-true, subst, fun_ext, mul-one, cases_lt, row_fits, length-map, get_or-map, get_or_default, and_true, Table, product, IsGroup, passing_below, IsPassing, passing_below-all, passing_below-contains, passing_below-ascending, conjugate, conjugate_below, OfListedPairs, IsInvariant, passing_length, pair_number, first_of, second_of, is_commuting, conjugate_pair, conjugates_of, is_least, least_pairs, weighted_pair, listed_pairs, commuting_pairs_of}
 use mathlib.Core.Logic.{◌⊎◌}
 use Rattle.std.specs.Prelude.{List, sum_by}
 use Rattle.std.proofs.lemmas.List.Elements.{All-get_or}
-use Rattle.pair_orbits.specs.PairOrbits.{pair_number, first_of, second_of, is_commuting, conjugate_pair, conjugates_of, is_least, least_pairs, weighted_pair, listed_pairs, commuting_pairs_of}
 use Rattle.pair_orbits.specs.Listing.{no_pair, pair_at, Carries, AreCommuting, AreLeast, CoverCommuting, AreListedOnce, Ascend, HoldWeights}
 use Rattle.pair_orbits.proofs.Actions.{pair_below, first_is, second_is, pair_is, conjugate_pair_is, first_below, second_below, first_carried, second_carried, pair_carrier, pair_conjugate_by, pair_sym, commuting_conjugate}
 use Rattle.pair_orbits.proofs.Least.{least_at, least_conjugate, least_conjugate_is, least_conjugate_least, least_unique}

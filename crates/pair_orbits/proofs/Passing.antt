@@ -1,7 +1,6 @@
 -- Sums over lists of the numbers that pass a test, and how long these lists are.
-use Rattle.pair_orbits.proofs.Names.{◌≡◌, ℕ, zero, suc, ◌+◌, Bool, true, false, cond, List, [], ◌∷◌, ◌++◌, length, map, refl, sym, ap, ap₂, ◌∙◌, arith, length-append, add-zero, sum_by, map-append, sum_by-append, sum_by-cons, CommRing, sum_zero, sum_suc, sum_list_nil, sum_list_push, pick_true, pick_false, multiple_zero, multiple_add, multiple_one, passing_below, passing_below-zero, passing_below-suc}
+use Rattle.pair_orbits.proofs.Names.{◌≡◌, ℕ, zero, suc, ◌+◌, Bool, true, false, cond, List, [], ◌∷◌, ◌++◌, length, map, refl, sym, ap, ap₂, ◌∙◌, arith, length-append, add-zero, sum_by, map-append, sum_by-append, sum_by-cons, CommRing, sum_zero, sum_suc, sum_list_nil, sum_list_push, pick_true, pick_false, multiple_zero, multiple_add, multiple_one, passing_below, passing_below-zero, passing_below-suc, sum_below, multiple, sum_list, pick_in}
 use Rattle.orders.proofs.Sums.{total, pick}
-use Rattle.algebra.specs.Sums.{sum_below, multiple, sum_list, pick as pick_in}
 
 -- a list whose elements are mapped twice, and a sum over one
 pub map_again : {X Y Z : Type 0} (f : X → Y) (g : Y → Z) (xs : List X) → map g (map f xs) ≡ map (λ x. g (f x)) xs

@@ -1,7 +1,6 @@
 -- The conjugates of a pair, times the elements that carry it to itself, are as many as the group has elements.
-use Rattle.pair_orbits.proofs.Names.{◌≡◌, ℕ, ◌*◌, ◌/◌, ◌<◌, length, sym, ap, ◌∙◌, arith, inl, inr, mul-div_cancel, zero-mul, mul_comm, cases_lt, Table, IsGroup}
+use Rattle.pair_orbits.proofs.Names.{◌≡◌, ℕ, ◌*◌, ◌/◌, ◌<◌, length, sym, ap, ◌∙◌, arith, inl, inr, mul-div_cancel, zero-mul, mul_comm, cases_lt, Table, IsGroup, conjugate_pair, are_conjugate, conjugates_of, fixing}
 use Rattle.classes.proofs.Orbits as orbits
-use Rattle.pair_orbits.specs.PairOrbits.{conjugate_pair, are_conjugate, conjugates_of, fixing}
 use Rattle.pair_orbits.proofs.Actions.{order_positive, pairs_action}
 
 module _ (t : Table) (G : IsGroup t) where

@@ -1,8 +1,6 @@
 -- Sums over all commuting pairs are sums over the least of them, each as often as it has conjugates.
-use Rattle.pair_orbits.proofs.Names.{◌≡◌, ℕ, ◌*◌, ◌<◌, Bool, true, false, ◌&&◌, eqb, length, refl, sym, ap, ap₂, ◌∙◌, eq-eqb, eqb-true, sum_by, and_true, CommRing, sum_ext, sum_exchange, sum_pick, pick_cong, pick_pick, pick_sum, Table, IsGroup, same_test, both, IsInvariant, sum_over_pairs, sum_over_orbits, SumsOverOrbits, SizesOverOrbits, passing_copies}
+use Rattle.pair_orbits.proofs.Names.{◌≡◌, ℕ, ◌*◌, ◌<◌, Bool, true, false, ◌&&◌, eqb, length, refl, sym, ap, ap₂, ◌∙◌, eq-eqb, eqb-true, sum_by, and_true, CommRing, sum_ext, sum_exchange, sum_pick, pick_cong, pick_pick, pick_sum, Table, IsGroup, same_test, both, IsInvariant, sum_over_pairs, sum_over_orbits, SumsOverOrbits, SizesOverOrbits, passing_copies, sum_below, pick, multiple, sum_list, first_of, second_of, is_commuting, are_conjugate, is_least, conjugates_of, least_pairs, weighted_pair, listed_pairs, commuting_pairs_of}
 use Rattle.orders.proofs.Sums.{total, pick as pick_number, total_same, total_nought, total_exchange, total_pick}
-use Rattle.algebra.specs.Sums.{sum_below, pick, multiple, sum_list}
-use Rattle.pair_orbits.specs.PairOrbits.{first_of, second_of, is_commuting, are_conjugate, is_least, conjugates_of, least_pairs, weighted_pair, listed_pairs, commuting_pairs_of}
 use Rattle.pair_orbits.proofs.Actions.{first_below, second_below, first_carried, second_carried, pair_carrier, pair_sym, commuting_conjugate}
 use Rattle.pair_orbits.proofs.Least.{least_conjugate, least_conjugate_is, least_conjugate_least, least_conjugate_unique}
 use Rattle.pair_orbits.proofs.Passing.{map_again, sum_by_again, passing_total, passing_sum, passing_multiple}

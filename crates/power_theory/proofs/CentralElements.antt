@@ -1,17 +1,12 @@
 -- The central elements of a crossed product with a finite group of fewer than q elements, in characteristic q: the sum of all
 -- conjugates by the u_x is a trace, and takes a central element to as many copies of it as the group has elements.
-use Rattle.std.proofs.Common.{◌≡◌, ℕ, zero, suc, ◌<◌, sym, ◌∙◌, ap, arith}
-use mathlib.Core.Path.{fun_ext, ap₂}
-use Rattle.algebra.specs.Structures.{CommRing}
-use Rattle.algebra.specs.Sums.{multiple, power}
+use Rattle.power_theory.proofs.Names.{◌≡◌, ℕ, zero, suc, ◌<◌, sym, ◌∙◌, ap, arith, fun_ext, ap₂, CommRing, multiple, power, Ring, ring_sum, ring_power, Trace, HasCharacteristic}
 use Rattle.algebra.specs.Totals.{Finite, total}
 use Rattle.algebra.specs.Groups.{Group}
 use Rattle.algebra.proofs.SumLaws as sums
 use Rattle.algebra.proofs.RingLaws as commutative
 use Rattle.algebra.proofs.TotalLaws.{total_ext, total_add, total_constant, total_reindex}
 use Rattle.algebra.proofs.GroupLaws.{op_op_inv, op_inv_cancel}
-use Rattle.power_theory.specs.Rings.{Ring, ring_sum, ring_power}
-use Rattle.power_theory.specs.Traces.{Trace, HasCharacteristic}
 use Rattle.power_theory.specs.CrossedProducts.{CrossedProduct}
 use Rattle.power_theory.proofs.RingSums.{mul_nought, nought_mul, sum_holds, power_zero, power_suc, nought_power, power_commutes}
 use Rattle.power_theory.proofs.SumPowers.{trace_power_of_sum}

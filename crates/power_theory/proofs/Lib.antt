@@ -1,3 +1,4 @@
+pub mod CentralElements
+pub mod Names
 pub mod RingSums
 pub mod SumPowers
-pub mod CentralElements

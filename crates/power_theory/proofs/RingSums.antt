@@ -1,8 +1,7 @@
 -- Laws of rings that need not commute, of their sums and of their powers.
-use Rattle.std.proofs.Common.{◌≡◌, ℕ, zero, suc, ◌+◌, ◌<◌, refl, sym, ◌∙◌, ap, arith}
+use Rattle.power_theory.proofs.Names.{◌≡◌, ℕ, zero, suc, ◌+◌, ◌<◌, refl, sym, ◌∙◌, ap, arith, Ring, ring_sum, ring_power}
 use Rattle.std.proofs.Math.Nat.{add-zero, add-suc, mul-zero, mul-suc}
 use Rattle.std.specs.Prelude.{◌*◌}
-use Rattle.power_theory.specs.Rings.{Ring, ring_sum, ring_power}
 
 module _ {A : Type 0} (R : Ring A) where
   pub add_assoc : (x y z : A) → R.add (R.add x y) z ≡ R.add x (R.add y z)

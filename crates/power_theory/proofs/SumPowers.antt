@@ -1,13 +1,8 @@
 -- The coefficients of (a t + b)^n in a ring that need not commute, and the trace of (a + b)^q in characteristic q. A function on the
 -- natural numbers is read as the polynomial with the coefficient f k at t^k, and t commutes with all.
-use Rattle.std.proofs.Common.{◌≡◌, ℕ, zero, suc, ◌+◌, ◌-◌, ◌<◌, refl, sym, ◌∙◌, ap, arith}
-use mathlib.Core.Path.{fun_ext, ap₂}
-use Rattle.algebra.specs.Structures.{CommRing}
-use Rattle.algebra.specs.Sums.{sum_below, multiple}
+use Rattle.power_theory.proofs.Names.{◌≡◌, ℕ, zero, suc, ◌+◌, ◌-◌, ◌<◌, refl, sym, ◌∙◌, ap, arith, fun_ext, ap₂, CommRing, sum_below, multiple, Ring, ring_sum, ring_power, Trace, HasCharacteristic}
 use Rattle.algebra.proofs.SumLaws as sums
 use Rattle.algebra.proofs.RingLaws as commutative
-use Rattle.power_theory.specs.Rings.{Ring, ring_sum, ring_power}
-use Rattle.power_theory.specs.Traces.{Trace, HasCharacteristic}
 use Rattle.power_theory.proofs.RingSums.{nought_add, add_nought, mul_nought, nought_mul, any_ring_rules, sum_zero, sum_suc, mul_sum, sum_add, sum_nought, power_zero, power_first}
 
 -- ---- polynomials

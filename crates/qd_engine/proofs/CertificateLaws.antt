@@ -1,16 +1,6 @@
 -- The certificate of an accepted document is accepted by `verify`.
-use Rattle.qd_engine.proofs.Names.{◌≡◌, ℕ, ◌%◌, ◌≤◌, true, List, [], ◌∷◌, length, codes, Some, refl, sym, ap, subst, sum, append-nil, Cochain, IsCocycle, is_conductor, least_conductor, IsGroup, SimplesOver, AreSimples, HasRootRows, root_order, INPUT_LIMIT, Block, Document, Given, simples_over, Cause, lifted_root_rows}
-use Rattle.std.specs.Prelude.{IfSome}
-use Rattle.qd_engine.specs.Words.{verify_command, certificate}
-use Rattle.qd_engine.specs.Documents.{document_in, table_of, exponents_of, given_in, conductor_of}
-use Rattle.qd_engine.specs.Sources.{lifted_by, blocks_of}
-use Rattle.qd_engine.specs.Report.{class_ranks, report_in, parts_text}
-use Rattle.qd_engine.specs.Tests.{LateRows, Late}
-use Rattle.qd_engine.specs.Causes.{OfRows, AreGood, IsVerified, IsAccepted}
-use Rattle.qd_engine.specs.Acceptable.{AllFit, SourceFits, IsAcceptable}
-use Rattle.qd_engine.specs.Certificate.{certified_blocks, certificate_document, certificate_text}
+use Rattle.qd_engine.proofs.Names.{◌≡◌, ℕ, ◌%◌, ◌≤◌, true, List, [], ◌∷◌, length, codes, Some, refl, sym, ap, subst, sum, append-nil, Cochain, IsCocycle, is_conductor, least_conductor, IsGroup, SimplesOver, AreSimples, HasRootRows, root_order, INPUT_LIMIT, Block, Document, Given, simples_over, Cause, lifted_root_rows, IfSome, verify_command, certificate, document_in, table_of, exponents_of, given_in, conductor_of, lifted_by, blocks_of, class_ranks, report_in, parts_text, LateRows, Late, OfRows, AreGood, IsVerified, IsAccepted, AllFit, SourceFits, IsAcceptable, certified_blocks, certificate_document, certificate_text, Lifted}
 use Rattle.qd_engine.specs.CertificateLaws.{CertificateIsAcceptable}
-use Rattle.qd_engine.specs.declared.command.RowSource.TheVariants.{Lifted}
 use Rattle.qd_engine.proofs.ConductorLaws.{least_is_conductor, multiple_of_factor}
 use Rattle.qd_engine.proofs.LiftedRows.{numbers_of_field, field_serves}
 use Rattle.qd_engine.proofs.LateLaws.{part_late}

@@ -1,16 +1,11 @@
 -- The rows of a certificate are good tables of the classes, and no sum of their values overflows.
-use Rattle.qd_engine.proofs.Names.{◌≡◌, ℕ, ◌<◌, true, List, [], length, All, sym, ap, ap₂, subst, ◌∙◌, arith, ℤ, ◌==◌, range_with_len, All-map, length-map-range_with_len, get_or-map-range_with_len, fill_by_all, passing_below-all, representatives, representative_at, representative_at_is, Cochain, array_of, TwistedSubgroup, size, RowsOver, IsShaped, characters_of, IsGood, twist_of, twist_lawful, SimplesOver, no_table, table_at, count, class_at, value_at, AreSimples, AreRootRows, HasRootRows, root_rows_fit, degree_few, root_simples_fit, simples_in, row_of, Block, block, block_at, IsValueOf, IsMatched, class_twist, class_table, class_rows, tables_of, simples_over}
+use Rattle.qd_engine.proofs.Names.{◌≡◌, ℕ, ◌<◌, true, List, [], length, All, sym, ap, ap₂, subst, ◌∙◌, arith, ℤ, ◌==◌, range_with_len, All-map, length-map-range_with_len, get_or-map-range_with_len, fill_by_all, passing_below-all, representatives, representative_at, representative_at_is, Cochain, array_of, TwistedSubgroup, size, RowsOver, IsShaped, characters_of, IsGood, twist_of, twist_lawful, SimplesOver, no_table, table_at, count, class_at, value_at, AreSimples, AreRootRows, HasRootRows, root_rows_fit, degree_few, root_simples_fit, simples_in, row_of, Block, block, block_at, IsValueOf, IsMatched, class_twist, class_table, class_rows, tables_of, simples_over, roots_fit, simple_at, over_at, simple_rows, in_order, tables_length, tables_at, certified_block, certified_blocks}
 use Rattle.qd_ring.proofs.ProductLaws.{is_array-of}
 use Rattle.qd_ring.proofs.CycLaws.{small-array_of}
-use Rattle.qd_ring.proofs.RootSumLaws.{roots_fit}
 use Rattle.table_check.specs.Fitting.{SidesFit}
-use Rattle.transport.specs.Simples.{simple_at, over_at}
 use Rattle.transport.specs.SSums.{s_sum}
 use Rattle.transport.proofs.Listed.{simple_is_row, over_is_twist}
-use Rattle.row_order.specs.SimpleRows.{simple_rows, in_order}
 use Rattle.row_order.proofs.TablesInOrder.{simples_in_order, root_rows_in_order}
-use Rattle.qd_steps.proofs.TableSteps.{tables_length, tables_at}
-use Rattle.qd_engine.specs.Certificate.{certified_block, certified_blocks}
 
 module _ (k : ℕ) (s : SimplesOver) (S : AreSimples k s) (roots : HasRootRows k s) where
   abbrev w : Cochain

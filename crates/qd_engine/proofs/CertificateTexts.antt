@@ -1,17 +1,9 @@
 -- The text of a certificate is a document, which is read as the certificate.
-use Rattle.qd_engine.proofs.Names.{◌≡◌, ℕ, ◌+◌, ◌*◌, ◌/◌, ◌%◌, ◌<◌, ◌^◌, List, [], ◌∷◌, length, map, get_or, All, None, Ok, refl, sym, ap, ap₂, subst, ◌∙◌, arith, range_with_len, All-map, Table, IsGroup, representatives, representative_at_is, Cochain, reduced, SimplesOver, AreSimples, tokens, Block, stop_of, IsValueOf, IsInRange, document_of}
-use Rattle.std.specs.Prelude.{slice_index}
-use Rattle.std.proofs.Math.Nat.{div-lt_iff_lt-mul, mod-eq_of_lt}
-use Rattle.std.proofs.lemmas.List.{get_or_default}
-use Rattle.std.proofs.lemmas.List.Elements.{All-head, All-tail}
-use Rattle.std.proofs.lemmas.List.FromFn.{length-range_with_len, get_or-range_with_len}
-use Rattle.group_table.specs.Group.{IsSmall}
+use Rattle.qd_engine.proofs.Names.{◌≡◌, ℕ, ◌+◌, ◌*◌, ◌/◌, ◌%◌, ◌<◌, ◌^◌, List, [], ◌∷◌, length, map, get_or, All, None, Ok, refl, sym, ap, ap₂, subst, ◌∙◌, arith, range_with_len, All-map, Table, IsGroup, representatives, representative_at_is, Cochain, reduced, SimplesOver, AreSimples, tokens, Block, stop_of, IsValueOf, IsInRange, document_of, slice_index, div-lt_iff_lt-mul, mod-eq_of_lt, get_or_default, All-head, All-tail, length-range_with_len, get_or-range_with_len, IsSmall, IsCochain, cochain_of, certified_block, certified_blocks, certificate_document, certificate_text}
 use Rattle.group_table.proofs.Sentences.{laws_of, product_below}
-use Rattle.cochain.specs.Cochain.{IsCochain, cochain_of}
 use Rattle.qd_doc.specs.Canonical.{IsNarrow, reduced_document}
 use Rattle.qd_doc.specs.declared.document.Form.TheVariants.{WithCharacters}
 use Rattle.qd_doc.proofs.RoundTrip.{printed_is_read}
-use Rattle.qd_engine.specs.Certificate.{certified_block, certified_blocks, certificate_document, certificate_text}
 
 -- a list whose numbers a function leaves as they are
 map_same : (f : ℕ → ℕ) (xs : List ℕ) → All (λ x. f x ≡ x) xs → map f xs ≡ xs

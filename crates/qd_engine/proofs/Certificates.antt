@@ -1,11 +1,6 @@
 -- The rows and blocks of a certificate, put together piece after piece.
-use Rattle.qd_engine.proofs.Names.{◌≡◌, ℕ, ◌+◌, ◌<◌, List, [], ◌∷◌, Result, Ok, Err, ◌++◌, length, map, take, get_or, All, refl, ap, sym, subst, ◌∙◌, length-append, arith, ℤ, OnOk, ◌==◌, passing_below-all, simples_in, range_with_len, take_more, map-range_with_len_more, array_of, SimplesOver, count, class_at, value_at, Block, block, block_at, last_rows, with_last_rows, with_value, representatives}
-use Rattle.std.proofs.Common.{◌-◌, set}
-use Rattle.std.proofs.lemmas.List.{get_or_push, map-append, length-set, get_or-set_same, set-set, set-get_or}
-use Rattle.std.proofs.lemmas.List.Elements.{All-push}
+use Rattle.qd_engine.proofs.Names.{◌≡◌, ℕ, ◌+◌, ◌<◌, List, [], ◌∷◌, Result, Ok, Err, ◌++◌, length, map, take, get_or, All, refl, ap, sym, subst, ◌∙◌, length-append, arith, ℤ, OnOk, ◌==◌, passing_below-all, simples_in, range_with_len, take_more, map-range_with_len_more, array_of, SimplesOver, count, class_at, value_at, Block, block, block_at, last_rows, with_last_rows, with_value, representatives, ◌-◌, set, get_or_push, map-append, length-set, get_or-set_same, set-set, set-get_or, All-push, rows_with_value, certified_block, certified_blocks}
 use Rattle.std.proofs.Math.Seq.{set-append_seam}
-use Rattle.qd_ring.specs.RowLists.{with_value as rows_with_value}
-use Rattle.qd_engine.specs.Certificate.{certified_block, certified_blocks}
 use Rattle.qd_steps.proofs.TableRows.{with_value_last}
 
 -- the values of the simple i at the places below p

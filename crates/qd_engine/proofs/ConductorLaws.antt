@@ -1,7 +1,5 @@
 -- The least conductor that is a multiple of a number is a conductor, and is a multiple of its factors.
-use Rattle.std.proofs.Common.{◌≡◌, ℕ, ◌*◌, ◌%◌, ◌/◌, true, Some, ap, ◌∙◌, arith}
-use Rattle.std.proofs.Math.Nat.{div-add-mod, mul-mod_right, mul_assoc}
-use Rattle.cyclotomic.specs.Conductors.{is_conductor, least_conductor}
+use Rattle.qd_engine.proofs.Names.{◌≡◌, ℕ, ◌*◌, ◌%◌, ◌/◌, true, Some, ap, ◌∙◌, arith, div-add-mod, mul-mod_right, mul_assoc, is_conductor, least_conductor}
 use Rattle.cyclotomic.proofs.LeastConductor.{least_is_least}
 
 pub least_is_conductor : (m k : ℕ) → least_conductor m ≡ Some k → (is_conductor k ≡ true) × (k % m ≡ 0)

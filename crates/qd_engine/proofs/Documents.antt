@@ -1,17 +1,8 @@
 -- The group and the cocycle of a document that passes every test, and the rows that a document has.
-use Rattle.qd_engine.proofs.Names.{◌≡◌, ℕ, ◌%◌, ◌<◌, ◌≤◌, List, length, get_or, Option, Some, None, refl, sym, subst, ◌∙◌, get_or-map, length-map, mod-lt, group_fault, IsGroup, Cochain, reduced, cocycle_fault, IsCocycle, Lexeme, tokens, stop_of, document_of, Form, made_is_cocycle, sample_is_cocycle}
+use Rattle.qd_engine.proofs.Names.{◌≡◌, ℕ, ◌%◌, ◌<◌, ◌≤◌, List, length, get_or, Option, Some, None, refl, sym, subst, ◌∙◌, get_or-map, length-map, mod-lt, group_fault, IsGroup, Cochain, reduced, cocycle_fault, IsCocycle, Lexeme, tokens, stop_of, document_of, Form, made_is_cocycle, sample_is_cocycle, form_by, form_for, form_of, bare_document, document_for, document_in, table_of, exponents_of, HasInput, HasRowsFor, HasRowsOf, RowSource, Stated, Lifted, RowReport, Input, Command}
 use Rattle.qd_doc.specs.Contents.{characters_of}
 use Rattle.qd_doc.proofs.Shapes.{document_in_range}
-use Rattle.qd_engine.specs.Words.{form_by, form_for, form_of}
-use Rattle.qd_engine.specs.Documents.{bare_document, document_for, document_in, table_of, exponents_of}
-use Rattle.qd_engine.specs.Causes.{HasInput}
-use Rattle.qd_engine.specs.Sources.{HasRowsFor, HasRowsOf}
-use Rattle.qd_engine.specs.declared.command.RowSource.{RowSource}
-use Rattle.qd_engine.specs.declared.command.RowSource.TheVariants.{Stated, Lifted}
-use Rattle.qd_engine.specs.declared.command.RowReport.{RowReport}
-use Rattle.qd_engine.specs.declared.command.Input.{Input}
 use Rattle.qd_engine.specs.declared.command.Input.TheVariants.{Read, Made, Sampled}
-use Rattle.qd_engine.specs.declared.command.Command.{Command}
 use Rattle.qd_engine.proofs.Subjects.{bare_exponents}
 
 -- every reduced exponent is below the number of roots

@@ -1,19 +1,8 @@
 -- What the last step of a chain answers.
-use Rattle.qd_engine.proofs.Names.{◌≡◌, ℕ, List, Option, Some, None, Result, Ok, Err, refl, sym, ap, subst, ◌∙◌, inl, inr, OnOk, IfErr, slice_get, option_map, Vec, option_or, group_fault, Cochain, cocycle_fault, IsCocycle, Maker, made_cocycle, maker_fault, made_is_cocycle, sample_is_cocycle, SimplesOver, tokens, document_of, stop_of, Document, Cause}
+use Rattle.qd_engine.proofs.Names.{◌≡◌, ℕ, List, Option, Some, None, Result, Ok, Err, refl, sym, ap, subst, ◌∙◌, inl, inr, OnOk, IfErr, slice_get, option_map, Vec, option_or, group_fault, Cochain, cocycle_fault, IsCocycle, Maker, made_cocycle, maker_fault, made_is_cocycle, sample_is_cocycle, SimplesOver, tokens, document_of, stop_of, Document, Cause, form_of, bare_document, document_for, document_in, table_of, exponents_of, given_or_none, given_in, cocycle_report, report_of, scan_test, maker_test, input_test, group_test, cocycle_test, rows_test, document_test, refusal, LatePart, LateIn, LateRows, Late, HasInput, Tests, Follows, StopsLate, Reports, RowPart, Input, Command, Stop}
 use Rattle.named_cocycles.specs.Samples.{sample_cocycle}
 use Rattle.data_print.specs.declared.cause.Cause.TheVariants as causes
-use Rattle.qd_engine.specs.Words.{form_of}
-use Rattle.qd_engine.specs.Documents.{bare_document, document_for, document_in, table_of, exponents_of, given_or_none, given_in}
-use Rattle.qd_engine.specs.Report.{cocycle_report, report_of}
-use Rattle.qd_engine.specs.Tests.{scan_test, maker_test, input_test, group_test, cocycle_test, rows_test, document_test, refusal, LatePart, LateIn, LateRows, Late}
-use Rattle.qd_engine.specs.Causes.{HasInput}
-use Rattle.qd_engine.specs.Follows.{Tests, Follows, StopsLate}
-use Rattle.qd_engine.specs.Endings.{Reports}
-use Rattle.qd_engine.specs.declared.command.RowPart.{RowPart}
-use Rattle.qd_engine.specs.declared.command.Input.{Input}
 use Rattle.qd_engine.specs.declared.command.Input.TheVariants.{Read, Made, Sampled}
-use Rattle.qd_engine.specs.declared.command.Command.{Command}
-use Rattle.qd_engine.specs.declared.stop.Stop.{Stop}
 use Rattle.qd_engine.specs.declared.stop.Stop.TheVariants as stops
 use Rattle.qd_engine.proofs.Subjects.{bare_exponents, input_passes}
 

@@ -1,21 +1,11 @@
 -- From rows that are good tables to the simples that they give, and to modular data; from whole fusion sums to a fusion rule.
-use Rattle.qd_engine.proofs.Names.{◌≡◌, ℕ, ◌*◌, ◌%◌, ◌<◌, Bool, true, false, cond, List, length, Some, None, refl, sym, subst, is_some, unwrap_or, first_none-at, Cochain, IsCocycle, representatives, is_conductor, CyclotomicValue, RowsOver, IsShaped, characters_of, IsGood, SimplesOver, AreSimples, count, table_at, fusion_sum, fusion_number, whole_fault, root_order, Block, Given, class_rows, tables_of, simples_over}
+use Rattle.qd_engine.proofs.Names.{◌≡◌, ℕ, ◌*◌, ◌%◌, ◌<◌, Bool, true, false, cond, List, length, Some, None, refl, sym, subst, is_some, unwrap_or, first_none-at, Cochain, IsCocycle, representatives, is_conductor, CyclotomicValue, RowsOver, IsShaped, characters_of, IsGood, SimplesOver, AreSimples, count, table_at, fusion_sum, fusion_number, whole_fault, root_order, Block, Given, class_rows, tables_of, simples_over, AreFusionNumbers, quotient_at, sum_fault, pair_fault, simple_fault, table_shaped, one_table_each, conductor_of, blocks_of, AreGood, HasNumbers, HasRule, IsVerified, GiveModularData, GiveFusionRule, RowPart, RowSource, Stated, Lifted, RowReport}
 use Rattle.table_check.specs.Formed.{whole}
 use Rattle.table_check.specs.Check.{is_same, where_holds}
 use Rattle.table_check.proofs.Same.{is_same-Decides}
-use Rattle.transport.specs.Fusion.{AreFusionNumbers}
 use Rattle.transport.proofs.TwistRoots.{modular_data}
 use Rattle.transport.proofs.FusionLaws.{numbers_are_rule}
-use Rattle.fusion.specs.Numbers.{quotient_at, sum_fault, pair_fault, simple_fault}
-use Rattle.qd_steps.proofs.TableSteps.{table_shaped, one_table_each}
-use Rattle.qd_engine.specs.Documents.{conductor_of}
-use Rattle.qd_engine.specs.Sources.{blocks_of}
-use Rattle.qd_engine.specs.Causes.{AreGood, HasNumbers, HasRule, IsVerified, GiveModularData, GiveFusionRule}
-use Rattle.qd_engine.specs.declared.command.RowPart.{RowPart}
-use Rattle.qd_engine.specs.declared.command.RowSource.{RowSource}
-use Rattle.qd_engine.specs.declared.command.RowSource.TheVariants.{Stated, Lifted}
 use Rattle.qd_engine.specs.Headline.{HasFusionRule}
-use Rattle.qd_engine.specs.declared.command.RowReport.{RowReport}
 use Rattle.qd_engine.proofs.ConductorLaws.{least_is_conductor, multiple_of_factor}
 use Rattle.qd_engine.proofs.LiftedRows.{table_here, tables_number}
 

@@ -1,7 +1,5 @@
 -- What came is what was left, where the source tells that.
-use Rattle.std.proofs.Common.{◌≡◌, ℕ, ◌+◌, ◌<◌, List, length, Option, Some, None, refl, ap, ◌∙◌, arith, length-append}
-use Rattle.qd_io.specs.Stream.{TakesOver}
-use Rattle.qd_engine.specs.Causes.{OfInput}
+use Rattle.qd_engine.proofs.Names.{◌≡◌, ℕ, ◌+◌, ◌<◌, List, length, Option, Some, None, refl, ap, ◌∙◌, arith, length-append, TakesOver, OfInput}
 
 -- where more was taken than this, more was left
 pub more_was_left : (most : ℕ) (before after : Option (List ℕ)) → TakesOver most before after → OfInput before (λ bytes. most < length bytes)

@@ -1,13 +1,7 @@
 -- Nothing comes late of rows that are lifted: no numerator of S overflows.
-use Rattle.qd_engine.proofs.Names.{◌≡◌, ℕ, List, true, false, Result, Ok, Err, sym, ◌∙◌, IfErr, HasRootRows, root_simples_fit, SimplesOver, AreSimples, Cause}
-use Rattle.qd_engine.specs.Rows.{source_of, AreRooted}
-use Rattle.qd_engine.specs.Tests.{LatePart, LateIn, LateReport}
-use Rattle.qd_engine.specs.Follows.{StopsLate}
-use Rattle.qd_engine.specs.declared.command.RowPart.{RowPart}
+use Rattle.qd_engine.proofs.Names.{◌≡◌, ℕ, List, true, false, Result, Ok, Err, sym, ◌∙◌, IfErr, HasRootRows, root_simples_fit, SimplesOver, AreSimples, Cause, source_of, AreRooted, LatePart, LateIn, LateReport, StopsLate, RowPart, Rows, Stop}
 use Rattle.qd_engine.specs.declared.command.RowPart.TheVariants as row_parts
-use Rattle.qd_engine.specs.declared.rows.Rows.{Rows}
 use Rattle.qd_engine.specs.declared.rows.Rows.TheVariants.{Stated, Lifted}
-use Rattle.qd_engine.specs.declared.stop.Stop.{Stop}
 use Rattle.qd_engine.specs.declared.stop.Stop.TheVariants as stops
 
 module _ (k : ℕ) (s : SimplesOver) (good : AreSimples k s) where

@@ -1,24 +1,9 @@
 -- A command with lifted rows refuses nothing for a cause that only stated rows have.
-use Rattle.qd_engine.proofs.Names.{◌≡◌, ℕ, Bool, true, false, cond, List, Option, Some, None, refl, sym, subst, inl, inr, nat_le, sum, option_map, option_or, Cochain, IsCocycle, cocycle_fault, group_fault, least_conductor, modulus_fault, ModRing, root_order, SimplesOver, whole_fault, MakeRefusal, maker_fault, stop_of, Form, Document, Given, DocRefusal, Cause, simples_over, modulus_cause, ServesCocycle}
+use Rattle.qd_engine.proofs.Names.{◌≡◌, ℕ, Bool, true, false, cond, List, Option, Some, None, refl, sym, subst, inl, inr, nat_le, sum, option_map, option_or, Cochain, IsCocycle, cocycle_fault, group_fault, least_conductor, modulus_fault, ModRing, root_order, SimplesOver, whole_fault, MakeRefusal, maker_fault, stop_of, Form, Document, Given, DocRefusal, Cause, simples_over, modulus_cause, ServesCocycle, IsModulusCause, modulus_said, have_numbers, most_simples, form_of, document_in, table_of, exponents_of, given_in, conductor_of, field_for, lifted_by, blocks_of, class_ranks, first_of_all, scan_test, maker_test, input_test, without_conductor, conductor_test, simples_test, modulus_test, lifting_test, not_whole, whole_test, numbers_test, source_tests, lifted_tests, report_test, rows_test, group_test, cocycle_test, document_test, refusal, LateReport, LateRows, Late, HasInput, Refuses, LiftsRows, IsStatedCause, LiftedCauses, RowSource, Lifted, RowPart, RowReport, Input, Command}
 use Rattle.group_make.specs.declared.refusal.MakeRefusal.TheVariants as makes
 use Rattle.qd_doc.specs.declared.refusal.DocRefusal.TheVariants as stops
 use Rattle.data_print.specs.declared.cause.Cause.TheVariants as causes
-use Rattle.qd_steps.specs.Laws.{IsModulusCause}
-use Rattle.qd_steps.proofs.ModulusCauses.{modulus_said}
-use Rattle.qd_engine.specs.Words.{have_numbers, most_simples, form_of}
-use Rattle.qd_engine.specs.Documents.{document_in, table_of, exponents_of, given_in, conductor_of}
-use Rattle.qd_engine.specs.Sources.{field_for, lifted_by, blocks_of}
-use Rattle.qd_engine.specs.Report.{class_ranks}
-use Rattle.qd_engine.specs.Tests.{first_of_all, scan_test, maker_test, input_test, without_conductor, conductor_test, simples_test, modulus_test, lifting_test, not_whole, whole_test, numbers_test, source_tests, lifted_tests, report_test, rows_test, group_test, cocycle_test, document_test, refusal, LateReport, LateRows, Late}
-use Rattle.qd_engine.specs.Causes.{HasInput, Refuses}
-use Rattle.qd_engine.specs.LiftedLaws.{LiftsRows, IsStatedCause, LiftedCauses}
-use Rattle.qd_engine.specs.declared.command.RowSource.{RowSource}
-use Rattle.qd_engine.specs.declared.command.RowSource.TheVariants.{Lifted}
-use Rattle.qd_engine.specs.declared.command.RowPart.{RowPart}
-use Rattle.qd_engine.specs.declared.command.RowReport.{RowReport}
-use Rattle.qd_engine.specs.declared.command.Input.{Input}
 use Rattle.qd_engine.specs.declared.command.Input.TheVariants.{Read, Made, Sampled}
-use Rattle.qd_engine.specs.declared.command.Command.{Command}
 use Rattle.qd_engine.proofs.Documents.{document_cocycle}
 use Rattle.qd_engine.proofs.LiftedRows.{field_serves}
 use Rattle.qd_engine.proofs.Subjects.{input_given}

@@ -1,14 +1,6 @@
 -- The rows that are lifted by a valid modulus: its field, their causes, and that no side of the check of their tables overflows.
-use Rattle.qd_engine.proofs.Names.{◌≡◌, ℕ, ◌%◌, ◌<◌, Bool, true, false, cond, List, length, Option, Some, None, refl, sym, ap, subst, arith, ◌==◌, is_some, ltb-true, get_or-map-range_with_len, length-map-range_with_len, or_none, Cochain, IsCocycle, representatives, representative_at, representative_at_is, twist_of, twist_lawful, is_conductor, least_conductor, modulus_fault, ModRing, AreRootRows, HasRootRows, root_rows_fit, RowsOver, characters_of, SimplesOver, table_at, no_table, AreSimples, root_order, Block, class_rows, class_twist, class_table, tables_of, simples_over, lifts_cause, lifted_blocks, modulus_cause, ServesCocycle, lifted_root_rows, option_map}
-use Rattle.scan.proofs.Places.{and_true}
-use Rattle.prime_field.specs.Moduli.{is_modulus, least_root}
-use Rattle.qd_steps.specs.ByModulus.{field_by, field_of}
+use Rattle.qd_engine.proofs.Names.{◌≡◌, ℕ, ◌%◌, ◌<◌, Bool, true, false, cond, List, length, Option, Some, None, refl, sym, ap, subst, arith, ◌==◌, is_some, ltb-true, get_or-map-range_with_len, length-map-range_with_len, or_none, Cochain, IsCocycle, representatives, representative_at, representative_at_is, twist_of, twist_lawful, is_conductor, least_conductor, modulus_fault, ModRing, AreRootRows, HasRootRows, root_rows_fit, RowsOver, characters_of, SimplesOver, table_at, no_table, AreSimples, root_order, Block, class_rows, class_twist, class_table, tables_of, simples_over, lifts_cause, lifted_blocks, modulus_cause, ServesCocycle, lifted_root_rows, option_map, and_true, is_modulus, least_root, field_by, field_of, conductor_of, field_for, AllFit, modulus_test, Modulus}
 use Rattle.qd_steps.proofs.FieldOf.{field_found}
-use Rattle.qd_engine.specs.Documents.{conductor_of}
-use Rattle.qd_engine.specs.Sources.{field_for}
-use Rattle.qd_engine.specs.Acceptable.{AllFit}
-use Rattle.qd_engine.specs.Tests.{modulus_test}
-use Rattle.data_print.specs.declared.cause.Cause.TheVariants.{Modulus}
 use Rattle.qd_engine.proofs.ConductorLaws.{least_is_conductor}
 
 -- ---- the field

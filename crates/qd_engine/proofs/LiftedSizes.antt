@@ -1,13 +1,6 @@
 -- The values of lifted rows are small: each is a sum of as many roots of unity as its row has for degree, and that is at most 7.
-use Rattle.qd_engine.proofs.Names.{◌≡◌, ℕ, ◌<◌, ◌≤◌, true, Option, Some, None, sym, subst, arith, representative_at, representative_at_is, Cochain, IsCocycle, is_conductor, least_conductor, CyclotomicValue, ModRing, AreRootRows, degree_few, twist_of, twist_lawful, RowsOver, characters_of, root_order, size, class_twist, class_table, lifts_cause, lifted_blocks, ServesCocycle, lifted_root_rows}
+use Rattle.qd_engine.proofs.Names.{◌≡◌, ℕ, ◌<◌, ◌≤◌, true, Option, Some, None, sym, subst, arith, representative_at, representative_at_is, Cochain, IsCocycle, is_conductor, least_conductor, CyclotomicValue, ModRing, AreRootRows, degree_few, twist_of, twist_lawful, RowsOver, characters_of, root_order, size, class_twist, class_table, lifts_cause, lifted_blocks, ServesCocycle, lifted_root_rows, roots_size, IsRootRow, document_in, exponents_of, given_in, conductor_of, lifted_by, IsLifted, HasRows, ValuesAreSmall, LiftedAreSmall, LiftedSizes, RowSource}
 use Rattle.cyclotomic.specs.Fit.{value_size}
-use Rattle.qd_ring.proofs.RootSumLaws.{roots_size}
-use Rattle.root_tables.specs.RootRows.{IsRootRow}
-use Rattle.qd_engine.specs.Documents.{document_in, exponents_of, given_in, conductor_of}
-use Rattle.qd_engine.specs.Sources.{lifted_by}
-use Rattle.qd_engine.specs.Causes.{IsLifted, HasRows}
-use Rattle.qd_engine.specs.LiftedLaws.{ValuesAreSmall, LiftedAreSmall, LiftedSizes}
-use Rattle.qd_engine.specs.declared.command.RowSource.{RowSource}
 use Rattle.qd_engine.proofs.ConductorLaws.{least_is_conductor}
 use Rattle.qd_engine.proofs.LiftedRows.{numbers_of_field, field_serves, table_here, tables_number}
 

@@ -1,10 +1,5 @@
 -- More numbers than a family of makers or a command has.
-use Rattle.qd_engine.proofs.Names.{◌≡◌, ℕ, ◌≤◌, List, [], ◌∷◌, length, Option, Some, None, refl, arith, option_map, option_and_then}
-use Rattle.std.specs.Prelude.{String, string_bytes}
-use Rattle.std.specs.Global.{Global}
-use Rattle.qd_engine.specs.MakerWords.{numbers_of, maker_by, maker_of_family}
-use Rattle.qd_engine.specs.NumberWords.{number_word}
-use Rattle.qd_engine.specs.Words.{texts, report_by, report_of_words}
+use Rattle.qd_engine.proofs.Names.{◌≡◌, ℕ, ◌≤◌, List, [], ◌∷◌, length, Option, Some, None, refl, arith, option_map, option_and_then, String, string_bytes, Global, numbers_of, maker_by, maker_of_family, number_word, texts, report_by, report_of_words}
 
 -- what gives nothing gives nothing of any number
 pub nothing : {A B : Type 0} (o : Option A) → option_and_then {U = B} (λ x. None) o ≡ None

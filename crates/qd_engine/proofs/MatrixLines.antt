@@ -1,10 +1,7 @@
 -- The lines of the matrix S, from its rows of coefficients.
-use Rattle.qd_engine.proofs.Names.{◌≡◌, ℕ, ◌<◌, List, [], length, get_or, sym, ap, subst, ◌∙◌, arith, ℤ, get_or-map, length-map, length-map-range_with_len, get_or-map-range_with_len, SimplesOver, count, values_of_rows, s_rows, first_lines}
-use Rattle.qd_ring.specs.RowLists.{row_at}
-use Rattle.modular_st.specs.SMatrices.{row_values, s_front}
+use Rattle.qd_engine.proofs.Names.{◌≡◌, ℕ, ◌<◌, List, [], length, get_or, sym, ap, subst, ◌∙◌, arith, ℤ, get_or-map, length-map, length-map-range_with_len, get_or-map-range_with_len, SimplesOver, count, values_of_rows, s_rows, first_lines, row_at, row_values, s_front, s_lines}
 use Rattle.data_print.specs.Text.{◌⧺◌}
 use Rattle.data_print.specs.SLines.{s_head, s_line, s_text}
-use Rattle.qd_engine.specs.Report.{s_lines}
 
 module _ (k : ℕ) (s : SimplesOver) where
   -- the line of the simple i, with what stands before it

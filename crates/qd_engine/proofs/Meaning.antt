@@ -1,21 +1,6 @@
 -- What the program's answer means, from what it had to say and how it ended.
-use Rattle.qd_engine.proofs.Names.{◌≡◌, ℕ, ◌<◌, ◌≤◌, List, length, Option, Some, None, Result, Ok, Err, refl, sym, ap, subst, ◌∙◌, ◌⊎◌, inl, inr, IsSome, lt-ltb, INPUT_LIMIT, memory_line, Cause, Usage, Read, TooLong}
-use Rattle.std.specs.Io.KnownBytes.{Appends}
-use Rattle.std.proofs.lemmas.Bool.{le-ltb}
-use Rattle.qd_io.specs.Stream.{HasRoom}
-use Rattle.qd_engine.specs.Words.{command_of, read_of}
-use Rattle.qd_engine.specs.Documents.{document_in, exponents_of}
-use Rattle.qd_engine.specs.Report.{report_in}
-use Rattle.qd_engine.specs.Tests.{refusal, report_unless, answer_for, plan, LateFor, ComesLate}
-use Rattle.qd_engine.specs.Answers.{Said, Whole, Cut, refused, said_by}
-use Rattle.qd_engine.specs.Causes.{Agrees, OfCommand, Refuses, Means, MeansSo, GivesReport, Comes, IsDone}
-use Rattle.qd_engine.specs.Acceptable.{IsAcceptable}
-use Rattle.qd_engine.specs.Endings.{Reports, Says, Writing, Ends, EndsSaying, IsRoomy, Decides}
-use Rattle.qd_engine.specs.declared.command.Command.{Command}
-use Rattle.qd_engine.specs.declared.answer.Why.{Why}
+use Rattle.qd_engine.proofs.Names.{◌≡◌, ℕ, ◌<◌, ◌≤◌, List, length, Option, Some, None, Result, Ok, Err, refl, sym, ap, subst, ◌∙◌, ◌⊎◌, inl, inr, IsSome, lt-ltb, INPUT_LIMIT, memory_line, Cause, Usage, Read, TooLong, Appends, le-ltb, HasRoom, command_of, read_of, document_in, exponents_of, report_in, refusal, report_unless, answer_for, plan, LateFor, ComesLate, Said, Whole, Cut, refused, said_by, Agrees, OfCommand, Refuses, Means, MeansSo, GivesReport, Comes, IsDone, IsAcceptable, Reports, Says, Writing, Ends, EndsSaying, IsRoomy, Decides, Command, Why, Outcome, Report, Refused, Memory}
 use Rattle.qd_engine.specs.declared.answer.Why.TheVariants as whys
-use Rattle.qd_engine.specs.declared.answer.Outcome.{Outcome}
-use Rattle.qd_engine.specs.declared.answer.Outcome.TheVariants.{Report, Refused, Memory}
 use Rattle.qd_engine.proofs.TestLaws.{input_accepted}
 use Rattle.qd_engine.proofs.Passing.{rows_give, accepted_passes}
 use Rattle.qd_engine.proofs.HeadlineLaws.{report_is_modular, report_has_rule}

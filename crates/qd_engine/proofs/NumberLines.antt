@@ -1,22 +1,13 @@
 -- The lines of fusion numbers and of indicators, from the web that holds the numbers.
-use Rattle.qd_engine.proofs.Names.{◌≡◌, ℕ, zero, suc, ◌+◌, ◌*◌, ◌/◌, ◌%◌, ◌<◌, ◌++◌, true, List, [], ◌∷◌, length, length-append, map, All, Some, None, refl, sym, ap, ap₂, ◌∙◌, arith, nat_lt, range_with_len, length-map-range_with_len, get_or-map-range_with_len, map-range_with_len_more, fill_by_all, WebEntries, count_of, option_map, mod-lt, Plain, fusion_number, fusion_sum, SimplesOver, AreSimples, count, dimension_at, twist_at, first_lines}
-use Rattle.std.specs.Prelude.{if◌then◌else◌}
-use Rattle.std.proofs.lemmas.List.Elements.{All-append}
+use Rattle.qd_engine.proofs.Names.{◌≡◌, ℕ, zero, suc, ◌+◌, ◌*◌, ◌/◌, ◌%◌, ◌<◌, ◌++◌, true, List, [], ◌∷◌, length, length-append, map, All, Some, None, refl, sym, ap, ap₂, ◌∙◌, arith, nat_lt, range_with_len, length-map-range_with_len, get_or-map-range_with_len, map-range_with_len_more, fill_by_all, WebEntries, count_of, option_map, mod-lt, Plain, fusion_number, fusion_sum, SimplesOver, AreSimples, count, dimension_at, twist_at, first_lines, if◌then◌else◌, All-append, planes_are_numbers, plain_of, NotWhole, not_whole, whole_test, numbers_text, indicator_of, where_lifted, source_of, IsWebOf, HasWeb, Rows}
 use Rattle.std.proofs.lemmas.Nat.{div_below}
 use Rattle.qd_ring.specs.declared.cyc.Cyc.{Cyc}
 use Rattle.fusion.specs.Refusal.{IsFirstNotWhole}
 use Rattle.fusion.specs.Reads.{plane_of}
 use Rattle.indicators.specs.Indicators.{indicator_sum}
 use Rattle.root_fusion.specs.IndicatorLists.{dimensions, twists, numbers_into}
-use Rattle.root_fusion.proofs.NoOverflows.{planes_are_numbers}
 use Rattle.root_fusion.proofs.IndicatorSums.{indicators_fit}
-use Rattle.qd_steps.specs.Tables.{plain_of}
-use Rattle.data_print.specs.declared.cause.Cause.TheVariants.{NotWhole}
-use Rattle.qd_engine.specs.Tests.{not_whole, whole_test}
 use Rattle.data_print.specs.FusionLines.{number_line, line_if_some, product_text, products_text, fusion_text}
-use Rattle.qd_engine.specs.Report.{numbers_text, indicator_of, where_lifted}
-use Rattle.qd_engine.specs.Rows.{source_of, IsWebOf, HasWeb}
-use Rattle.qd_engine.specs.declared.rows.Rows.{Rows}
 use Rattle.qd_engine.specs.declared.rows.Rows.TheVariants.{Stated, Lifted}
 
 -- ---- lists that grow

@@ -1,8 +1,6 @@
 -- Parts of a report, one after the other.
-use Rattle.qd_engine.proofs.Names.{◌≡◌, ℕ, ◌+◌, ◌<◌, List, [], ◌∷◌, ◌++◌, length, take, get_or, refl, sym, ap, ◌∙◌, append_assoc, append-nil, take_more}
-use Rattle.std.specs.List.{flat_map}
+use Rattle.qd_engine.proofs.Names.{◌≡◌, ℕ, ◌+◌, ◌<◌, List, [], ◌∷◌, ◌++◌, length, take, get_or, refl, sym, ap, ◌∙◌, append_assoc, append-nil, take_more, flat_map, parts_text}
 use Rattle.std.proofs.lemmas.Grind.{flat_map-append}
-use Rattle.qd_engine.specs.Report.{parts_text}
 
 module _ {A : Type 0} (text : A → List ℕ) where
   pub no_parts : parts_text text [] ≡ []

@@ -1,20 +1,8 @@
 -- No test says anything of an acceptable input, and what its rows give.
-use Rattle.qd_engine.proofs.Names.{◌≡◌, ℕ, ◌≤◌, Bool, true, false, cond, List, length, Option, Some, None, refl, sym, ap, subst, sum, option_map, eq-eqb, le-leb, option_or, first_none, representatives, representative_at, representative_at_is, is_conductor, least_conductor, ModRing, root_order, lifted_blocks, modulus_cause, Cochain, IsCocycle, twist_of, twist_lawful, Block, Given, Cause, class_twist, class_table, table_cause, tables_cause, cause_of_miss, simples_over}
+use Rattle.qd_engine.proofs.Names.{◌≡◌, ℕ, ◌≤◌, Bool, true, false, cond, List, length, Option, Some, None, refl, sym, ap, subst, sum, option_map, eq-eqb, le-leb, option_or, first_none, representatives, representative_at, representative_at_is, is_conductor, least_conductor, ModRing, root_order, lifted_blocks, modulus_cause, Cochain, IsCocycle, twist_of, twist_lawful, Block, Given, Cause, class_twist, class_table, table_cause, tables_cause, cause_of_miss, simples_over, document_in, exponents_of, given_in, conductor_of, field_for, lifted_by, blocks_of, class_ranks, first_of_all, not_whole, without_conductor, conductor_test, lifting_test, stated_tests, lifted_tests, source_tests, report_test, rows_test, document_test, refusal, AreGood, IsLifted, HasRows, HasNumbers, IsVerified, OfRows, IsAccepted, GiveIdempotents, have_numbers, most_simples, form_of, AllFit, SourceFits, RowSource, Stated, Lifted, RowPart, RowReport, Command}
 use Rattle.table_check.proofs.Fitting.{good_misses_nothing}
 use Rattle.table_check.proofs.Idempotents.{good_tables_give_idempotents}
 use Rattle.data_print.specs.declared.cause.Cause.TheVariants as causes
-use Rattle.qd_engine.specs.Documents.{document_in, exponents_of, given_in, conductor_of}
-use Rattle.qd_engine.specs.Sources.{field_for, lifted_by, blocks_of}
-use Rattle.qd_engine.specs.Report.{class_ranks}
-use Rattle.qd_engine.specs.Tests.{first_of_all, not_whole, without_conductor, conductor_test, lifting_test, stated_tests, lifted_tests, source_tests, report_test, rows_test, document_test, refusal}
-use Rattle.qd_engine.specs.Causes.{AreGood, IsLifted, HasRows, HasNumbers, IsVerified, OfRows, IsAccepted, GiveIdempotents}
-use Rattle.qd_engine.specs.Words.{have_numbers, most_simples, form_of}
-use Rattle.qd_engine.specs.Acceptable.{AllFit, SourceFits}
-use Rattle.qd_engine.specs.declared.command.RowSource.{RowSource}
-use Rattle.qd_engine.specs.declared.command.RowSource.TheVariants.{Stated, Lifted}
-use Rattle.qd_engine.specs.declared.command.RowPart.{RowPart}
-use Rattle.qd_engine.specs.declared.command.RowReport.{RowReport}
-use Rattle.qd_engine.specs.declared.command.Command.{Command}
 use Rattle.qd_engine.proofs.ConductorLaws.{least_is_conductor, multiple_of_factor}
 use Rattle.qd_engine.proofs.LiftedRows.{numbers_of_field, field_serves, lifted_fit}
 use Rattle.qd_engine.proofs.Shapes.{matched_no_fault}

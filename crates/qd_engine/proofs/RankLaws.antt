@@ -1,12 +1,7 @@
 -- The ranks of the classes are as many as these, few and small.
-use Rattle.qd_engine.proofs.Names.{◌≡◌, All, ◌<◌, ◌≤◌, length, sym, ap, subst, ◌∙◌, arith, length-map, All-map, Table, Cochain, IsCocycle, representatives, representative_at, representative_at_is, TwistedSubgroup, rank, twist_lawful, class_twists}
-use Rattle.std.proofs.lemmas.List.Sums.{count_by-le-length}
+use Rattle.qd_engine.proofs.Names.{◌≡◌, All, ◌<◌, ◌≤◌, length, sym, ap, subst, ◌∙◌, arith, length-map, All-map, Table, Cochain, IsCocycle, representatives, representative_at, representative_at_is, TwistedSubgroup, rank, twist_lawful, class_twists, count_by-le-length, IsTwist, is_regular, class_ranks, IsListOf}
 use Rattle.classes.proofs.Counting.{classes_at_most}
-use Rattle.twisted.specs.Twist.{IsTwist}
-use Rattle.twisted.specs.Regular.{is_regular}
 use Rattle.qd_steps.proofs.TwistLists.{length-class_twists, twist_at}
-use Rattle.qd_engine.specs.Report.{class_ranks}
-use Rattle.qd_engine.specs.ClassLists.{IsListOf}
 use Rattle.qd_engine.specs.declared.class_list.ClassList.{ClassList}
 
 -- there are no more regular classes than places

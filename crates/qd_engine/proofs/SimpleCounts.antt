@@ -1,11 +1,9 @@
 -- There are as many simples as the ranks of the classes add up to.
-use Rattle.qd_engine.proofs.Names.{◌≡◌, ℕ, zero, suc, ◌+◌, ◌<◌, List, [], ◌∷◌, ◌++◌, length, map, refl, sym, ap, ap₂, ◌∙◌, arith, length-append, sum, sum_by_push, range_with_len, length-map-range_with_len, map-range_with_len_more, representatives, representative_at, Cochain, rank, twist_of, RowsOver, SimplesOver, AreSimples, count, table_at, class_twist, class_twists}
+use Rattle.qd_engine.proofs.Names.{◌≡◌, ℕ, zero, suc, ◌+◌, ◌<◌, List, [], ◌∷◌, ◌++◌, length, map, refl, sym, ap, ap₂, ◌∙◌, arith, length-append, sum, sum_by_push, range_with_len, length-map-range_with_len, map-range_with_len_more, representatives, representative_at, Cochain, rank, twist_of, RowsOver, SimplesOver, AreSimples, count, table_at, class_twist, class_twists, simples_of, rows_of, rows_below, ascending, class_ranks}
 use Rattle.std.proofs.lemmas.List.Sorted.{length_permutation}
-use Rattle.transport.specs.Simples.{simples_of, rows_of, rows_below, ascending}
 use Rattle.transport.proofs.Order.{ascending_permutes}
 use Rattle.transport.proofs.Rows.{rows_below-zero, rows_below-suc}
 use Rattle.dixon_split.proofs.Values.{map_twice}
-use Rattle.qd_engine.specs.Report.{class_ranks}
 
 module _ (k : ℕ) (w : Cochain) (tables : List RowsOver) where
   ranks_before : ℕ → List ℕ

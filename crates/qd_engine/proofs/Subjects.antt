@@ -1,14 +1,10 @@
 -- Cocycles that are made, as documents; and what the test of an input says.
-use Rattle.qd_engine.proofs.Names.{◌≡◌, ◌≢◌, ℕ, Bool, true, false, cond, List, Option, Some, None, refl, ap, ◌==◌, nat_le, option_or, Cochain, IsCocycle, MakeRefusal, Maker, maker_fault, stop_of, Form, DocRefusal}
+use Rattle.qd_engine.proofs.Names.{◌≡◌, ◌≢◌, ℕ, Bool, true, false, cond, List, Option, Some, None, refl, ap, ◌==◌, nat_le, option_or, Cochain, IsCocycle, MakeRefusal, Maker, maker_fault, stop_of, Form, DocRefusal, bare_document, exponents_of, scan_test, maker_test, input_test, HasInput, Input}
 use Rattle.std.specs.Prelude.{◌*◌, ◌%◌, ◌^◌, ◌&&◌}
 use Rattle.group_make.specs.Refusal.{size_fault, action_fault}
 use Rattle.group_make.specs.declared.refusal.MakeRefusal.TheVariants as makes
 use Rattle.named_cocycles.specs.declared.maker.Maker.TheVariants.{Cyclic, Product, TypeTwo, TypeThree, Dihedral, Dicyclic, Semidirect}
 use Rattle.qd_doc.specs.declared.refusal.DocRefusal.TheVariants as stops
-use Rattle.qd_engine.specs.Documents.{bare_document, exponents_of}
-use Rattle.qd_engine.specs.Tests.{scan_test, maker_test, input_test}
-use Rattle.qd_engine.specs.Causes.{HasInput}
-use Rattle.qd_engine.specs.declared.command.Input.{Input}
 use Rattle.qd_engine.specs.declared.command.Input.TheVariants.{Read, Made, Sampled}
 use Rattle.qd_engine.proofs.CertificateTexts.{exponents_reduced}
 use Rattle.qd_engine.proofs.StopLaws.{stop_is_of_text}

@@ -1,7 +1,5 @@
 -- The sums of a summary, one number after the other, and by a web.
-use Rattle.qd_engine.proofs.Names.{◌≡◌, ℕ, ◌+◌, ◌*◌, ◌/◌, ◌%◌, ◌<◌, List, ◌++◌, map, cond, nat_eq, Result, Ok, Err, refl, ap, ◌∙◌, append_assoc, arith, sum, is_ok, OnOk, range_with_len, map-range_with_len_more, sum_by_push, edge_below, row_below, column_below, SimplesOver, count, WebEntries, count_of, fusion_number}
-use Rattle.qd_engine.specs.Summary.{sum_of_three, how_many, sample_end}
-use Rattle.qd_engine.specs.Rows.{IsWebOf}
+use Rattle.qd_engine.proofs.Names.{◌≡◌, ℕ, ◌+◌, ◌*◌, ◌/◌, ◌%◌, ◌<◌, List, ◌++◌, map, cond, nat_eq, Result, Ok, Err, refl, ap, ◌∙◌, append_assoc, arith, sum, is_ok, OnOk, range_with_len, map-range_with_len_more, sum_by_push, edge_below, row_below, column_below, SimplesOver, count, WebEntries, count_of, fusion_number, sum_of_three, how_many, sample_end, IsWebOf}
 use Rattle.qd_engine.proofs.NumberLines.{same_map}
 
 -- one number more

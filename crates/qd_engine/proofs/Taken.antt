@@ -1,22 +1,7 @@
 -- What comes of the steps, and what becomes of the source, by how the program ends.
-use Rattle.qd_engine.proofs.Names.{◌≡◌, ℕ, ◌<◌, ◌≤◌, true, cond, List, [], length, Option, Some, Result, Ok, Err, refl, sym, ap, subst, ◌∙◌, ◌⊎◌, inl, inr, OnOk, IsSome, Vec, INPUT_LIMIT, memory_line, Cause, Usage, Read, TooLong}
-use Rattle.std.specs.Io.KnownBytes.{IsAtEnd}
-use Rattle.qd_io.specs.Stream.{TakesUpTo}
-use Rattle.data_print.specs.Lines.{line_of}
-use Rattle.qd_engine.specs.Words.{command_of, is_read, reads_by, read_of}
-use Rattle.qd_engine.specs.Documents.{document_in}
-use Rattle.qd_engine.specs.Tests.{refusal, Late}
-use Rattle.qd_engine.specs.Answers.{Said, Whole, Cut, said_by, of_whole, status_of_cause, status_of, status_by}
-use Rattle.qd_engine.specs.Causes.{Agrees, OfInput, OfCommand, Refuses, Means}
-use Rattle.qd_engine.specs.Follows.{Follows}
-use Rattle.qd_engine.specs.Endings.{Reports, Writing, Ends, EndsSaying, Reads, TakesRefused, Takes, TakesFor, Prepares, SaysPrepared}
-use Rattle.qd_engine.specs.declared.command.Command.{Command}
-use Rattle.qd_engine.specs.declared.stop.Stop.{Stop}
+use Rattle.qd_engine.proofs.Names.{◌≡◌, ℕ, ◌<◌, ◌≤◌, true, cond, List, [], length, Option, Some, Result, Ok, Err, refl, sym, ap, subst, ◌∙◌, ◌⊎◌, inl, inr, OnOk, IsSome, Vec, INPUT_LIMIT, memory_line, Cause, Usage, Read, TooLong, IsAtEnd, TakesUpTo, line_of, command_of, is_read, reads_by, read_of, document_in, refusal, Late, Said, Whole, Cut, said_by, of_whole, status_of_cause, status_of, status_by, Agrees, OfInput, OfCommand, Refuses, Means, Follows, Reports, Writing, Ends, EndsSaying, Reads, TakesRefused, Takes, TakesFor, Prepares, SaysPrepared, Command, Stop, Why, Outcome, Report, Refused, Memory}
 use Rattle.qd_engine.specs.declared.stop.Stop.TheVariants as stops
-use Rattle.qd_engine.specs.declared.answer.Why.{Why}
 use Rattle.qd_engine.specs.declared.answer.Why.TheVariants as whys
-use Rattle.qd_engine.specs.declared.answer.Outcome.{Outcome}
-use Rattle.qd_engine.specs.declared.answer.Outcome.TheVariants.{Report, Refused, Memory}
 use Rattle.qd_engine.proofs.TestLaws.{IsOfInput, refusal_is, late_is}
 
 -- ---- what comes of the steps

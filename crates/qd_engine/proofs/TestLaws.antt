@@ -1,8 +1,7 @@
 -- What the tests of an input say: nothing, or a cause of their own; and what holds where none says anything.
-use Rattle.qd_engine.proofs.Names.{◌≡◌, ℕ, ◌<◌, ◌≤◌, Bool, true, false, cond, List, [], ◌∷◌, length, Option, Some, None, refl, sym, subst, ◌==◌, nat_le, sum, unwrap_or, option_map, option_and_then, eqb-true, leb-true, option_or, or_none, first_some, first_none-at, representatives, Cochain, IsCocycle, cocycle_fault, group_fault, least_conductor, modulus_fault, ModRing, root_order, TwistedSubgroup, SimplesOver, MakeRefusal, maker_fault, stop_of, Form, Block, Document, Given, DocRefusal, IsGood, Cause, cause_of_miss, table_cause, class_twist, class_table, tables_cause, simples_over, lifts_cause, lifted_blocks, modulus_cause, whole_fault}
+use Rattle.qd_engine.proofs.Names.{◌≡◌, ℕ, ◌<◌, ◌≤◌, Bool, true, false, cond, List, [], ◌∷◌, length, Option, Some, None, refl, sym, subst, ◌==◌, nat_le, sum, unwrap_or, option_map, option_and_then, eqb-true, leb-true, option_or, or_none, first_some, first_none-at, representatives, Cochain, IsCocycle, cocycle_fault, group_fault, least_conductor, modulus_fault, ModRing, root_order, TwistedSubgroup, SimplesOver, MakeRefusal, maker_fault, stop_of, Form, Block, Document, Given, DocRefusal, IsGood, Cause, cause_of_miss, table_cause, class_twist, class_table, tables_cause, simples_over, lifts_cause, lifted_blocks, modulus_cause, whole_fault, Characters, failure, cause_of_lift, lift_cause, have_numbers, most_simples, form_of, document_in, table_of, exponents_of, given_in, conductor_of, field_for, lifted_by, blocks_of, class_ranks, first_of_all, whole_test, not_whole, numbers_test, scan_test, maker_test, input_test, without_conductor, conductor_test, simples_test, lifting_test, source_tests, report_test, rows_test, document_test, refusal, LatePart, LateReport, LateRows, Late, AreGood, IsLifted, HasRows, HasNumbers, IsVerified, HasInput, IsAccepted, RowPart, RowSource, Stated, Lifted, RowReport, Input, Command}
 use Rattle.group_make.specs.declared.refusal.MakeRefusal.TheVariants as makes
 use Rattle.qd_doc.specs.declared.refusal.DocRefusal.TheVariants as stops
-use Rattle.table_check.specs.Characters.{Characters}
 use Rattle.table_check.specs.Answers.{fit_at, site_of}
 use Rattle.table_check.specs.Check.{table_miss}
 use Rattle.table_check.proofs.Good.{nothing_missed}
@@ -10,27 +9,13 @@ use Rattle.table_check.specs.declared.miss.Clause.{Clause}
 use Rattle.table_check.specs.declared.miss.Clause.TheVariants as clauses
 use Rattle.table_check.specs.declared.miss.Miss.{Miss}
 use Rattle.data_print.specs.declared.cause.Cause.TheVariants as causes
-use Rattle.qd_steps.specs.Tables.{failure}
-use Rattle.qd_steps.specs.ByModulus.{cause_of_lift, lift_cause}
 use Rattle.qd_steps.proofs.LiftedRows.{lifted_matched}
 use Rattle.twist_lift.specs.TwistRows.{twist_fault}
 use Rattle.char_lift.specs.declared.refusal.LiftRefusal.{LiftRefusal}
 use Rattle.char_lift.specs.declared.refusal.LiftRefusal.TheVariants as lifts
-use Rattle.qd_engine.specs.Words.{have_numbers, most_simples, form_of}
-use Rattle.qd_engine.specs.Documents.{document_in, table_of, exponents_of, given_in, conductor_of}
-use Rattle.qd_engine.specs.Sources.{field_for, lifted_by, blocks_of}
 use Rattle.qd_engine.specs.Shape.{shape_fault}
-use Rattle.qd_engine.specs.Report.{class_ranks}
-use Rattle.qd_engine.specs.Tests.{first_of_all, whole_test, not_whole, numbers_test, scan_test, maker_test, input_test, without_conductor, conductor_test, simples_test, lifting_test, source_tests, report_test, rows_test, document_test, refusal, LatePart, LateReport, LateRows, Late}
-use Rattle.qd_engine.specs.Causes.{AreGood, IsLifted, HasRows, HasNumbers, IsVerified, HasInput, IsAccepted}
-use Rattle.qd_engine.specs.declared.command.RowPart.{RowPart}
 use Rattle.qd_engine.specs.declared.command.RowPart.TheVariants as row_parts
-use Rattle.qd_engine.specs.declared.command.RowSource.{RowSource}
-use Rattle.qd_engine.specs.declared.command.RowSource.TheVariants.{Stated, Lifted}
-use Rattle.qd_engine.specs.declared.command.RowReport.{RowReport}
-use Rattle.qd_engine.specs.declared.command.Input.{Input}
 use Rattle.qd_engine.specs.declared.command.Input.TheVariants.{Read, Made, Sampled}
-use Rattle.qd_engine.specs.declared.command.Command.{Command}
 use Rattle.qd_engine.proofs.ConductorLaws.{least_is_conductor}
 use Rattle.qd_engine.proofs.Documents.{document_group, document_cocycle}
 use Rattle.qd_engine.proofs.LiftedRows.{valid_field, numbers_of_field}

@@ -1,10 +1,6 @@
 -- Words that begin with `-`, and empty ones, are no names of commands or of families, and no numbers.
-use Rattle.qd_engine.proofs.Names.{◌≡◌, ℕ, zero, suc, Bool, true, false, ◌&&◌, nat_eq, cond, List, [], ◌∷◌, codes, Option, Some, None, refl, ap, ◌∙◌, slice_get, list_all, option_map, option_and_then, eqb-true, number_of, is_word}
-use Rattle.std.proofs.Common.{not}
+use Rattle.qd_engine.proofs.Names.{◌≡◌, ℕ, zero, suc, Bool, true, false, ◌&&◌, nat_eq, cond, List, [], ◌∷◌, codes, Option, Some, None, refl, ap, ◌∙◌, slice_get, list_all, option_map, option_and_then, eqb-true, number_of, is_word, not, number_word, numbers_of, maker_by, maker_of, generate, report_by, report_of_words, command_of}
 use Rattle.command_words.specs.PlainWords.{is_plain}
-use Rattle.qd_engine.specs.NumberWords.{number_word}
-use Rattle.qd_engine.specs.MakerWords.{numbers_of, maker_by, maker_of}
-use Rattle.qd_engine.specs.Words.{generate, report_by, report_of_words, command_of}
 use Rattle.qd_engine.specs.WordLaws.{DashIsNoCommand, UnplainIsNoCommand}
 use Rattle.qd_engine.proofs.MakerWords.{nothing}
 

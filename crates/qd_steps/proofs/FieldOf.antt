@@ -1,13 +1,10 @@
 -- A field is the one of its modulus and its conductor.
-use Rattle.qd_steps.proofs.Names.{◌≡◌, ℕ, ◌%◌, Bool, true, false, Option, Some, None, refl, sym, ap, ◌∙◌, is_conductor, ModRing}
-use Rattle.std.proofs.Common.{eqb-true}
+use Rattle.qd_steps.proofs.Names.{◌≡◌, ℕ, ◌%◌, Bool, true, false, Option, Some, None, refl, sym, ap, ◌∙◌, is_conductor, ModRing, eqb-true, ◌==◌, field_by, field_of}
 use Rattle.std.proofs.Math.Bool.{Bool-set}
 use Rattle.std.proofs.Math.Decide.{ℕ_discrete}
 use Rattle.std.proofs.lemmas.Bool.{eqb-false}
-use Rattle.std.specs.Prelude.{◌==◌}
 use mathlib.Core.HLevel.{Discrete, hedberg, is_prop→PathP, →_prop, ⊥_prop}
 use Rattle.prime_field.specs.Moduli.{is_modulus, least_root}
-use Rattle.qd_steps.specs.ByModulus.{field_by, field_of}
 
 some_same : {x y : ℕ} → Some x ≡ Some y → x ≡ y
 some_same e = cc

@@ -1,10 +1,6 @@
 -- The steps of the lift of all classes, and of what comes after it.
-use Rattle.qd_steps.proofs.Names.{◌≡◌, ℕ, List, None, sym, ap, ◌∙◌, option_or, Cochain, ModRing, RowsOver}
-use Rattle.qd_steps.specs.declared.refusal.StepRefusal.{StepRefusal}
+use Rattle.qd_steps.proofs.Names.{◌≡◌, ℕ, List, None, sym, ap, ◌∙◌, option_or, Cochain, ModRing, RowsOver, StepRefusal, first_cause, tables_cause, tables_of, lifts_cause, lifted_blocks, modulus_cause, IsRefusalFor}
 use Rattle.qd_steps.specs.declared.refusal.StepRefusal.TheVariants as steps
-use Rattle.qd_steps.specs.Tables.{first_cause, tables_cause, tables_of}
-use Rattle.qd_steps.specs.ByModulus.{lifts_cause, lifted_blocks, modulus_cause}
-use Rattle.qd_steps.specs.Refused.{IsRefusalFor}
 use Rattle.qd_steps.proofs.TableSteps.{same_causes}
 
 module _ (ring : ModRing) (w : Cochain) where

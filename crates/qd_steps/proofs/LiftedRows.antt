@@ -1,18 +1,11 @@
 -- The lifted rows of all classes.
-use Rattle.qd_steps.proofs.Names.{◌≡◌, ℕ, ◌<◌, List, [], length, refl, sym, ap, subst, ◌∙◌, arith, ℤ, length-map-range_with_len, get_or-map-range_with_len, ap₂, representatives, representative_at, Cochain, ModRing, TwistedSubgroup, size, twist_of, row_at, central_value, central_characters, character_ratios, RowsOver, IsShaped, characters, twist_rows, Serves, Block, block_at}
-use Rattle.group_table.proofs.Numbers.{length-tabulated, tabulated-at}
-use Rattle.group_table.specs.Group.{product, identity_of}
+use Rattle.qd_steps.proofs.Names.{◌≡◌, ℕ, ◌<◌, List, [], length, refl, sym, ap, subst, ◌∙◌, arith, ℤ, length-map-range_with_len, get_or-map-range_with_len, ap₂, representatives, representative_at, Cochain, ModRing, TwistedSubgroup, size, twist_of, row_at, central_value, central_characters, character_ratios, RowsOver, IsShaped, characters, twist_rows, Serves, Block, block_at, product, identity_of, period_modulus, block, IsMatched, class_twist, class_rows, lifted_block, lifted_blocks, ServesCocycle}
 use Rattle.orders.specs.Order.{exponent_of}
 use Rattle.classes.specs.Conjugacy.{centraliser_of}
 use Rattle.classes.proofs.Conjugacy.{representative_at_is}
 use Rattle.char_lift.specs.Faults.{lifted_row}
-use Rattle.twist_lift.proofs.TwistLaws.{period_modulus}
+use Rattle.group_table.proofs.Numbers.{length-tabulated, tabulated-at}
 use Rattle.twist_lift.proofs.ServedClasses.{serves_classes}
-use Rattle.qd_doc.specs.Blocks.{block}
-use Rattle.qd_steps.specs.Matched.{IsMatched}
-use Rattle.qd_steps.specs.Tables.{class_twist, class_rows}
-use Rattle.qd_steps.specs.ByModulus.{lifted_block, lifted_blocks}
-use Rattle.qd_steps.specs.Laws.{ServesCocycle}
 
 -- ---- one twist
 module _ (ring : ModRing) where

@@ -1,8 +1,5 @@
 -- The causes that the rows of a modulus can have, and what holds of the rows where no lift has one.
-use Rattle.qd_steps.proofs.Names.{◌≡◌, ℕ, ◌<◌, List, length, Bool, true, false, Option, Some, None, refl, sym, ap, subst, ◌∙◌, option_and_then, option_map, option_or, representatives, representative_at, Cochain, ModRing, TwistedSubgroup, size, central_value, central_characters, character_ratios, Characters, RowsOver, characters_of, fit_at, Miss, characters, twist_fault, twist_rows, Block, Cause}
-use Rattle.std.proofs.Common.{◌≢◌, ◌⊎◌, inl, inr}
-use Rattle.std.specs.Prelude.{if◌then◌else◌}
-use Rattle.scan.proofs.Places.{first_some, first_none-at}
+use Rattle.qd_steps.proofs.Names.{◌≡◌, ℕ, ◌<◌, List, length, Bool, true, false, Option, Some, None, refl, sym, ap, subst, ◌∙◌, option_and_then, option_map, option_or, representatives, representative_at, Cochain, ModRing, TwistedSubgroup, size, central_value, central_characters, character_ratios, Characters, RowsOver, characters_of, fit_at, Miss, characters, twist_fault, twist_rows, Block, Cause, ◌≢◌, ◌⊎◌, inl, inr, if◌then◌else◌, first_some, first_none-at, twist_table, twist_rows_are_roots, twist_rows_miss_clauses, class_twist, class_table, failure, cause_of_miss, table_cause, tables_cause, simples_over, cause_of_lift, lift_cause, lifts_cause, lifted_blocks, modulus_cause, ServesCocycle, IsModulusCause}
 use Rattle.root_tables.specs.RootRows.{AreRootRows, HasRootRows}
 use Rattle.char_lift.specs.Candidate.{degree_of}
 use Rattle.char_lift.specs.Faults.{lift_fault, row_fault, fault_with, place_fault}
@@ -11,11 +8,6 @@ use Rattle.char_lift.specs.declared.refusal.LiftRefusal.TheVariants as lifts
 use Rattle.table_check.specs.Check.{table_miss}
 use Rattle.table_check.specs.declared.miss.Clause.{Clause}
 use Rattle.table_check.specs.declared.miss.Clause.TheVariants as clauses
-use Rattle.twist_lift.specs.Laws.{twist_table}
-use Rattle.twist_lift.proofs.TwistLaws.{twist_rows_are_roots, twist_rows_miss_clauses}
-use Rattle.qd_steps.specs.Tables.{class_twist, class_table, failure, cause_of_miss, table_cause, tables_cause, simples_over}
-use Rattle.qd_steps.specs.ByModulus.{cause_of_lift, lift_cause, lifts_cause, lifted_blocks, modulus_cause}
-use Rattle.qd_steps.specs.Laws.{ServesCocycle, IsModulusCause}
 use Rattle.qd_steps.proofs.TableSteps.{tables_length, tables_at}
 use Rattle.qd_steps.proofs.LiftedRows.{lifted_at, lifted_rows_at, class_serves}
 

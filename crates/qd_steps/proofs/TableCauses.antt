@@ -1,21 +1,16 @@
 -- The cause of a refusal of a table, by what the check of the table says of its first miss.
-use Rattle.qd_steps.proofs.Names.{◌≡◌, ℕ, true, List, refl, sym, ap, subst, ◌∙◌, option_map, ℤ, is_conductor, TwistedSubgroup, Characters, characters_of, fit_at, Refuses, Miss}
-use Rattle.std.proofs.Common.{Err}
+use Rattle.qd_steps.proofs.Names.{◌≡◌, ℕ, true, List, refl, sym, ap, subst, ◌∙◌, option_map, ℤ, is_conductor, TwistedSubgroup, Characters, characters_of, fit_at, Refuses, Miss, Err, clause_of, left_of, right_of, IsEquationOf, Checks, plain_of, equation, failure, cause_of_miss, cause_over, IsRefusalFor, StepRefusal}
 use Rattle.cyclotomic.specs.CyclotomicRing.{CyclotomicValue, cyclotomic_value}
 use Rattle.qd_ring.specs.CycArrays.{array_of, is_array}
 use Rattle.qd_ring.proofs.CycSums.{array-of_value}
 use Rattle.qd_ring.specs.declared.plain.Plain.{Plain}
 use Rattle.table_check.specs.Sides.{twist_left}
-use Rattle.table_check.specs.Answers.{clause_of, left_of, right_of, IsEquationOf, Checks}
 use Rattle.table_check.specs.declared.identity_name.IdentityName.{IdentityName}
 use Rattle.table_check.specs.declared.identity_name.IdentityName.TheVariants as names
 use Rattle.table_check.specs.declared.miss.Clause.TheVariants as clauses
 use Rattle.table_check.specs.declared.refusal.TableRefusal.{TableRefusal}
 use Rattle.table_check.specs.declared.refusal.TableRefusal.TheVariants as refusals
 use Rattle.data_print.specs.declared.cause.Cause.TheVariants.{Identity, NoTwist}
-use Rattle.qd_steps.specs.Tables.{plain_of, equation, failure, cause_of_miss, cause_over}
-use Rattle.qd_steps.specs.Refused.{IsRefusalFor}
-use Rattle.qd_steps.specs.declared.refusal.StepRefusal.{StepRefusal}
 use Rattle.qd_steps.specs.declared.refusal.StepRefusal.TheVariants as steps
 
 -- the coefficients of a value are those of the value that they stand for

@@ -1,8 +1,5 @@
 -- The rows of a block, put together value after value.
-use Rattle.std.proofs.Common.{◌≡◌, ℕ, ◌+◌, ◌-◌, ◌<◌, List, [], ◌∷◌, ◌++◌, length, take, get_or, set, refl, ap, sym, ◌∙◌, length-append, arith}
-use Rattle.std.proofs.lemmas.List.{get_or_push, take_more}
-use Rattle.std.proofs.Math.Seq.{set-append_seam}
-use Rattle.qd_ring.specs.RowLists.{row_at, with_value}
+use Rattle.qd_steps.proofs.Names.{◌≡◌, ℕ, ◌+◌, ◌-◌, ◌<◌, List, [], ◌∷◌, ◌++◌, length, take, get_or, set, refl, ap, sym, ◌∙◌, length-append, arith, get_or_push, take_more, set-append_seam, row_at, with_value}
 
 module _ {A : Type 0} (front : List (List A)) (row : List A) where
   -- where the last row stands

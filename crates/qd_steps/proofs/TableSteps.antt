@@ -1,14 +1,7 @@
 -- The steps of the check of all tables.
-use Rattle.qd_steps.proofs.Names.{◌≡◌, ℕ, ◌+◌, ◌<◌, ◌%◌, true, List, [], ◌∷◌, ◌++◌, length, map, Option, None, sym, ap, subst, ◌∙◌, arith, length-append, ℤ, range_with_len, length-map-range_with_len, get_or-map-range_with_len, first, first-zero, first-ext, first_none-step, representatives, Cochain, IsCocycle, is_conductor, TwistedSubgroup, twist_of, Cause, Block, block_at, RowsOver, IsShaped, HasTables, table_at, no_table}
-use Rattle.std.proofs.Math.Seq.{get_or-append_seam}
-use Rattle.std.proofs.lemmas.List.FromFn.{map-range_with_len_more}
-use Rattle.scan.proofs.Places.{first_found}
+use Rattle.qd_steps.proofs.Names.{◌≡◌, ℕ, ◌+◌, ◌<◌, ◌%◌, true, List, [], ◌∷◌, ◌++◌, length, map, Option, None, sym, ap, subst, ◌∙◌, arith, length-append, ℤ, range_with_len, length-map-range_with_len, get_or-map-range_with_len, first, first-zero, first-ext, first_none-step, representatives, Cochain, IsCocycle, is_conductor, TwistedSubgroup, twist_of, Cause, Block, block_at, RowsOver, IsShaped, HasTables, table_at, no_table, get_or-append_seam, map-range_with_len_more, first_found, StepRefusal, IsMatched, class_twist, class_table, class_rows, table_cause, cause_over, first_cause, tables_cause, tables_of, IsRefusalFor}
 use Rattle.classes.proofs.Counting.{classes_at_most}
-use Rattle.qd_steps.specs.declared.refusal.StepRefusal.{StepRefusal}
 use Rattle.qd_steps.specs.declared.refusal.StepRefusal.TheVariants as steps
-use Rattle.qd_steps.specs.Matched.{IsMatched}
-use Rattle.qd_steps.specs.Tables.{class_twist, class_table, class_rows, table_cause, cause_over, first_cause, tables_cause, tables_of}
-use Rattle.qd_steps.specs.Refused.{IsRefusalFor}
 
 -- one more of a list that is made place by place
 pub one_more : {A : Type 0} (f : ℕ → A) (c : ℕ) (front all : List A) (next : A) → all ≡ front ++ next ∷ [] → front ≡ map f (range_with_len 0 c) → next ≡ f c → all ≡ map f (range_with_len 0 (c + 1))

@@ -1,11 +1,5 @@
 -- The twisted centralisers of all classes, and the rows over them.
-use Rattle.qd_steps.proofs.Names.{◌≡◌, ℕ, ◌<◌, ◌%◌, true, List, length, map, get_or, refl, sym, ap, subst, ◌∙◌, arith, range_with_len, option_and_then, length-map-range_with_len, get_or-map-range_with_len, first, first-ext, representatives, representative_at, Cochain, is_conductor, ModRing, TwistedSubgroup, twist_of, RowsOver, IsShaped, no_table, twist_fault, twist_rows, Serves, Block, block_at}
-use Rattle.std.proofs.lemmas.List.FromFn.{fill_by_all}
-use Rattle.qd_steps.specs.Matched.{IsMatched}
-use Rattle.qd_steps.specs.Tables.{class_twist, class_rows, tables_of}
-use Rattle.qd_steps.specs.ByModulus.{cause_of_lift, lift_cause, lifts_cause, lifted_blocks}
-use Rattle.qd_steps.specs.ClassTwists.{class_twists, twist_in, stated_over, all_stated, lifted_over, all_lifted, lift_cause_over, first_lift_cause}
-use Rattle.qd_steps.specs.Laws.{ServesCocycle}
+use Rattle.qd_steps.proofs.Names.{◌≡◌, ℕ, ◌<◌, ◌%◌, true, List, length, map, get_or, refl, sym, ap, subst, ◌∙◌, arith, range_with_len, option_and_then, length-map-range_with_len, get_or-map-range_with_len, first, first-ext, representatives, representative_at, Cochain, is_conductor, ModRing, TwistedSubgroup, twist_of, RowsOver, IsShaped, no_table, twist_fault, twist_rows, Serves, Block, block_at, fill_by_all, IsMatched, class_twist, class_rows, tables_of, cause_of_lift, lift_cause, lifts_cause, lifted_blocks, class_twists, twist_in, stated_over, all_stated, lifted_over, all_lifted, lift_cause_over, first_lift_cause, ServesCocycle}
 use Rattle.qd_steps.proofs.TableSteps.{table_shaped, tables_length, tables_at}
 use Rattle.qd_steps.proofs.LiftedRows.{lifted_rows_at, class_serves}
 

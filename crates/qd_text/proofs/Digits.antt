@@ -1,9 +1,6 @@
 -- One more digit of a number.
-use Rattle.std.proofs.Common.{◌≡◌, ℕ, ◌+◌, ◌-◌, ◌*◌, ◌<◌, ◌^◌, min, List, Bool, true, false, not, cond, nat_lt, Ok, Err, length, take, get_or, ap, sym, ◌∙◌, arith}
-use Rattle.std.proofs.lemmas.List.Sums.{fold_more}
-use Rattle.qd_text.specs.Numbers.{is_digit, value, number_of}
+use Rattle.qd_text.proofs.Names.{◌≡◌, ℕ, ◌+◌, ◌-◌, ◌*◌, ◌<◌, ◌^◌, min, List, Bool, true, false, not, cond, nat_lt, Ok, Err, length, take, get_or, ap, sym, ◌∙◌, arith, fold_more, is_digit, value, number_of, list_all}
 use Rattle.qd_text.specs.declared.natural.NumberFault.TheVariants.{NotNumber, Wide}
-use Rattle.std.specs.List.{list_all}
 
 -- the value with one more digit
 pub value-take_more : (digits : List ℕ) (i : ℕ) → i < length digits → value (take (i + 1) digits) ≡ value (take i digits) * 10 + (get_or digits i 0 - 48)

@@ -1,10 +1,6 @@
 -- Tokens, one after the other.
-use Rattle.std.proofs.Common.{◌≡◌, ℕ, suc, ◌+◌, ◌-◌, ◌<◌, ◌≤◌, Bool, true, false, not, ◌&&◌, ◌||◌, ◌==◌, cond, List, [], ◌∷◌, ◌++◌, length, take, drop, get_or, refl, ap, sym, ◌∙◌, arith, add-one, add-zero, drop-cons, length-drop}
-use Rattle.std.specs.List.{prefix_len, take_while, list_all}
+use Rattle.qd_text.proofs.Names.{◌≡◌, ℕ, suc, ◌+◌, ◌-◌, ◌<◌, ◌≤◌, Bool, true, false, not, ◌&&◌, ◌||◌, ◌==◌, cond, List, [], ◌∷◌, ◌++◌, length, take, drop, get_or, refl, ap, sym, ◌∙◌, arith, add-one, add-zero, drop-cons, length-drop, prefix_len, take_while, list_all, length-prefix_len, take_while-cons, prefix_len-le-length, is_blank, is_separator, is_token_byte, is_mark, in_comment, blanked, runs, tokens_from}
 use Rattle.std.proofs.lemmas.List.{drop_all, take_all, drop-drop, take-append-drop, get_or-drop}
-use Rattle.std.proofs.lemmas.List.Folds.{length-prefix_len}
-use Rattle.std.proofs.lemmas.List.Sums.{take_while-cons, prefix_len-le-length}
-use Rattle.qd_text.specs.Tokens.{is_blank, is_separator, is_token_byte, is_mark, in_comment, blanked, runs, tokens_from}
 
 pub runs-nil : (follows : Bool) (offset : ℕ) → runs follows offset [] ≡ []
 unfolding runs

@@ -1,4 +1,5 @@
+pub mod Decimals
 pub mod Digits
 pub mod Lexemes
-pub mod Decimals
+pub mod Names
 pub mod Texts

@@ -1,7 +1,5 @@
 -- The tokens of a text that is written word by word.
-use Rattle.std.proofs.Common.{◌≡◌, ℕ, ◌+◌, ◌<◌, Bool, true, false, ◌&&◌, ◌==◌, cond, nat_lt, List, [], ◌∷◌, ◌++◌, length, map, refl, ap, sym, ◌∙◌}
-use Rattle.std.specs.List.{list_all, take_while}
-use Rattle.qd_text.specs.Tokens.{is_blank, is_token_byte, is_mark, blanked, Lexeme, runs, tokens}
+use Rattle.qd_text.proofs.Names.{◌≡◌, ℕ, ◌+◌, ◌<◌, Bool, true, false, ◌&&◌, ◌==◌, cond, nat_lt, List, [], ◌∷◌, ◌++◌, length, map, refl, ap, sym, ◌∙◌, list_all, take_while, is_blank, is_token_byte, is_mark, blanked, Lexeme, runs, tokens}
 use Rattle.qd_text.proofs.Lexemes.{runs-cons, runs-nil, blanked-nil, runs-word_rest, skip_front}
 
 -- the bytes of a token

@@ -1,23 +1,11 @@
 -- Full characters, characters of tensor products and fusion sums of simples whose values are sums of few roots of unity: all of them fit.
-use Rattle.std.proofs.Common.{◌≡◌, ℕ, ◌*◌, ◌/◌, ◌%◌, ◌<◌, ◌≤◌, ◌==◌, true, refl, arith, le_trans}
-use Rattle.std.specs.Prelude.{unwrap_or}
-use Rattle.std.proofs.Math.Nat.{mul-le-mul}
-use Rattle.std.proofs.lemmas.Bool.{leb-true}
+use Rattle.root_fusion.proofs.Names.{◌≡◌, ℕ, ◌*◌, ◌/◌, ◌%◌, ◌<◌, ◌≤◌, ◌==◌, true, refl, arith, le_trans, unwrap_or, mul-le-mul, leb-true, greatest_magnitude, Formed, given, conjugated, multiplied, where_so, SimplesOver, AreSimples, count, class_at, simple_at, over_at, root_exponent, element_value, carried_value, full_character, commute, left_quotient, tensor_term, tensor_character, fusion_sum, simple_is_row, over_is_twist, place_small, FormedOfRoots, of_roots, conjugated_formed, turned_formed, multiplied_formed, where_formed, listed_formed, few_fit, few_together, OfRootSimples, CharactersFit, CharactersAreRootSums, TensorProductsFit, FusionSumsFit}
 use Rattle.classes.specs.Conjugacy.{class_of, transporter_of}
-use Rattle.cyclotomic.specs.Fit.{greatest_magnitude}
 use Rattle.twisted.specs.Twist.{size, element, place_of}
 use Rattle.twisted.proofs.Places.{place_there}
 use Rattle.slant.specs.Phases.{carried, transport_phase, gamma}
-use Rattle.table_check.specs.Formed.{Formed, given, conjugated, multiplied, where_so}
-use Rattle.transport.specs.Simples.{SimplesOver, AreSimples, count, class_at, simple_at, over_at}
-use Rattle.transport.specs.FullCharacters.{root_exponent, element_value, carried_value, full_character}
-use Rattle.transport.specs.SSums.{commute}
-use Rattle.transport.specs.Fusion.{left_quotient, tensor_term, tensor_character, fusion_sum}
-use Rattle.transport.proofs.Listed.{simple_is_row, over_is_twist, place_small}
 use Rattle.root_tables.specs.RootRows.{HasRootRows}
-use Rattle.root_tables.proofs.FormedRoots.{FormedOfRoots, of_roots, conjugated_formed, turned_formed, multiplied_formed, where_formed, listed_formed, few_fit, few_together}
 use Rattle.root_tables.proofs.TableRoots.{degree_few}
-use Rattle.root_fusion.specs.FusionFit.{OfRootSimples, CharactersFit, CharactersAreRootSums, TensorProductsFit, FusionSumsFit}
 
 -- the roots of a sum over all pairs
 pairs_fit : (n : ℕ) → n ≤ 60 → (n * n) * ((n * 49) * 7) ≤ greatest_magnitude

@@ -1,21 +1,7 @@
 -- Sums of indicators: of small numbers they fit, and the numbers of simples by good tables are small.
-use Rattle.std.proofs.Common.{◌≡◌, ℕ, zero, suc, ◌*◌, ◌/◌, ◌%◌, ◌^◌, ◌<◌, ◌≤◌, true, List, [], ◌∷◌, length, get_or, refl, sym, arith, le_trans, subst, zero-add}
-use Rattle.std.proofs.Math.Nat.{mul-le-mul}
-use Rattle.std.specs.List.{All}
-use Rattle.std.proofs.lemmas.Bool.{leb-true}
-use Rattle.std.proofs.lemmas.Nat.{div_below, mod_below}
+use Rattle.root_fusion.proofs.Names.{◌≡◌, ℕ, zero, suc, ◌*◌, ◌/◌, ◌%◌, ◌^◌, ◌<◌, ◌≤◌, true, List, [], ◌∷◌, length, get_or, refl, sym, arith, le_trans, subst, zero-add, mul-le-mul, All, leb-true, div_below, mod_below, length-map-range_with_len, get_or-map-range_with_len, is_conductor, greatest_magnitude, SimplesOver, AreSimples, count, dimension_at, AreFusionNumbers, OfAllSimples, order_of, quotient_exponent, indicator_term, term_at, FormedOfRoots, whole_formed, turned_formed, multiplied_formed, listed_formed, dimensions, numbers_into, IsSmall, SmallSumsFit, IndicatorsFit}
 use Rattle.std.proofs.lemmas.List.Elements.{All-from_get_or}
-use Rattle.std.proofs.lemmas.List.FromFn.{length-map-range_with_len, get_or-map-range_with_len}
-use Rattle.cyclotomic.specs.Conductors.{is_conductor}
-use Rattle.cyclotomic.specs.Fit.{greatest_magnitude}
 use Rattle.qd_ring.specs.Formed.{given, whole, multiplied}
-use Rattle.transport.specs.Simples.{SimplesOver, AreSimples, count, dimension_at}
-use Rattle.transport.specs.Fusion.{AreFusionNumbers}
-use Rattle.transport.specs.Headline.{OfAllSimples, order_of}
-use Rattle.indicators.specs.Indicators.{quotient_exponent, indicator_term, term_at}
-use Rattle.root_tables.proofs.FormedRoots.{FormedOfRoots, whole_formed, turned_formed, multiplied_formed, listed_formed}
-use Rattle.root_fusion.specs.IndicatorLists.{dimensions, numbers_into}
-use Rattle.root_fusion.specs.IndicatorsFit.{IsSmall, SmallSumsFit, IndicatorsFit}
 use Rattle.root_fusion.proofs.Numbers.{dimensions_are_small, simples_are_few, numbers_are_small}
 
 -- an element of a list of small numbers is small, and so is 0, which is met past its end

@@ -1,5 +1,6 @@
 pub mod FusionSums
-pub mod Numbers
 pub mod IndicatorSums
-pub mod PairValues
+pub mod Names
 pub mod NoOverflows
+pub mod Numbers
+pub mod PairValues

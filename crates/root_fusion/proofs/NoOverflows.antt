@@ -1,13 +1,7 @@
 -- Of simples whose values are sums of roots of unity no sum overflows at any site.
-use Rattle.std.proofs.Common.{◌≡◌, ℕ, ◌*◌, ◌/◌, ◌%◌, Bool, true, false, map, ap}
-use Rattle.std.specs.List.{range_with_len}
-use mathlib.Core.Logic.{inl, inr}
-use Rattle.transport.specs.FullCharacters.{full_character}
-use Rattle.transport.specs.SSums.{s_sum}
-use Rattle.transport.specs.Fusion.{tensor_character, fusion_sum}
+use Rattle.root_fusion.proofs.Names.{◌≡◌, ℕ, ◌*◌, ◌/◌, ◌%◌, Bool, true, false, map, ap, range_with_len, inl, inr, full_character, s_sum, tensor_character, fusion_sum, OfRootSimples}
 use Rattle.fusion_web.specs.Entries.{count_of}
 use Rattle.root_tables.proofs.SimpleRoots.{root_simples_fit}
-use Rattle.root_fusion.specs.FusionFit.{OfRootSimples}
 use Rattle.root_fusion.specs.Overflows.{NumeratorsNeverOverflow, FusionNeverOverflows, PlanesAreNumbers}
 use Rattle.root_fusion.proofs.FusionSums.{characters_fit, tensor_products_fit, fusion_sums_fit}
 

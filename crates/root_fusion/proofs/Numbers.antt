@@ -1,16 +1,11 @@
 -- The dimensions and fusion numbers of simples by good tables are small.
-use Rattle.std.proofs.Common.{◌≡◌, ℕ, zero, suc, ◌+◌, ◌*◌, ◌<◌, ◌≤◌, ap, arith, subst, le_trans}
-use Rattle.std.proofs.Math.Nat.{mul-le-mul}
-use mathlib.Core.Logic.{◌⊎◌, inl, inr}
-use Rattle.transport.specs.Simples.{SimplesOver, AreSimples, count, dimension_at}
+use Rattle.root_fusion.proofs.Names.{◌≡◌, ℕ, zero, suc, ◌+◌, ◌*◌, ◌<◌, ◌≤◌, ap, arith, subst, le_trans, mul-le-mul, ◌⊎◌, inl, inr, SimplesOver, AreSimples, count, dimension_at, OfAllSimples, order_of, DimensionsAreSmall, SimplesAreFew, NumbersAreSmall}
 use Rattle.transport.specs.Matrices.{sum_numbers}
-use Rattle.transport.specs.Headline.{OfAllSimples, order_of}
 use Rattle.transport.proofs.DoubleSimples.{degree}
 use Rattle.transport.proofs.Dimensions.{some_member}
 use Rattle.transport.proofs.FusionLaws.{numbers_of_dimensions}
 use Rattle.transport.proofs.Rows.{last_or_less}
 use Rattle.transport.proofs.SMatrixLaws.{simple, squares_of_dimensions}
-use Rattle.root_fusion.specs.IndicatorsFit.{DimensionsAreSmall, SimplesAreFew, NumbersAreSmall}
 
 -- ---- sums of numbers
 -- each is at most their sum

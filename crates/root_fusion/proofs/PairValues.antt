@@ -1,30 +1,18 @@
 -- The sum of an indicator is the sum of its formula over all pairs of simples.
-use Rattle.std.proofs.Common.{◌≡◌, ℕ, zero, suc, ◌+◌, ◌-◌, ◌*◌, ◌/◌, ◌%◌, ◌<◌, true, Option, Some, None, List, get_or, map, refl, sym, ap, ap₂, ◌∙◌, arith, zero-add}
-use Rattle.std.specs.Prelude.{unwrap_or}
-use Rattle.std.specs.List.{range_with_len}
-use Rattle.std.proofs.Math.Nat.{zero-mul, suc-mul, mul_assoc, mod_self}
-use Rattle.std.proofs.lemmas.Nat.{div_below, mod_below}
-use Rattle.std.proofs.lemmas.List.FromFn.{length-map-range_with_len, get_or-map-range_with_len}
+use Rattle.root_fusion.proofs.Names.{◌≡◌, ℕ, zero, suc, ◌+◌, ◌-◌, ◌*◌, ◌/◌, ◌%◌, ◌<◌, true, Option, Some, None, List, get_or, map, refl, sym, ap, ap₂, ◌∙◌, arith, zero-add, unwrap_or, range_with_len, zero-mul, suc-mul, mul_assoc, mod_self, div_below, mod_below, length-map-range_with_len, get_or-map-range_with_len, is_conductor, whole, SimplesOver, AreSimples, count, dimension_at, twist_at, over_at, characters_at, simple_at, OfAllSimples, twist_small, quotient_exponent, indicator_term, term_at, dimensions, twists, numbers_into}
 use Rattle.algebra.specs.Structures.{CommRing}
 use Rattle.algebra.specs.Sums.{sum_below, power}
 use Rattle.algebra.proofs.RingLaws.{one_mul}
 use Rattle.algebra.proofs.SumLaws.{sum_ext, power_zero, power_suc}
-use Rattle.cyclotomic.specs.Conductors.{is_conductor}
 use Rattle.cyclotomic.specs.Cyclotomic.{cyclotomic}
 use Rattle.cyclotomic.specs.Ring.{value_product}
 use Rattle.cyclotomic.specs.CyclotomicRing.{CyclotomicValue, cyclotomic_ring, root, conjugate}
 use Rattle.cyclotomic.proofs.Checks.{conductor_positive}
 use Rattle.cyclotomic.proofs.Images.{root-zero, root-sum}
 use Rattle.cyclotomic.proofs.Inverses.{root_modulo, root_conjugate}
-use Rattle.table_check.specs.Formed.{whole}
 use Rattle.table_check.specs.Check.{twist_of}
-use Rattle.transport.specs.Simples.{SimplesOver, AreSimples, count, dimension_at, twist_at, over_at, characters_at, simple_at}
-use Rattle.transport.specs.Headline.{OfAllSimples}
-use Rattle.transport.proofs.Listed.{twist_small}
 use Rattle.transport.proofs.PairSums.{double_sum}
 use Rattle.transport.proofs.Wholes.{whole_product}
-use Rattle.indicators.specs.Indicators.{quotient_exponent, indicator_term, term_at}
-use Rattle.root_fusion.specs.IndicatorLists.{dimensions, twists, numbers_into}
 use Rattle.root_fusion.specs.IndicatorValues.{pair_value, IndicatorValues}
 
 -- ---- powers of quotients of roots of unity

@@ -1,12 +1,7 @@
 -- Values that are formed of sums of roots of unity: each step fits while the roots are few.
-use Rattle.std.proofs.Common.{◌≡◌, ℕ, zero, suc, ◌+◌, ◌*◌, ◌^◌, ◌<◌, ◌≤◌, Bool, true, false, ◌&&◌, not, refl, sym, ap, arith, le_trans}
-use Rattle.std.proofs.Math.Nat.{mul-le-mul}
-use Rattle.std.proofs.lemmas.Bool.{leb-true}
-use mathlib.Core.Path.{ap₂}
-use Rattle.scan.proofs.Places.{all_below-all}
+use Rattle.root_tables.proofs.Names.{◌≡◌, ℕ, zero, suc, ◌+◌, ◌*◌, ◌^◌, ◌<◌, ◌≤◌, Bool, true, false, ◌&&◌, not, refl, sym, ap, arith, le_trans, mul-le-mul, leb-true, ap₂, all_below-all, is_conductor, no_root, roots_whole, roots_together, roots_multiplied, roots_same, roots_turned, roots_conjugated, roots_size, roots_fit, roots_fit_together}
 use Rattle.algebra.specs.Sums.{sum_below}
 use Rattle.algebra.proofs.SumLaws.{sum_zero, sum_suc}
-use Rattle.cyclotomic.specs.Conductors.{is_conductor}
 use Rattle.cyclotomic.specs.Cyclotomic.{cyclotomic}
 use Rattle.cyclotomic.specs.Ring.{value_sum, value_nought, value_product}
 use Rattle.cyclotomic.specs.CyclotomicRing.{CyclotomicValue, cyclotomic_ring, root, conjugate}
@@ -14,7 +9,6 @@ use Rattle.cyclotomic.specs.Fit.{greatest_magnitude, value_size}
 use Rattle.qd_ring.specs.RootSums.{IsSumOfRoots}
 use Rattle.qd_ring.specs.Formed.{Formed, given, whole, conjugated, multiplied, turned, listed, where_so}
 use Rattle.qd_ring.proofs.SizeLaws.{listed_fits}
-use Rattle.qd_ring.proofs.RootSumLaws.{no_root, roots_whole, roots_together, roots_multiplied, roots_same, roots_turned, roots_conjugated, roots_size, roots_fit, roots_fit_together}
 
 -- how many roots are few
 pub few_fit : (r : ℕ) → r ≤ 1000000 → r ≤ greatest_magnitude

@@ -1,4 +1,5 @@
 pub mod FormedRoots
-pub mod TableRoots
 pub mod MissRoots
+pub mod Names
 pub mod SimpleRoots
+pub mod TableRoots

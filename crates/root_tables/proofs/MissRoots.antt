@@ -1,16 +1,9 @@
 -- What a table misses first, where no side overflows: a clause that fails; and not that of the count, where the count is right.
-use Rattle.std.proofs.Common.{◌≡◌, ◌≢◌, sym, ◌∙◌, eq-eqb, ℕ, true, refl, subst}
-use Rattle.std.proofs.lemmas.Bool.{false≢true}
-use Rattle.std.specs.Prelude.{IfSome}
-use Rattle.twisted.specs.Twist.{TwistedSubgroup}
-use Rattle.twisted.specs.Regular.{rank}
-use Rattle.table_check.specs.Characters.{Characters}
-use Rattle.table_check.specs.Fitting.{SidesFit}
+use Rattle.root_tables.proofs.Names.{◌≡◌, ◌≢◌, sym, ◌∙◌, eq-eqb, ℕ, true, refl, subst, false≢true, IfSome, TwistedSubgroup, rank, Characters, SidesFit, RootRowsMissClauses}
 use Rattle.table_check.specs.Answers.{fit_at}
 use Rattle.table_check.specs.declared.miss.Clause.TheVariants.{Count}
 use Rattle.table_check.specs.declared.miss.Miss.{Miss}
 use Rattle.table_check.proofs.Found.{HoldsOfEach, holds_of_miss}
-use Rattle.root_tables.specs.RootRows.{RootRowsMissClauses}
 use Rattle.root_tables.proofs.TableRoots.{root_rows_fit}
 
 module _ {k : ℕ} (s : TwistedSubgroup) (table : Characters k) where

@@ -1,17 +1,11 @@
 -- The numerators of S of simples whose values are sums of few roots of unity: all of them fit.
-use Rattle.std.proofs.Common.{◌≡◌, ℕ, ◌*◌, ◌/◌, ◌%◌, ◌<◌, ◌==◌, true, refl, arith}
-use Rattle.std.specs.Prelude.{unwrap_or}
-use Rattle.std.proofs.Math.Nat.{mul-le-mul}
-use Rattle.classes.specs.Conjugacy.{class_of, transporter_of}
-use Rattle.twisted.specs.Twist.{size, element, place_of}
+use Rattle.root_tables.proofs.Names.{◌≡◌, ℕ, ◌*◌, ◌/◌, ◌%◌, ◌<◌, ◌==◌, true, refl, arith, unwrap_or, mul-le-mul, class_of, transporter_of, size, element, place_of, given, conjugated, where_so, HasRootRows, RootSimplesFit}
 use Rattle.twisted.proofs.Places.{place_there}
 use Rattle.slant.specs.Phases.{carried, transport_phase}
-use Rattle.table_check.specs.Formed.{given, conjugated, where_so}
 use Rattle.transport.specs.Simples.{SimplesOver, AreSimples, count, class_at, simple_at, over_at}
 use Rattle.transport.specs.FullCharacters.{root_exponent, element_value, carried_value, full_character}
 use Rattle.transport.specs.SSums.{commute, pair_term, s_sum}
 use Rattle.transport.proofs.Listed.{simple_is_row, over_is_twist, place_small}
-use Rattle.root_tables.specs.RootRows.{HasRootRows, RootSimplesFit}
 use Rattle.root_tables.proofs.FormedRoots.{FormedOfRoots, of_roots, conjugated_formed, turned_formed, multiplied_formed, where_formed, listed_formed, few_fit, few_together}
 use Rattle.root_tables.proofs.TableRoots.{degree_few}
 

@@ -1,23 +1,11 @@
 -- The sides of the clauses on a table whose values are sums of few roots of unity: all of them fit.
-use Rattle.std.proofs.Common.{◌≡◌, ℕ, ◌*◌, ◌<◌, ◌≤◌, Bool, true, false, ◌&&◌, ◌==◌, if◌then◌else◌, refl, arith}
-use Rattle.std.proofs.Math.Nat.{mul-le-mul}
-use mathlib.Core.Path.{ap₂}
-use Rattle.scan.proofs.Places.{all_below-all}
+use Rattle.root_tables.proofs.Names.{◌≡◌, ℕ, ◌*◌, ◌<◌, ◌≤◌, Bool, true, false, ◌&&◌, ◌==◌, if◌then◌else◌, refl, arith, mul-le-mul, ap₂, all_below-all, conjugate, is_conductor, one_root, TwistedSubgroup, size, phase, IsTwist, kappa, Characters, both_fit, Formed, given, whole, conjugated, multiplied, AreRootRows, RootRowsFit}
 use Rattle.group_table.specs.Group.{inverse, identity_of}
 use Rattle.group_table.proofs.Sentences.{identity_below, two_sided_inverse, closed}
-use Rattle.classes.specs.Conjugacy.{conjugate}
-use Rattle.cyclotomic.specs.Conductors.{is_conductor}
 use Rattle.cyclotomic.specs.CyclotomicRing.{root}
-use Rattle.qd_ring.proofs.RootSumLaws.{one_root}
-use Rattle.twisted.specs.Twist.{TwistedSubgroup, size, phase, IsTwist}
-use Rattle.twisted.specs.Regular.{kappa}
 use Rattle.twisted.specs.Algebra.{left_quotient, exponent}
-use Rattle.table_check.specs.Characters.{Characters}
 use Rattle.table_check.specs.Check.{twists_fit}
-use Rattle.table_check.specs.Fitting.{both_fit}
-use Rattle.table_check.specs.Formed.{Formed, given, whole, conjugated, multiplied}
 use Rattle.table_check.specs.Sides.{right_quotient, with_phase, degree_value, conjugate_value, unitary_left, unitary_right, twist_right, central_left, central_right, product_term, product_sum, product_left, product_right, sum_term, sum_left, sum_right, row_term, column_term, column_left, column_right}
-use Rattle.root_tables.specs.RootRows.{AreRootRows, RootRowsFit}
 use Rattle.root_tables.proofs.FormedRoots.{FormedOfRoots, of_roots, whole_formed, conjugated_formed, turned_formed, multiplied_formed, where_formed, listed_formed, few_fit, few_together}
 
 -- a degree is at most 7

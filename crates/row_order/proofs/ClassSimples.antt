@@ -1,21 +1,8 @@
 -- The simples of a class are the rows of its table, in another order.
-use Rattle.std.proofs.Common.{◌≡◌, ℕ, zero, suc, ◌<◌, ◌≤◌, Bool, true, false, cond, ◌==◌, List, [], ◌∷◌, ◌++◌, length, map, refl, sym, ap, ap₂, ◌∙◌, subst, eq-eqb, add-one, get_or, take, ℤ, arith}
-use mathlib.Core.Logic.{⊎_elim}
-use Rattle.std.specs.List.{range_with_len, filter}
-use Rattle.std.specs.List.Sorted.{IsPermutation}
-use Rattle.std.proofs.lemmas.List.{append-nil, map_push, take_all}
-use Rattle.std.proofs.lemmas.List.Elements.{filter-append, filter_more}
-use Rattle.std.proofs.lemmas.List.Sorted.{IsPermutation-refl, IsPermutation-trans, IsPermutation-cons, IsPermutation-swap, IsPermutation-map}
+use Rattle.row_order.proofs.Names.{◌≡◌, ℕ, zero, suc, ◌<◌, ◌≤◌, Bool, true, false, cond, ◌==◌, List, [], ◌∷◌, ◌++◌, length, map, refl, sym, ap, ap₂, ◌∙◌, subst, eq-eqb, add-one, get_or, take, ℤ, arith, ⊎_elim, range_with_len, filter, IsPermutation, append-nil, map_push, take_all, filter-append, filter_more, IsPermutation-refl, IsPermutation-trans, IsPermutation-cons, IsPermutation-swap, IsPermutation-map, array_of, size, RowsOver, characters_of, SimplesOver, Simple, no_simple, count, table_at, simple_of, rows_of, rows_below, simples_of, insert, ascending, less, rows_below-zero, rows_below-suc, last_or_less, simple_rows}
 use Rattle.group_table.specs.Numbers.{passing_below}
 use Rattle.group_table.proofs.Numbers.{passing_below-zero, passing_below-suc}
-use Rattle.qd_ring.specs.CycArrays.{array_of}
-use Rattle.twisted.specs.Twist.{size}
-use Rattle.table_check.specs.Characters.{RowsOver, characters_of}
-use Rattle.transport.specs.Simples.{SimplesOver, Simple, no_simple, count, table_at, simple_of, rows_of, rows_below, simples_of, insert, ascending}
-use Rattle.transport.proofs.Order.{less}
 use Rattle.transport.proofs.Distinct.{other_number}
-use Rattle.transport.proofs.Rows.{rows_below-zero, rows_below-suc, last_or_less}
-use Rattle.row_order.specs.SimpleRows.{simple_rows}
 use Rattle.row_order.proofs.NumbersInOrder.{HasNumbers, has_numbers}
 
 -- ---- what is kept of a list that is put into order

@@ -1,11 +1,6 @@
 -- A list that has the numbers below n in some order gives a map of these numbers, and the map back.
-use Rattle.std.proofs.Common.{◌≡◌, ℕ, ◌<◌, ◌⊎◌, inl, inr, List, length, get_or, refl, sym, ap, ◌∙◌, subst, zero-add}
-use Rattle.std.specs.List.{range_with_len, swap}
-use Rattle.std.specs.List.Sorted.{IsPermutation}
-use Rattle.std.proofs.lemmas.List.FromFn.{length-range_with_len, get_or-range_with_len}
-use Rattle.std.proofs.lemmas.Bool.{cases_eq}
+use Rattle.row_order.proofs.Names.{◌≡◌, ℕ, ◌<◌, ◌⊎◌, inl, inr, List, length, get_or, refl, sym, ap, ◌∙◌, subst, zero-add, range_with_len, swap, IsPermutation, length-range_with_len, get_or-range_with_len, cases_eq, IsPermutation-keeps, IsPermutation-swap, length_permutation}
 use Rattle.std.proofs.lemmas.List.Edits.{swapped_from_swap, Swapped}
-use Rattle.std.proofs.lemmas.List.Sorted.{IsPermutation-keeps, IsPermutation-swap, length_permutation}
 
 -- ---- b for a, and a for b
 exchange_at : (m a b : ℕ) → (m ≡ a) ⊎ (m ≡ a → ⊥) → (m ≡ b) ⊎ (m ≡ b → ⊥) → ℕ

@@ -1,16 +1,7 @@
 -- Tables with their rows in the order of the simples stay as they are when they are put into that order again.
-use Rattle.std.proofs.Common.{◌≡◌, ℕ, ◌<◌, ◌-◌, Bool, true, false, cond, ◌==◌, ℤ, List, [], ◌∷◌, ◌++◌, length, map, refl, sym, ap, ap₂, ◌∙◌, subst}
-use Rattle.std.specs.List.{range_with_len, filter, All}
-use Rattle.std.proofs.lemmas.List.{get_or_default}
-use Rattle.std.proofs.lemmas.List.Elements.{All-head, All-tail, All-filter}
+use Rattle.row_order.proofs.Names.{◌≡◌, ℕ, ◌<◌, ◌-◌, Bool, true, false, cond, ◌==◌, ℤ, List, [], ◌∷◌, ◌++◌, length, map, refl, sym, ap, ap₂, ◌∙◌, subst, range_with_len, filter, All, get_or_default, All-head, All-tail, All-filter, CyclotomicValue, array_of, size, RowsOver, characters_of, SimplesOver, Simple, no_simple, table_at, simples_of, AreSimples, simple_rows, in_order, without_row, OrderIsKept}
 use Rattle.cyclotomic.specs.Polynomial.{zeros}
-use Rattle.cyclotomic.specs.CyclotomicRing.{CyclotomicValue}
-use Rattle.qd_ring.specs.CycArrays.{array_of}
-use Rattle.twisted.specs.Twist.{size}
-use Rattle.table_check.specs.Characters.{RowsOver, characters_of}
-use Rattle.transport.specs.Simples.{SimplesOver, Simple, no_simple, table_at, simples_of, AreSimples}
 use Rattle.transport.proofs.Listed.{IsRow, simple_is_row}
-use Rattle.row_order.specs.SimpleRows.{simple_rows, in_order, without_row, OrderIsKept}
 use Rattle.row_order.proofs.ClassSimples.{class_simples, simple_row, rows_by_simples}
 use Rattle.row_order.proofs.TablesInOrder.{in_order_are, listed_in_order}
 use Rattle.row_order.proofs.SameSimples.{same_simples_in_order}

@@ -1,17 +1,9 @@
 -- What holds of a table holds of it with its rows in another order.
-use Rattle.std.proofs.Common.{◌≡◌, ℕ, zero, suc, ◌<◌, ◌≤◌, Bool, true, false, ◌==◌, if◌then◌else◌, refl, sym, ap, ◌∙◌, subst, eq-eqb, eqb-true}
-use mathlib.Core.Path.{fun_ext}
+use Rattle.row_order.proofs.Names.{◌≡◌, ℕ, zero, suc, ◌<◌, ◌≤◌, Bool, true, false, ◌==◌, if◌then◌else◌, refl, sym, ap, ◌∙◌, subst, eq-eqb, eqb-true, fun_ext, identity_of, CyclotomicValue, cyclotomic_ring, TwistedSubgroup, size, Characters, IsDegree, HasTwist, IsGood, IsRootRow, AreRootRows, IsReordering, GoodInAnyOrder, RootRowsInAnyOrder}
 use Rattle.algebra.specs.Sums.{sum_below}
 use Rattle.algebra.proofs.SumLaws.{sum_ext, sum_reindex}
-use Rattle.group_table.specs.Group.{identity_of}
-use Rattle.cyclotomic.specs.CyclotomicRing.{CyclotomicValue, cyclotomic_ring}
-use Rattle.twisted.specs.Twist.{TwistedSubgroup, size}
-use Rattle.table_check.specs.Characters.{Characters}
 use Rattle.table_check.specs.Formed.{given, whole, multiplied, where_so}
 use Rattle.table_check.specs.Sides.{degree_value, conjugate_value, unitary_left, unitary_right, twist_left, twist_right, central_left, central_right, product_sum, sum_term, row_term}
-use Rattle.table_check.specs.Good.{IsDegree, HasTwist, IsGood}
-use Rattle.root_tables.specs.RootRows.{IsRootRow, AreRootRows}
-use Rattle.row_order.specs.Reordering.{IsReordering, GoodInAnyOrder, RootRowsInAnyOrder}
 
 -- two tests that hold together are the same
 same_test : (a b : Bool) → (a ≡ true → b ≡ true) → (b ≡ true → a ≡ true) → a ≡ b

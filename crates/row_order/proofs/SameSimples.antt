@@ -1,26 +1,12 @@
 -- Tables with their rows in the order of the simples have the same simples.
-use Rattle.std.proofs.Common.{◌≡◌, ℕ, zero, suc, ◌<◌, ◌≤◌, false, not, ◌&&◌, ◌==◌, List, [], ◌∷◌, ◌++◌, length, map, get_or, refl, sym, ap, ◌∙◌, subst, arith}
-use mathlib.Core.Path.{fun_ext}
+use Rattle.row_order.proofs.Names.{◌≡◌, ℕ, zero, suc, ◌<◌, ◌≤◌, false, not, ◌&&◌, ◌==◌, List, [], ◌∷◌, ◌++◌, length, map, get_or, refl, sym, ap, ◌∙◌, subst, arith, fun_ext, range_with_len, IsPermutation, map-append, length-map, get_or-map, fill_by_all, IsPermutation-refl, IsPermutation-trans, IsPermutation-append, IsPermutation-map, identity_of, CyclotomicValue, TwistedSubgroup, size, Characters, RowsOver, SimplesOver, Simple, no_simple, table_at, simple_of, rows_of, rows_below, simples_of, ascending, AreSimples, less, ascending_permutes, ascending_ascends, put_in_order, rows_below-zero, rows_below-suc, simple_rows, without_row, in_order, SameSimplesInOrder}
 use Rattle.std.specs.Prelude.{unwrap_or}
-use Rattle.std.specs.List.{range_with_len}
 use Rattle.std.specs.declared.cmp.Ordering.{Ordering}
 use Rattle.std.specs.declared.cmp.Ordering.TheVariants.{Less, Equal, Greater}
 use Rattle.std.specs.Ordering.{nat_cmp, int_cmp, bool_cmp, ordering_then, is_lt}
 use Rattle.std.specs.Cmp.Lexicographic.{slice_cmp}
-use Rattle.std.specs.List.Sorted.{IsPermutation}
-use Rattle.std.proofs.lemmas.List.{map-append, length-map, get_or-map}
-use Rattle.std.proofs.lemmas.List.FromFn.{fill_by_all}
-use Rattle.std.proofs.lemmas.List.Sorted.{IsPermutation-refl, IsPermutation-trans, IsPermutation-append, IsPermutation-map}
-use Rattle.group_table.specs.Group.{identity_of}
-use Rattle.cyclotomic.specs.CyclotomicRing.{CyclotomicValue}
-use Rattle.twisted.specs.Twist.{TwistedSubgroup, size}
-use Rattle.table_check.specs.Characters.{Characters, RowsOver}
 use Rattle.table_check.specs.Check.{degree_of, is_vacuum}
-use Rattle.transport.specs.Simples.{SimplesOver, Simple, no_simple, table_at, simple_of, rows_of, rows_below, simples_of, ascending, AreSimples}
 use Rattle.transport.proofs.SortedLists.{Above, Ascends}
-use Rattle.transport.proofs.Order.{less, ascending_permutes, ascending_ascends, put_in_order}
-use Rattle.transport.proofs.Rows.{rows_below-zero, rows_below-suc}
-use Rattle.row_order.specs.SimpleRows.{simple_rows, without_row, in_order, SameSimplesInOrder}
 use Rattle.row_order.proofs.ClassSimples.{row_numbers, numbers_permute, has_row_numbers}
 use Rattle.row_order.proofs.SimpleRowLaws.{rows_count, same_values}
 use Rattle.row_order.proofs.TablesInOrder.{AreInOrder, in_order_are}

@@ -1,20 +1,7 @@
 -- The rows of the simples of a class are the rows of its table in another order.
-use Rattle.std.proofs.Common.{◌≡◌, ℕ, ◌<◌, ◌≤◌, ◌==◌, ℤ, List, [], length, map, get_or, sym, ap, ◌∙◌, subst, eqb-true, zero-add, arith}
-use mathlib.Core.Logic.{⊎_elim}
-use Rattle.std.specs.List.{range_with_len}
-use Rattle.std.proofs.lemmas.Bool.{cases_lt}
-use Rattle.std.proofs.lemmas.List.{get_or-map, get_or_past, length-map}
-use Rattle.std.proofs.lemmas.List.Elements.{filter_passes}
-use Rattle.std.proofs.lemmas.List.FromFn.{length-map-range_with_len, get_or-map-range_with_len}
-use Rattle.cyclotomic.specs.CyclotomicRing.{CyclotomicValue, cyclotomic_value}
-use Rattle.qd_ring.specs.CycArrays.{array_of}
+use Rattle.row_order.proofs.Names.{◌≡◌, ℕ, ◌<◌, ◌≤◌, ◌==◌, ℤ, List, [], length, map, get_or, sym, ap, ◌∙◌, subst, eqb-true, zero-add, arith, ⊎_elim, range_with_len, cases_lt, get_or-map, get_or_past, length-map, filter_passes, length-map-range_with_len, get_or-map-range_with_len, CyclotomicValue, cyclotomic_value, array_of, size, RowsOver, characters_of, SimplesOver, Simple, no_simple, table_at, simples_of, AreSimples, IsReordering, simple_rows, RowsOfSimplesReorder}
 use Rattle.qd_ring.specs.RowLists.{row_at}
 use Rattle.qd_ring.proofs.ProductLaws.{value-array_of}
-use Rattle.twisted.specs.Twist.{size}
-use Rattle.table_check.specs.Characters.{RowsOver, characters_of}
-use Rattle.transport.specs.Simples.{SimplesOver, Simple, no_simple, table_at, simples_of, AreSimples}
-use Rattle.row_order.specs.Reordering.{IsReordering}
-use Rattle.row_order.specs.SimpleRows.{simple_rows, RowsOfSimplesReorder}
 use Rattle.row_order.proofs.NumbersInOrder.{HasNumbers}
 use Rattle.row_order.proofs.ClassSimples.{class_simples, simple_row, rows_by_simples, row_numbers, has_row_numbers}
 

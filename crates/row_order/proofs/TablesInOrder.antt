@@ -1,16 +1,8 @@
 -- Tables with their rows in the order of the simples are such as those were.
-use Rattle.std.proofs.Common.{◌≡◌, ℕ, ◌<◌, ℤ, List, length, map, refl, sym, ap, ◌∙◌, subst, zero-add}
-use Rattle.std.specs.List.{range_with_len}
-use Rattle.std.proofs.lemmas.List.FromFn.{length-map-range_with_len, get_or-map-range_with_len, fill_by_all}
+use Rattle.row_order.proofs.Names.{◌≡◌, ℕ, ◌<◌, ℤ, List, length, map, refl, sym, ap, ◌∙◌, subst, zero-add, range_with_len, length-map-range_with_len, get_or-map-range_with_len, fill_by_all, TwistedSubgroup, RowsOver, IsShaped, characters_of, IsGood, AreRootRows, HasRootRows, SimplesOver, no_table, table_at, HasTables, AreSimples, simple_rows, in_order, SimplesInOrder, RootRowsInOrder}
 use Rattle.classes.specs.Conjugacy.{representatives, representative_at}
 use Rattle.cochain.specs.Cochain.{Cochain, IsCocycle}
 use Rattle.slant.specs.Twists.{twist_of as twisted_centraliser}
-use Rattle.twisted.specs.Twist.{TwistedSubgroup}
-use Rattle.table_check.specs.Characters.{RowsOver, IsShaped, characters_of}
-use Rattle.table_check.specs.Good.{IsGood}
-use Rattle.root_tables.specs.RootRows.{AreRootRows, HasRootRows}
-use Rattle.transport.specs.Simples.{SimplesOver, no_table, table_at, HasTables, AreSimples}
-use Rattle.row_order.specs.SimpleRows.{simple_rows, in_order, SimplesInOrder, RootRowsInOrder}
 use Rattle.row_order.proofs.ReorderedRows.{good_in_any_order, root_rows_in_any_order}
 use Rattle.row_order.proofs.SimpleRowLaws.{rows_reorder, rows_count, row_width}
 

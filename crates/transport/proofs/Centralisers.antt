@@ -1,10 +1,6 @@
 -- The twisted centraliser of an element, as a subgroup of the group.
-use Rattle.transport.proofs.Names.{◌≡◌, ℕ, ◌<◌, Option, Some, None, refl, sym, ◌∙◌, arith, unwrap_or, get_or_default_zero, Cochain, IsCocycle, TwistedSubgroup, size, element, place_of, IsTwist, place_there, centraliser_is_twist}
-use Rattle.std.proofs.lemmas.List.Elements.{Contains-get_or}
-use Rattle.group_table.specs.Group.{product}
-use Rattle.twisted.proofs.Places.{place_absent}
+use Rattle.transport.proofs.Names.{◌≡◌, ℕ, ◌<◌, Option, Some, None, refl, sym, ◌∙◌, arith, unwrap_or, get_or_default_zero, Cochain, IsCocycle, TwistedSubgroup, size, element, place_of, IsTwist, place_there, centraliser_is_twist, Contains-get_or, product, place_absent, elements_commute}
 use Rattle.slant.specs.Twists.{twist_of}
-use Rattle.slant.proofs.TwistLaws.{elements_commute}
 
 -- one element stands at one place
 pub element_injective : (t : TwistedSubgroup) → IsTwist t → (p r : ℕ) → p < size t → r < size t → element t p ≡ element t r → p ≡ r

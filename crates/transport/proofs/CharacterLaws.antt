@@ -1,18 +1,5 @@
 -- The full characters by good tables are those of the twisted quantum double, so that its laws hold of them.
-use Rattle.transport.proofs.Names.{◌≡◌, ℕ, ◌<◌, Bool, true, false, ◌==◌, refl, sym, ap, ap₂, ◌∙◌, eqb-true, eq-eqb, subst, pick, equals, conj, Below, below_equal, pick_of, pick_off, equals_true, equals_of, class_of, representative_of, representative_at, transporter_of, class_represents, class_of_representative, class_below, cyclotomic, value_product, CyclotomicValue, cyclotomic_ring, root, theta, carried, transport_phase, group, Formed, where_so, Setting, Classes, Commuting, in_class, same_test}
-use Rattle.cyclotomic.specs.CyclotomicRing.{conjugate as conjugate_value}
-use Rattle.phases.specs.Phases.{theta as slant_phase, transport_phase as carrying_phase}
-use Rattle.characters.specs.PhaseRoots.{transport_root}
-use Rattle.characters.specs.FullCharacters.{full_character as character}
-use Rattle.characters.specs.SMatrix.{pair_term as term}
-use Rattle.characters.proofs.SettingLaws.{commuting_conj}
-use Rattle.characters.proofs.ClassLaws.{carried_back}
-use Rattle.characters.proofs.CharacterLaws.{full_character_at, transporter_independent, covariance}
-use Rattle.characters.proofs.SLaws.{pair_term_is, pair_term_invariant}
-use Rattle.transport.specs.Simples.{SimplesOver, count, class_at, AreSimples}
-use Rattle.transport.specs.FullCharacters.{root_exponent, carried_value, full_character}
-use Rattle.transport.specs.SSums.{pair_term}
-use Rattle.transport.specs.Laws.{TransporterIndependent, Covariant, TermsInvariant}
+use Rattle.transport.proofs.Names.{◌≡◌, ℕ, ◌<◌, Bool, true, false, ◌==◌, refl, sym, ap, ap₂, ◌∙◌, eqb-true, eq-eqb, subst, pick, equals, conj, Below, below_equal, pick_of, pick_off, equals_true, equals_of, class_of, representative_of, representative_at, transporter_of, class_represents, class_of_representative, class_below, cyclotomic, value_product, CyclotomicValue, cyclotomic_ring, root, theta, carried, transport_phase, group, Formed, where_so, Setting, Classes, Commuting, in_class, same_test, conjugate_value, slant_phase, carrying_phase, transport_root, character, term, commuting_conj, carried_back, full_character_at, transporter_independent, covariance, pair_term_is, pair_term_invariant, SimplesOver, count, class_at, AreSimples, root_exponent, carried_value, full_character, pair_term, TransporterIndependent, Covariant, TermsInvariant}
 use Rattle.transport.proofs.Listed.{simple_is_row}
 use Rattle.transport.proofs.Doubles.{double_classes, conjugate_value_is}
 use Rattle.transport.proofs.DoubleSimples.{setting, simples, at}

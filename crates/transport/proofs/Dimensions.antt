@@ -1,12 +1,7 @@
 -- The dimension of a simple: the members of its class are a part of the group.
-use Rattle.transport.proofs.Names.{◌≡◌, ℕ, ◌*◌, ◌<◌, List, length, get_or, sym, ap, ◌∙◌, arith, get_or_default_zero, Below, below_equal, finite_below, total_ext, total_pick, pick, IsGroup, Table, representative_of, transporter_of, transporter_is, cyclotomic, value_one, CyclotomicValue, whole, Setting, Classes, IsPart, in_class, dimension}
-use Rattle.std.proofs.lemmas.List.Elements.{All-get_or}
+use Rattle.transport.proofs.Names.{◌≡◌, ℕ, ◌*◌, ◌<◌, List, length, get_or, sym, ap, ◌∙◌, arith, get_or_default_zero, Below, below_equal, finite_below, total_ext, total_pick, pick, IsGroup, Table, representative_of, transporter_of, transporter_is, cyclotomic, value_one, CyclotomicValue, whole, Setting, Classes, IsPart, in_class, dimension, All-get_or, IsMember, members_are, member_below, members_exactly, member_itself, representative_same, in_class_true, in_class_of, dimension_is, dimension_of_class, vacuum_class, SimplesOver, count, degree_at, dimension_at, AreSimples}
 use Rattle.group_table.proofs.Numbers.{passing_below-ascending}
 use Rattle.classes.specs.Conjugacy.{conjugate, is_conjugate, members_of}
-use Rattle.classes.proofs.Conjugacy.{IsMember, members_are, member_below, members_exactly, member_itself, representative_same}
-use Rattle.characters.proofs.CharacterLaws.{in_class_true, in_class_of}
-use Rattle.characters.proofs.SLaws.{dimension_is, dimension_of_class, vacuum_class}
-use Rattle.transport.specs.Simples.{SimplesOver, count, degree_at, dimension_at, AreSimples}
 use Rattle.transport.proofs.Doubles.{double_classes}
 use Rattle.transport.proofs.DoubleSimples.{setting, simples, at, represents, whole_multiple}
 use Rattle.transport.proofs.GoodTables.{first, vacuum}

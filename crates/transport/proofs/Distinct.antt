@@ -1,8 +1,5 @@
 -- Each row of a table is one simple.
-use Rattle.transport.proofs.Names.{◌≡◌, ℕ, zero, suc, ◌+◌, ◌<◌, ◌≤◌, Bool, true, false, cond, ◌==◌, List, [], ◌∷◌, length, map, get_or, refl, sym, ap, ap₂, ◌∙◌, arith, subst, add-one, zero-add, eqb-true, eq-eqb, sum_by, range_with_len, sum_by-cons, map-range_with_len_more, sum_by-IsPermutation, RowsOver}
-use Rattle.std.proofs.Common.{nat_eq}
-use Rattle.std.proofs.lemmas.List.Sums.{sum_by-append, sum_by_push}
-use Rattle.transport.specs.Simples.{Simple, no_simple, table_at, simple_of, rows_of, rows_below, simples_of, ascending}
+use Rattle.transport.proofs.Names.{◌≡◌, ℕ, zero, suc, ◌+◌, ◌<◌, ◌≤◌, Bool, true, false, cond, ◌==◌, List, [], ◌∷◌, length, map, get_or, refl, sym, ap, ap₂, ◌∙◌, arith, subst, add-one, zero-add, eqb-true, eq-eqb, sum_by, range_with_len, sum_by-cons, map-range_with_len_more, sum_by-IsPermutation, RowsOver, nat_eq, sum_by-append, sum_by_push, Simple, no_simple, table_at, simple_of, rows_of, rows_below, simples_of, ascending}
 use Rattle.transport.proofs.Order.{ascending_permutes}
 use Rattle.transport.proofs.Rows.{rows_below-zero, rows_below-suc}
 

@@ -1,30 +1,12 @@
 -- The simples by good tables, as simples of the twisted quantum double of a cocycle.
-use Rattle.transport.proofs.Names.{◌≡◌, ℕ, zero, suc, ◌*◌, ◌/◌, ◌%◌, ◌<◌, ◌≤◌, Bool, true, ◌&&◌, nat_le, Option, Some, None, [], ◌∷◌, refl, sym, ap, ap₂, ◌∙◌, arith, subst, unwrap_or, ℤ, List, add-one, mul-le-mul, multiple_zero, and_true, first_some, first_finds, multiple, Group, Below, below_equal, identity_of, identity_below, representative_at, representative_at_is, Cochain, IsCocycle, cyclotomic, value_one, value_product, CyclotomicValue, cyclotomic_ring, root, TwistedSubgroup, size, element, place_of, IsTwist, place_group, identities_agree, group, exponent, Characters, is_same, where_holds, degree_of, whole, IsGood, is_same-Decides, Setting, Commuting, slant_root, conjugation_root, commute_of, commute_true}
-use Rattle.std.specs.Prelude.{pos, ◌+ℤ◌}
-use Rattle.std.proofs.Math.Nat.{le_refl, mul-one}
+use Rattle.transport.proofs.Names.{◌≡◌, ℕ, zero, suc, ◌*◌, ◌/◌, ◌%◌, ◌<◌, ◌≤◌, Bool, true, ◌&&◌, nat_le, Option, Some, None, [], ◌∷◌, refl, sym, ap, ap₂, ◌∙◌, arith, subst, unwrap_or, ℤ, List, add-one, mul-le-mul, multiple_zero, and_true, first_some, first_finds, multiple, Group, Below, below_equal, identity_of, identity_below, representative_at, representative_at_is, Cochain, IsCocycle, cyclotomic, value_one, value_product, CyclotomicValue, cyclotomic_ring, root, TwistedSubgroup, size, element, place_of, IsTwist, place_group, identities_agree, group, exponent, Characters, is_same, where_holds, degree_of, whole, IsGood, is_same-Decides, Setting, Commuting, slant_root, conjugation_root, commute_of, commute_true, pos, ◌+ℤ◌, le_refl, mul-one, multiple_suc, value_of-scaled, scale_zero, scale_sum, scale_one, IsRepresentative, with_phase, conjugate_value_at, central_left, central_right, conjugate_value, phase, phase_exponent, twisted_centraliser, products_agree, phases_agree, theta_is, slant_phase, IsDegree, IsSubgroup, Simples, SimplesOver, Simple, count, class_at, over_at, characters_at, degree_at, value_at, simple_at, AreSimples, root_exponent, element_value}
 use Rattle.std.proofs.lemmas.Bool.{le-leb, leb-true}
-use Rattle.algebra.proofs.SumLaws.{multiple_suc}
 use Rattle.cyclotomic.specs.Polynomial.{scaled}
 use Rattle.cyclotomic.specs.Laws.Polynomials.{scaled-cons}
 use Rattle.cyclotomic.specs.Laws.Integers.{times_comm, one_times}
-use Rattle.cyclotomic.specs.Laws.Values.{value_of-scaled, multiple_zero as scale_zero, multiple_sum as scale_sum, multiple_one as scale_one}
-use Rattle.classes.proofs.Conjugacy.{IsRepresentative}
-use Rattle.table_check.specs.Sides.{with_phase, conjugate_value as conjugate_value_at, central_left, central_right}
 use Rattle.cyclotomic.specs.Ring.{value_of, value_multiple, value_sum}
-use Rattle.cyclotomic.specs.CyclotomicRing.{conjugate as conjugate_value}
-use Rattle.twisted.specs.Twist.{phase}
-use Rattle.twisted.specs.Algebra.{exponent as phase_exponent}
-use Rattle.slant.specs.Twists.{twist_of as twisted_centraliser}
-use Rattle.slant.proofs.TwistLaws.{products_agree, phases_agree}
-use Rattle.slant.proofs.Instances.{theta_is}
-use Rattle.phases.specs.Phases.{theta as slant_phase}
-use Rattle.table_check.specs.Good.{IsDegree}
 use Rattle.characters.specs.Setting.{commute}
-use Rattle.characters.specs.Parts.{IsSubgroup}
-use Rattle.characters.specs.Simples.{Simples}
 use Rattle.characters.proofs.AlgebraLaws.{central_at_places}
-use Rattle.transport.specs.Simples.{SimplesOver, Simple, count, class_at, over_at, characters_at, degree_at, value_at, simple_at, AreSimples}
-use Rattle.transport.specs.FullCharacters.{root_exponent, element_value}
 use Rattle.transport.proofs.Listed.{found_passes, IsRow, simple_is_row, some_class}
 use Rattle.transport.proofs.Doubles.{double, double_classes}
 use Rattle.transport.proofs.Centralisers.{place_of_element, element_injective, twist, element_commutes, commuting_element}

@@ -1,15 +1,10 @@
 -- The twisted quantum double of a cocycle, as the setting of full characters.
-use Rattle.transport.proofs.Names.{◌≡◌, ℕ, ◌+◌, ◌-◌, ◌*◌, ◌/◌, ◌%◌, ◌<◌, true, refl, sym, ap, ◌∙◌, arith, zero-mul, mul_comm, mul_assoc, Below, below_equal, finite_below, representative_of, transporter_of, transporter_is, Cochain, IsCocycle, is_conductor, cyclotomic, CyclotomicValue, cyclotomic_ring, root, root_modulo, root_conjugate, conjugation, group, exponent, Setting, Classes}
-use Rattle.std.proofs.Math.Nat.{div-add-mod, add-mul, mul-add-mod_self_left}
+use Rattle.transport.proofs.Names.{◌≡◌, ℕ, ◌+◌, ◌-◌, ◌*◌, ◌/◌, ◌%◌, ◌<◌, true, refl, sym, ap, ◌∙◌, arith, zero-mul, mul_comm, mul_assoc, Below, below_equal, finite_below, representative_of, transporter_of, transporter_is, Cochain, IsCocycle, is_conductor, cyclotomic, CyclotomicValue, cyclotomic_ring, root, root_modulo, root_conjugate, conjugation, group, exponent, Setting, Classes, div-add-mod, add-mul, mul-add-mod_self_left, representative_below, representative_of_conjugate, three_cocycle, classes_by_conjugates, root_exponent}
 use Rattle.algebra.specs.Involutions.{Involution}
 use Rattle.algebra.specs.Roots.{Roots}
 use Rattle.algebra.specs.Congruences.{Same}
 use Rattle.classes.specs.Conjugacy.{conjugate}
-use Rattle.classes.proofs.Conjugacy.{representative_below, representative_of_conjugate}
 use Rattle.cyclotomic.proofs.Images.{root-zero, root-sum}
-use Rattle.slant.proofs.Instances.{three_cocycle}
-use Rattle.characters.proofs.ClassLaws.{classes_by_conjugates}
-use Rattle.transport.specs.FullCharacters.{root_exponent}
 
 -- a multiple of a number modulo the same multiple of a modulus
 scaled_mod : (n q v k : ℕ) → q * n ≡ k → (v * q) % k ≡ (v % n * q) % k

@@ -1,18 +1,8 @@
 -- Entries are compared as their simples, and gathered row by row.
-use Rattle.transport.proofs.Names.{◌≡◌, ℕ, ◌+◌, ◌-◌, ◌*◌, ◌<◌, ◌≤◌, List, [], ◌∷◌, ◌++◌, length, map, get_or, refl, sym, ap, ap₂, ◌∙◌, arith, zero-add, add-one, subst, length-map, ⊎_elim, ℤ, range_with_len, Ordering, nat_cmp, int_cmp, bool_cmp, ordering_then, is_lt, IsStrictWeakOrder, int_cmp_total, tied_itself, slice_cmp, lists_total, IsPermutation, map-range_with_len_more, ranks_by, CyclotomicValue, cyclotomic_value, Cyc, representatives, classes_at_most, IsTwist, RowsOver, IsShaped, characters_of, IsGood, length-map-range_with_len}
-use Rattle.std.proofs.Common.{pred, append_assoc, length-append}
-use Rattle.std.specs.List.Sorted.{IsSortedBy}
-use Rattle.std.proofs.lemmas.List.{map-append}
-use Rattle.std.proofs.lemmas.List.Sorted.{sorted_far, IsPermutation-map}
+use Rattle.transport.proofs.Names.{◌≡◌, ℕ, ◌+◌, ◌-◌, ◌*◌, ◌<◌, ◌≤◌, List, [], ◌∷◌, ◌++◌, length, map, get_or, refl, sym, ap, ap₂, ◌∙◌, arith, zero-add, add-one, subst, length-map, ⊎_elim, ℤ, range_with_len, Ordering, nat_cmp, int_cmp, bool_cmp, ordering_then, is_lt, IsStrictWeakOrder, int_cmp_total, tied_itself, slice_cmp, lists_total, IsPermutation, map-range_with_len_more, ranks_by, CyclotomicValue, cyclotomic_value, Cyc, representatives, classes_at_most, IsTwist, RowsOver, IsShaped, characters_of, IsGood, length-map-range_with_len, pred, append_assoc, length-append, IsSortedBy, map-append, sorted_far, IsPermutation-map, array-of_value, compare, ascending, table_at, simple_of, rows_of, rows_below, is_regular, rank, count_by-le-length, coefficients_of, simple_in, AreGood, Entry}
 use Rattle.cyclotomic.specs.Polynomial.{zeros}
 use Rattle.qd_ring.specs.CycArrays.{array_of}
-use Rattle.qd_ring.proofs.CycSums.{array-of_value}
-use Rattle.transport.specs.Simples.{compare, ascending, table_at, simple_of, rows_of, rows_below}
-use Rattle.twisted.specs.Regular.{is_regular, rank}
-use Rattle.std.proofs.lemmas.List.Sums.{count_by-le-length}
 use Rattle.transport.proofs.Rows.{last_or_less, rows_below-suc}
-use Rattle.transport.specs.Kept.{coefficients_of, simple_in, AreGood}
-use Rattle.transport.specs.declared.entry.Entry.{Entry}
 use Rattle.transport.proofs.SortedLists.{Above, Ascends, ascends_of}
 use Rattle.transport.proofs.Order.{less, compare_total, put_in_order}
 

@@ -1,10 +1,6 @@
 -- Full characters as they are formed.
-use Rattle.transport.proofs.Names.{◌≡◌, ℕ, ◌%◌, Bool, true, false, ◌==◌, Option, sym, ap, ◌∙◌, subst, IfSome, class_of, transporter_of, is_conductor, cyclotomic, value_product, value_nought, CyclotomicValue, cyclotomic_value, root, root_modulo, Cyc, carried, transport_phase, Formed, given, where_so}
-use Rattle.std.specs.Prelude.{is_some}
+use Rattle.transport.proofs.Names.{◌≡◌, ℕ, ◌%◌, Bool, true, false, ◌==◌, Option, sym, ap, ◌∙◌, subst, IfSome, class_of, transporter_of, is_conductor, cyclotomic, value_product, value_nought, CyclotomicValue, cyclotomic_value, root, root_modulo, Cyc, carried, transport_phase, Formed, given, where_so, is_some, Forms, turned, SimplesOver, class_at, root_exponent, element_value, carried_value, full_character}
 use Rattle.cyclotomic.specs.Fit.{value_fits}
-use Rattle.table_check.specs.Formed.{Forms, turned}
-use Rattle.transport.specs.Simples.{SimplesOver, class_at}
-use Rattle.transport.specs.FullCharacters.{root_exponent, element_value, carried_value, full_character}
 
 module _ (k : ℕ) where
   -- where the test holds, what is formed is the value

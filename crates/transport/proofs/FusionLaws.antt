@@ -1,14 +1,7 @@
 -- Tensor products of the simples by good tables decompose into simples, and S gives the numbers (Verlinde 1988).
-use Rattle.transport.proofs.Names.{◌≡◌, ℕ, zero, suc, ◌*◌, ◌/◌, ◌<◌, sym, ap, ap₂, ◌∙◌, arith, mul_comm, mul_assoc, mul-le-mul, CommRing, sum_below, multiple, Below, below_equal, sum_ext, mul_sum, CyclotomicValue, cyclotomic_ring, conjugate, whole, Setting, Classes, Commuting, dimension, ◌⊎◌, inl, inr}
-use Rattle.std.proofs.Math.Nat.{mul-div_cancel}
+use Rattle.transport.proofs.Names.{◌≡◌, ℕ, zero, suc, ◌*◌, ◌/◌, ◌<◌, sym, ap, ap₂, ◌∙◌, arith, mul_comm, mul_assoc, mul-le-mul, CommRing, sum_below, multiple, Below, below_equal, sum_ext, mul_sum, CyclotomicValue, cyclotomic_ring, conjugate, whole, Setting, Classes, Commuting, dimension, ◌⊎◌, inl, inr, mul-div_cancel, decomposition, fusion_dimensions, SimplesOver, count, dimension_at, AreSimples, full_character, tensor_character, fusion_sum, AreFusionNumbers, s_entry, sum_numbers, product_numbers, dimensions_product, OfAllSimples, TensorProductsDecompose, FusionDimensions, NumbersOfDimensions, NumbersAreRule}
 use Rattle.characters.specs.Fusion.{AreFusionNumbers as AreAbstractNumbers}
-use Rattle.characters.proofs.FusionLaws.{decomposition, fusion_dimensions}
 use Rattle.characters.proofs.FusionNumbers.{tensor_multiplicities, s_products, number_by_s}
-use Rattle.transport.specs.Simples.{SimplesOver, count, dimension_at, AreSimples}
-use Rattle.transport.specs.FullCharacters.{full_character}
-use Rattle.transport.specs.Fusion.{tensor_character, fusion_sum, AreFusionNumbers}
-use Rattle.transport.specs.Matrices.{s_entry, sum_numbers, product_numbers, dimensions_product}
-use Rattle.transport.specs.Headline.{OfAllSimples, TensorProductsDecompose, FusionDimensions, NumbersOfDimensions, NumbersAreRule}
 use Rattle.transport.proofs.Rows.{last_or_less}
 use Rattle.transport.proofs.Doubles.{double_classes, order_positive}
 use Rattle.transport.proofs.DoubleSimples.{setting, simples, divides, degree}

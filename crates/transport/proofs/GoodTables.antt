@@ -1,29 +1,12 @@
 -- The good tables of a cocycle's classes are good tables of its twisted quantum double.
-use Rattle.transport.proofs.Names.{◌≡◌, ℕ, ◌*◌, ◌<◌, Bool, true, false, ◌==◌, length, refl, sym, ap, ap₂, ◌∙◌, arith, subst, eq-eqb, pick, multiple, sum_below, equals, total, Group, conj, Below, below_equal, finite_below, multiple_is_mul, total_ext, equals_true, equals_of, CommRing, identity_of, class_of, representative_of, representative_at, class_represents, class_of_representative, class_below, cyclotomic, value_one, value_nought, CyclotomicValue, cyclotomic_ring, root, TwistedSubgroup, size, element, place_of, IsTwist, place_group, theta, identities_agree, identity_below, if◌then◌else◌, ◌/◌, Characters, RowsOver, characters_of, Formed, whole, given, conjugated, multiplied, IsGood, Setting, conjugation_root, IsPart, place_there, unwrap_or}
-use Rattle.std.proofs.lemmas.List.{get_or_default}
-use Rattle.algebra.specs.Sums.{IsTorsionFree}
-use Rattle.algebra.specs.Totals.{Finite}
-use Rattle.algebra.proofs.BelowLaws.{total_below}
+use Rattle.transport.proofs.Names.{◌≡◌, ℕ, ◌*◌, ◌<◌, Bool, true, false, ◌==◌, length, refl, sym, ap, ap₂, ◌∙◌, arith, subst, eq-eqb, pick, multiple, sum_below, equals, total, Group, conj, Below, below_equal, finite_below, multiple_is_mul, total_ext, equals_true, equals_of, CommRing, identity_of, class_of, representative_of, representative_at, class_represents, class_of_representative, class_below, cyclotomic, value_one, value_nought, CyclotomicValue, cyclotomic_ring, root, TwistedSubgroup, size, element, place_of, IsTwist, place_group, theta, identities_agree, identity_below, if◌then◌else◌, ◌/◌, Characters, RowsOver, characters_of, Formed, whole, given, conjugated, multiplied, IsGood, Setting, conjugation_root, IsPart, place_there, unwrap_or, get_or_default, IsTorsionFree, Finite, total_below, conjugate_value, twisted_centraliser, phase_exponent, kappa_at_places, places, some_place, kappa, kappas_agree, slant_phase, conjugation_phase, root_exponent, degree_value, product_sum, product_term, sum_term, row_term, column_term, conjugate_value_at, IsVacuum, SimplesOver, Simple, no_simple, table_at, simple_of, simples_of, count, simple_at, class_at, degree_at, value_at, over_at, IsVacuumAt, AreSimples, element_value}
 use Rattle.classes.specs.Conjugacy.{conjugate}
-use Rattle.cyclotomic.specs.CyclotomicRing.{conjugate as conjugate_value}
-use Rattle.slant.specs.Twists.{twist_of as twisted_centraliser}
-use Rattle.twisted.specs.Algebra.{exponent as phase_exponent}
-use Rattle.twisted.specs.Regular.{kappa as kappa_at_places}
-use Rattle.twisted.proofs.Translation.{places, some_place}
 use Rattle.twisted.proofs.Representatives.{rank_is}
-use Rattle.slant.specs.Phases.{kappa}
-use Rattle.slant.proofs.TwistLaws.{kappas_agree}
-use Rattle.phases.specs.Phases.{theta as slant_phase, kappa as conjugation_phase}
 use Rattle.transport.proofs.CharacterLaws.{where_picked}
-use Rattle.transport.specs.FullCharacters.{root_exponent}
-use Rattle.table_check.specs.Sides.{degree_value, product_sum, product_term, sum_term, row_term, column_term, conjugate_value as conjugate_value_at}
 use Rattle.characters.specs.PlaceTables.{GoodTableAtPlaces, row_product}
 use Rattle.characters.specs.Tables.{GoodTables}
-use Rattle.characters.specs.Simples.{IsVacuum}
 use Rattle.cyclotomic.proofs.Orthogonality.{cancel_multiple, multiple-is}
 use Rattle.characters.proofs.PlaceTableLaws.{good_at_elements}
-use Rattle.transport.specs.Simples.{SimplesOver, Simple, no_simple, table_at, simple_of, simples_of, count, simple_at, class_at, degree_at, value_at, over_at, IsVacuumAt, AreSimples}
-use Rattle.transport.specs.FullCharacters.{element_value}
 use Rattle.transport.proofs.Listed.{row_is_simple, vacuum_is, over_is_twist, place_small}
 use Rattle.transport.proofs.Distinct.{same_row, other_number}
 use Rattle.transport.proofs.Doubles.{double_classes}

@@ -1,18 +1,5 @@
 -- Each simple is a row of the table of its class, and the first is the vacuum.
-use Rattle.transport.proofs.Names.{◌≡◌, ℕ, zero, suc, ◌*◌, ◌<◌, ◌≤◌, Bool, true, false, ◌&&◌, ◌==◌, nat_le, Option, Some, None, List, [], ◌∷◌, length, map, get_or, refl, sym, ap, ◌∙◌, arith, subst, eqb-true, zero-add, mul-le-mul, unwrap_or, IfSome, range_with_len, Ordering, bool_cmp, ordering_then, is_lt, length-map, length-map-range_with_len, ⊎_elim, and_true, first_some, Table, IsGroup, identity_of, representative_at, centraliser_of, representative_at_is, Cochain, cyclotomic, value_one, CyclotomicValue, cyclotomic_value, Cyc, TwistedSubgroup, size, element, IsTwist, identities_agree, centraliser_is_twist, Characters, RowsOver, characters_of, is_same, where_holds, degree_of, twist_of, whole, twist_left, twist_right, is_same-Decides}
-use Rattle.std.proofs.Common.{not, le_trans}
-use Rattle.std.specs.List.{All, Contains}
-use Rattle.std.proofs.lemmas.List.{get_or-map}
-use Rattle.std.proofs.lemmas.List.FromFn.{get_or-map-range_with_len}
-use Rattle.std.proofs.lemmas.List.Elements.{All-nil, All-append, Contains-append_left, Contains-append_right}
-use Rattle.std.proofs.lemmas.List.Sorted.{All-permutation, Contains-permutation}
-use Rattle.scan.proofs.Places.{all_below-at, all_below-all}
-use Rattle.cyclotomic.specs.Laws.Values.{same_value}
-use Rattle.slant.specs.Twists.{twist_of as twisted_centraliser}
-use Rattle.table_check.specs.Check.{is_vacuum}
-use Rattle.transport.specs.Simples.{HasTables, SimplesOver, Simple, no_simple, table_at, simple_of, rows_of, rows_below, simples_of, ascending, count, simple_at, class_at, degree_at, over_at, value_at, IsVacuumAt, AreSimples}
-use Rattle.transport.specs.Kept.{coefficients_of, simple_in}
-use Rattle.transport.specs.declared.entry.Entry.{Entry}
+use Rattle.transport.proofs.Names.{◌≡◌, ℕ, zero, suc, ◌*◌, ◌<◌, ◌≤◌, Bool, true, false, ◌&&◌, ◌==◌, nat_le, Option, Some, None, List, [], ◌∷◌, length, map, get_or, refl, sym, ap, ◌∙◌, arith, subst, eqb-true, zero-add, mul-le-mul, unwrap_or, IfSome, range_with_len, Ordering, bool_cmp, ordering_then, is_lt, length-map, length-map-range_with_len, ⊎_elim, and_true, first_some, Table, IsGroup, identity_of, representative_at, centraliser_of, representative_at_is, Cochain, cyclotomic, value_one, CyclotomicValue, cyclotomic_value, Cyc, TwistedSubgroup, size, element, IsTwist, identities_agree, centraliser_is_twist, Characters, RowsOver, characters_of, is_same, where_holds, degree_of, twist_of, whole, twist_left, twist_right, is_same-Decides, not, le_trans, All, Contains, get_or-map, get_or-map-range_with_len, All-nil, All-append, Contains-append_left, Contains-append_right, All-permutation, Contains-permutation, all_below-at, all_below-all, same_value, twisted_centraliser, is_vacuum, HasTables, SimplesOver, Simple, no_simple, table_at, simple_of, rows_of, rows_below, simples_of, ascending, count, simple_at, class_at, degree_at, over_at, value_at, IsVacuumAt, AreSimples, coefficients_of, simple_in, Entry}
 use Rattle.transport.proofs.SortedLists.{Ascends, above_at}
 use Rattle.transport.proofs.Order.{less, ascending_permutes, ascending_ascends}
 use Rattle.transport.proofs.Rows.{rows_below-zero, rows_below-suc, last_or_less}

@@ -1,12 +1,7 @@
 -- The order of simples decides, and they are put into it.
-use Rattle.transport.proofs.Names.{◌≡◌, ℕ, zero, suc, ◌+◌, ◌<◌, length, get_or, subst, add-one, Bool, true, false, cond, List, [], ◌∷◌, refl, sym, ap, ◌∙◌, arith, Ordering, nat_cmp, int_cmp, bool_cmp, ordering_then, is_lt, IsStrictWeakOrder, int_cmp_total, tied_itself, slice_cmp, lists_total, IsPermutation, ranks_by, sum_by-IsPermutation}
+use Rattle.transport.proofs.Names.{◌≡◌, ℕ, zero, suc, ◌+◌, ◌<◌, length, get_or, subst, add-one, Bool, true, false, cond, List, [], ◌∷◌, refl, sym, ap, ◌∙◌, arith, Ordering, nat_cmp, int_cmp, bool_cmp, ordering_then, is_lt, IsStrictWeakOrder, int_cmp_total, tied_itself, slice_cmp, lists_total, IsPermutation, ranks_by, sum_by-IsPermutation, ordering_reverse, IsTotalOrder, then_total, on_total, bool_cmp_total, nat_cmp_total, IsSorted, IsPermutation-refl, IsPermutation-trans, IsPermutation-cons, IsPermutation-swap, Simple, compare, insert, ascending}
 use Rattle.std.specs.declared.cmp.Ordering.TheVariants.{Less, Equal, Greater}
-use Rattle.std.specs.Ordering.{ordering_reverse}
-use Rattle.std.specs.Cmp.{IsTotalOrder, then_total, on_total, bool_cmp_total, nat_cmp_total}
 use Rattle.std.specs.FinMap.{nat_cmp-IsAntisymmetric, int_cmp-IsAntisymmetric, slice_cmp-IsAntisymmetric}
-use Rattle.std.specs.List.Sorted.{IsSorted}
-use Rattle.std.proofs.lemmas.List.Sorted.{IsPermutation-refl, IsPermutation-trans, IsPermutation-cons, IsPermutation-swap}
-use Rattle.transport.specs.Simples.{Simple, compare, insert, ascending}
 use Rattle.transport.proofs.SortedLists.{Above, Ascends, above_at, same_list}
 
 abbrev pub less : Simple → Simple → Bool

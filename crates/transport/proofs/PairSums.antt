@@ -1,16 +1,7 @@
 -- Sums over all pairs of elements that commute, and over all simples.
-use Rattle.transport.proofs.Names.{◌≡◌, ℕ, zero, suc, ◌+◌, ◌*◌, ◌/◌, ◌%◌, ◌<◌, Bool, true, false, ◌==◌, refl, sym, ap, ap₂, ◌∙◌, arith, if◌then◌else◌, zero-mul, CommRing, sum_below, pick, equals, total, Below, sum_zero, sum_suc, sum_ext, pick_of, pick_off, value_nought, CyclotomicValue, cyclotomic_ring, Formed, where_so, whole, Setting, Commuting, commute_true}
+use Rattle.transport.proofs.Names.{◌≡◌, ℕ, zero, suc, ◌+◌, ◌*◌, ◌/◌, ◌%◌, ◌<◌, Bool, true, false, ◌==◌, refl, sym, ap, ap₂, ◌∙◌, arith, if◌then◌else◌, zero-mul, CommRing, sum_below, pick, equals, total, Below, sum_zero, sum_suc, sum_ext, pick_of, pick_off, value_nought, CyclotomicValue, cyclotomic_ring, Formed, where_so, whole, Setting, Commuting, commute_true, sum_split, pick_cong, commuting_test, commuting_sum, commuting_sum_is, group_order_multiple, SimplesOver, count, AreSimples, commute, pair_sum, at_equal}
 use Rattle.std.proofs.lemmas.Nat.{div-mul-add, mod-mul-add}
-use Rattle.algebra.proofs.SumLaws.{sum_split, pick_cong}
-use Rattle.characters.specs.Setting.{commute as commuting_test}
-use Rattle.characters.specs.Pairs.{pair_sum as commuting_sum}
 use Rattle.characters.specs.Tables.{group_order}
-use Rattle.characters.proofs.PairLaws.{pair_sum_is as commuting_sum_is}
-use Rattle.characters.proofs.OrthogonalityLaws.{group_order_multiple}
-use Rattle.transport.specs.Simples.{SimplesOver, count, AreSimples}
-use Rattle.transport.specs.SSums.{commute}
-use Rattle.transport.specs.Fusion.{pair_sum}
-use Rattle.transport.specs.Matrices.{at_equal}
 use Rattle.transport.proofs.Listed.{vacuum_is}
 use Rattle.transport.proofs.Doubles.{order_positive}
 use Rattle.transport.proofs.DoubleSimples.{setting, divides, whole_multiple}

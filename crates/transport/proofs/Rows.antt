@@ -1,6 +1,5 @@
 -- The rows of the tables of the first classes.
-use Rattle.transport.proofs.Names.{◌≡◌, ℕ, zero, suc, ◌+◌, ◌<◌, List, [], ◌++◌, refl, arith, ◌⊎◌, inl, inr, RowsOver}
-use Rattle.transport.specs.Simples.{table_at, rows_of, rows_below}
+use Rattle.transport.proofs.Names.{◌≡◌, ℕ, zero, suc, ◌+◌, ◌<◌, List, [], ◌++◌, refl, arith, ◌⊎◌, inl, inr, RowsOver, table_at, rows_of, rows_below}
 
 pub rows_below-zero : (k : ℕ) (tables : List RowsOver) → rows_below k 0 tables ≡ []
 unfolding rows_below

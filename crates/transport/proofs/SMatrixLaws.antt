@@ -1,17 +1,6 @@
 -- S is symmetric and unitary, its row at the vacuum holds the dimensions, and full characters are orthogonal.
-use Rattle.transport.proofs.Names.{◌≡◌, ℕ, ◌*◌, ◌<◌, ◌==◌, sym, ap, ap₂, ◌∙◌, eqb-true, eq-eqb, if◌then◌else◌, Below, sum_ext, cyclotomic, value_nought, value_product, CyclotomicValue, cyclotomic_ring, conjugate, multiplied, conjugated, whole, Setting, Classes, same_test, inner_product_is}
-use Rattle.characters.specs.Pairs.{inner_product as abstract_inner}
-use Rattle.characters.specs.FullCharacters.{full_character as character}
-use Rattle.characters.specs.SMatrix.{s_sum as abstract_sum, pair_term as abstract_term}
-use Rattle.characters.proofs.SLaws.{s_sum_is, s_sum_symmetric, s_sum_of_vacuum}
-use Rattle.characters.proofs.OrthogonalityLaws.{first_orthogonality}
+use Rattle.transport.proofs.Names.{◌≡◌, ℕ, ◌*◌, ◌<◌, ◌==◌, sym, ap, ap₂, ◌∙◌, eqb-true, eq-eqb, if◌then◌else◌, Below, sum_ext, cyclotomic, value_nought, value_product, CyclotomicValue, cyclotomic_ring, conjugate, multiplied, conjugated, whole, Setting, Classes, same_test, inner_product_is, abstract_inner, character, abstract_sum, abstract_term, s_sum_is, s_sum_symmetric, s_sum_of_vacuum, first_orthogonality, SimplesOver, count, dimension_at, AreSimples, full_character, pair_term, inner_product, s_entry, OfAllSimples, CharactersOrthogonal, SSymmetric, VacuumRow, VacuumEntry, SUnitary, AdjointUnitary, SquaresOfDimensions}
 use Rattle.characters.proofs.Unitarity.{s_unitary}
-use Rattle.transport.specs.Simples.{SimplesOver, count, dimension_at, AreSimples}
-use Rattle.transport.specs.FullCharacters.{full_character}
-use Rattle.transport.specs.SSums.{pair_term}
-use Rattle.transport.specs.Fusion.{inner_product}
-use Rattle.transport.specs.Matrices.{s_entry}
-use Rattle.transport.specs.Headline.{OfAllSimples, CharactersOrthogonal, SSymmetric, VacuumRow, VacuumEntry, SUnitary, AdjointUnitary, SquaresOfDimensions}
 use Rattle.transport.proofs.Doubles.{double_classes}
 use Rattle.transport.proofs.DoubleSimples.{setting, simples}
 use Rattle.transport.proofs.CharacterLaws.{character_is, term_is}

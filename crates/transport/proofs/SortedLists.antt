@@ -1,6 +1,5 @@
 -- A list in ascending order is told by how often each element stands in it.
-use Rattle.transport.proofs.Names.{◌≡◌, ℕ, zero, suc, ◌+◌, ◌<◌, ◌≤◌, Bool, true, false, cond, List, [], ◌∷◌, length, get_or, refl, sym, ap, ap₂, ◌∙◌, arith, sum_by, sum_by-cons}
-use Rattle.std.specs.Prelude.{⊤}
+use Rattle.transport.proofs.Names.{◌≡◌, ℕ, zero, suc, ◌+◌, ◌<◌, ◌≤◌, Bool, true, false, cond, List, [], ◌∷◌, length, get_or, refl, sym, ap, ap₂, ◌∙◌, arith, sum_by, sum_by-cons, ⊤}
 
 module _ {X : Type 0} (less : X → X → Bool) where
   -- no element is less than x

@@ -1,19 +1,7 @@
 -- The tensor characters and fusion sums by good tables are those of the twisted quantum double.
-use Rattle.transport.proofs.Names.{◌≡◌, ◌<◌, ℕ, refl, sym, ap, ap₂, ◌∙◌, pick, equals, conj, Below, below_equal, pick_of, total_ext, total_pick, equals_true, equals_of, CyclotomicValue, root, conjugate, multiplied, conjugated, where_so, Setting, Classes, Commuting, same_test, commute_of, commuting_product, inner_product_is}
+use Rattle.transport.proofs.Names.{◌≡◌, ◌<◌, ℕ, refl, sym, ap, ap₂, ◌∙◌, pick, equals, conj, Below, below_equal, pick_of, total_ext, total_pick, equals_true, equals_of, CyclotomicValue, root, conjugate, multiplied, conjugated, where_so, Setting, Classes, Commuting, same_test, commute_of, commuting_product, inner_product_is, gamma, coproduct_phase, commuting_test, coproduct_root, character, commuting_inv, tensor_character_is, fusion_sum_is, SimplesOver, count, AreSimples, root_exponent, full_character, commute, IsElement, Commute, left_quotient, tensor_term, tensor_character, fusion_sum}
 use Rattle.algebra.proofs.GroupLaws.{inv_op_op, op_inv_op}
-use Rattle.slant.specs.Phases.{gamma}
-use Rattle.phases.specs.Phases.{gamma as coproduct_phase}
-use Rattle.characters.specs.Setting.{commute as commuting_test}
-use Rattle.characters.specs.PhaseRoots.{coproduct_root}
-use Rattle.characters.specs.FullCharacters.{full_character as character}
 use Rattle.characters.specs.Fusion.{tensor_character as abstract_tensor, fusion_sum as abstract_fusion}
-use Rattle.characters.proofs.SettingLaws.{commuting_inv}
-use Rattle.characters.proofs.FusionLaws.{tensor_character_is, fusion_sum_is}
-use Rattle.transport.specs.Simples.{SimplesOver, count, AreSimples}
-use Rattle.transport.specs.FullCharacters.{root_exponent, full_character}
-use Rattle.transport.specs.SSums.{commute}
-use Rattle.transport.specs.Laws.{IsElement, Commute}
-use Rattle.transport.specs.Fusion.{left_quotient, tensor_term, tensor_character, fusion_sum}
 use Rattle.transport.proofs.Doubles.{double_classes}
 use Rattle.transport.proofs.DoubleSimples.{setting, simples}
 use Rattle.transport.proofs.CharacterLaws.{character_is}

@@ -1,9 +1,5 @@
 -- What a full character is by every element that carries the representative of its class.
-use Rattle.transport.proofs.Names.{◌≡◌, ℕ, ◌<◌, false, ◌==◌, sym, ap, ◌∙◌, class_of, transporter_of, value_nought, CyclotomicValue, where_so}
-use Rattle.transport.specs.Simples.{SimplesOver, count, class_at, AreSimples}
-use Rattle.transport.specs.FullCharacters.{carried_value, full_character}
-use Rattle.transport.specs.Laws.{IsElement, Commute}
-use Rattle.transport.specs.Headline.{IsByEachTransporter}
+use Rattle.transport.proofs.Names.{◌≡◌, ℕ, ◌<◌, false, ◌==◌, sym, ap, ◌∙◌, class_of, transporter_of, value_nought, CyclotomicValue, where_so, SimplesOver, count, class_at, AreSimples, carried_value, full_character, IsElement, Commute, IsByEachTransporter}
 use Rattle.transport.proofs.CharacterLaws.{transporters_agree}
 
 pub by_each_transporter : (k : ℕ) (s : SimplesOver) → AreSimples k s → (i g x : ℕ) → i < count k s → IsElement s g → IsElement s x → Commute s g x

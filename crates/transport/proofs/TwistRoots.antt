@@ -1,17 +1,9 @@
 -- The twists of the simples, as roots of the ring, and the relations of S and T.
-use Rattle.transport.proofs.Names.{◌≡◌, ℕ, ◌*◌, ◌<◌, true, Option, refl, sym, ap, ap₂, ◌∙◌, ◌==◌, unwrap_or, CommRing, sum_below, conj, Below, below_equal, sum_ext, mul_sum, first_finds, Cochain, identity_of, cyclotomic, value_product, value_one, CyclotomicValue, cyclotomic_ring, root, conjugate, root_conjugate, TwistedSubgroup, place_of, theta, whole, twist_left, twist_right, is_same, where_holds, twist_of, Characters, is_same-Decides, Setting, Classes, Commuting, slant_root, commuting_product}
-use Rattle.algebra.proofs.SumLaws.{mul_pick, sum_pick, sum_exchange, sum_mul}
-use Rattle.slant.specs.Twists.{twist_of as twisted_centraliser}
-use Rattle.phases.specs.Phases.{theta as slant_phase}
-use Rattle.table_check.specs.Good.{HasTwist}
+use Rattle.transport.proofs.Names.{◌≡◌, ℕ, ◌*◌, ◌<◌, true, Option, refl, sym, ap, ap₂, ◌∙◌, ◌==◌, unwrap_or, CommRing, sum_below, conj, Below, below_equal, sum_ext, mul_sum, first_finds, Cochain, identity_of, cyclotomic, value_product, value_one, CyclotomicValue, cyclotomic_ring, root, conjugate, root_conjugate, TwistedSubgroup, place_of, theta, whole, twist_left, twist_right, is_same, where_holds, twist_of, Characters, is_same-Decides, Setting, Classes, Commuting, slant_root, commuting_product, mul_pick, sum_pick, sum_exchange, sum_mul, twisted_centraliser, slant_phase, HasTwist, SimplesOver, count, twist_at, over_at, characters_at, simple_at, degree_at, class_at, value_at, AreSimples, root_exponent, Matrix, at_equal, product_of, adjoint, s_entry, twist_root, by_twists, by_s, OfAllSimples, TwistsAct, TwistsUnitary, StepsAreInverse, STSRelation, STCubeRelation, SFourthRelation, HasModularData}
 use Rattle.table_check.proofs.Good.{twist_there}
 use Rattle.characters.specs.Twists.{AreTwists}
 use Rattle.characters.proofs.TwistLaws.{twist_acts}
 use Rattle.characters.proofs.Relations.{s_t_s, s_t_cubed, s_fourth}
-use Rattle.transport.specs.Simples.{SimplesOver, count, twist_at, over_at, characters_at, simple_at, degree_at, class_at, value_at, AreSimples}
-use Rattle.transport.specs.FullCharacters.{root_exponent}
-use Rattle.transport.specs.Matrices.{Matrix, at_equal, product_of, adjoint, s_entry, twist_root, by_twists, by_s}
-use Rattle.transport.specs.Headline.{OfAllSimples, TwistsAct, TwistsUnitary, StepsAreInverse, STSRelation, STCubeRelation, SFourthRelation, HasModularData}
 use Rattle.transport.proofs.Doubles.{double_classes}
 use Rattle.transport.proofs.DoubleSimples.{setting, simples, at, row, over_is, degree, at_identity, whole_multiple}
 use Rattle.transport.proofs.CharacterLaws.{character_is}

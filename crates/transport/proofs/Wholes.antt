@@ -1,10 +1,7 @@
 -- Whole numbers as values of the cyclotomic ring.
-use Rattle.transport.proofs.Names.{◌≡◌, ℕ, zero, suc, ◌+◌, ◌-◌, ◌*◌, ◌<◌, true, refl, sym, ap, ap₂, ◌∙◌, arith, CommRing, sum_below, multiple, sum_zero, sum_suc, multiple_zero, multiple_is_mul, is_conductor, cyclotomic, value_one, value_nought, CyclotomicValue, cyclotomic_ring, conjugate, whole, conjugation}
+use Rattle.transport.proofs.Names.{◌≡◌, ℕ, zero, suc, ◌+◌, ◌-◌, ◌*◌, ◌<◌, true, refl, sym, ap, ap₂, ◌∙◌, arith, CommRing, sum_below, multiple, sum_zero, sum_suc, multiple_zero, multiple_is_mul, is_conductor, cyclotomic, value_one, value_nought, CyclotomicValue, cyclotomic_ring, conjugate, whole, conjugation, multiple_add, multiple_multiple, multiple_map, whole_apart, sum_numbers}
 use Rattle.algebra.proofs.RingLaws.{add_fixed}
 use Rattle.algebra.proofs.InvolutionLaws.{bar_one}
-use Rattle.algebra.proofs.SumLaws.{multiple_add, multiple_multiple, multiple_map}
-use Rattle.table_check.proofs.WholeValues.{whole_apart}
-use Rattle.transport.specs.Matrices.{sum_numbers}
 use Rattle.transport.proofs.DoubleSimples.{whole_multiple}
 use Rattle.transport.proofs.GoodTables.{torsion_free}
 

@@ -1,2 +1,3 @@
-pub mod TwistLaws
+pub mod Names
 pub mod ServedClasses
+pub mod TwistLaws

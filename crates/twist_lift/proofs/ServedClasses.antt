@@ -1,6 +1,5 @@
 -- A field that serves a cocycle serves the twisted centraliser of each element of its group.
-use Rattle.std.proofs.Common.{◌≡◌, ℕ, zero, suc, ◌*◌, ◌/◌, ◌%◌, ◌+◌, ◌<◌, ◌≤◌, refl, sym, ap, ◌∙◌, subst, arith}
-use Rattle.std.proofs.Math.Nat.{div-add-mod, mul-mod_right, mul_assoc}
+use Rattle.twist_lift.proofs.Names.{◌≡◌, ℕ, zero, suc, ◌*◌, ◌/◌, ◌%◌, ◌+◌, ◌<◌, ◌≤◌, refl, sym, ap, ◌∙◌, subst, arith, div-add-mod, mul-mod_right, mul_assoc, ModRing, TwistedSubgroup, size, element, IsTwist, Serves, root_order, ServesClasses}
 use Rattle.std.proofs.lemmas.Nat.Gcd.{mod-eq-zero_of_dvd}
 use Rattle.orders.specs.Group.{power}
 use Rattle.orders.specs.Order.{exponent_of}
@@ -10,13 +9,9 @@ use Rattle.group_table.proofs.Sentences.{group_below, closed, identity_below}
 use Rattle.group_table.proofs.Numbers.{length-passing_below}
 use Rattle.classes.specs.Conjugacy.{centraliser_of}
 use Rattle.cochain.specs.Cochain.{Cochain, IsCocycle}
-use Rattle.prime_field.specs.declared.mod_ring.ModRing.{ModRing}
-use Rattle.twisted.specs.Twist.{TwistedSubgroup, size, element, IsTwist}
 use Rattle.slant.specs.Twists.{twist_of}
 use Rattle.slant.proofs.TwistLaws.{centraliser_is_twist, products_agree, identities_agree}
 use Rattle.transport.proofs.Centralisers.{element_injective, element_commutes}
-use Rattle.centre_powers.specs.CentralPowers.{Serves}
-use Rattle.twist_lift.specs.Laws.{root_order, ServesClasses}
 
 -- what divides a factor of a number divides the number, with the other factor
 period_part : (k n e E : ℕ) → E % e ≡ 0 → k % (n * E) ≡ 0 → k % (n * e) ≡ 0

@@ -1,13 +1,10 @@
 -- The rows of a twist by a modulus, by what is known of lifted rows and of the list of all central characters.
-use Rattle.std.proofs.Common.{◌≡◌, ℕ, ◌+◌, ◌*◌, ◌/◌, ◌%◌, ◌<◌, ◌≤◌, List, [], length, get_or, sym, ap, ◌∙◌, subst, arith}
-use Rattle.std.proofs.Math.Nat.{div-add-mod, mul-mod_right, mul_assoc}
+use Rattle.twist_lift.proofs.Names.{◌≡◌, ℕ, ◌+◌, ◌*◌, ◌/◌, ◌%◌, ◌<◌, ◌≤◌, List, [], length, get_or, sym, ap, ◌∙◌, subst, arith, div-add-mod, mul-mod_right, mul_assoc, ModRing, TwistedSubgroup, size, IsTwist, twist_table, TwistRowsAreRoots, TwistRowsMissClauses}
 use Rattle.std.proofs.lemmas.List.Elements.{Contains-get_or}
 use Rattle.std.proofs.lemmas.List.Sums.{count_by-le-length}
 use mathlib.Core.Path.{ap₂}
 use Rattle.classes.specs.Conjugacy.{representatives}
 use Rattle.classes.proofs.Counting.{classes_at_most}
-use Rattle.prime_field.specs.declared.mod_ring.ModRing.{ModRing}
-use Rattle.twisted.specs.Twist.{TwistedSubgroup, size, IsTwist}
 use Rattle.twisted.specs.Regular.{rank, is_regular}
 use Rattle.centre_algebra.specs.CentralCharacters.{IsCharacterList}
 use Rattle.centre_algebra.specs.Laws.{AreCentralCharacters}
@@ -19,7 +16,6 @@ use Rattle.character_lists.specs.CharacterLists.{central_characters}
 use Rattle.character_lists.proofs.Lists.{each_at}
 use Rattle.character_lists.proofs.Characters.{characters_are, lists_characters}
 use Rattle.twist_lift.specs.TwistRows.{characters, twist_fault, twist_rows}
-use Rattle.twist_lift.specs.Laws.{twist_table, TwistRowsAreRoots, TwistRowsMissClauses}
 
 -- there are at most as many regular classes as places
 rank_at_most : (s : TwistedSubgroup) → IsTwist s → rank s ≤ size s

@@ -1,7 +1,6 @@
-use Rattle.std.proofs.Common.{refl}
+use Rattle.centre_powers.proofs.Names.{refl, exponent_of}
 use Rattle.scan.specs.First.{first, all_below}
 use Rattle.orders.specs.Group.{power}
-use Rattle.orders.specs.Order.{exponent_of}
 use Rattle.centre_powers.proofs.instances.Goals as goal
 
 pub returns-clause-four : goal.returns-clause-four

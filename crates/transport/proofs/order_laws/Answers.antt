@@ -1,5 +1,4 @@
-use Rattle.transport.specs.Simples.{simples_of, rows_below}
-use Rattle.std.proofs.Common.{length}
+use Rattle.transport.proofs.Names.{simples_of, rows_below, length}
 use Rattle.transport.proofs.Order.{ascending_permutes, sorted}
 use Rattle.transport.proofs.order_laws.Goals as goal
 

@@ -1,7 +1,4 @@
-use Rattle.std.proofs.Common.{◌≡◌, ℕ, None, rules, refl, sym, ap, ◌∙◌}
-use Rattle.std.specs.Prelude.{slice_index}
-use Rattle.cochain.specs.Cochain.{value}
-use Rattle.cocycle_make.specs.Refusal.{map_fault}
+use Rattle.cocycle_make.proofs.Names.{◌≡◌, ℕ, None, rules, refl, sym, ap, ◌∙◌, slice_index, value, map_fault}
 use Rattle.cocycle_make.proofs.Inflated.{inflated_lawful}
 use Rattle.cocycle_make.proofs.Made.{made}
 use Rattle.cocycle_make.proofs.inflation.inflate.Goals as goal

@@ -1,5 +1,4 @@
-use Rattle.std.proofs.Common.{◌≡◌, sym, ap, ◌∙◌, arith}
-use Rattle.cocycle_make.specs.Divisors.{greatest, divides_both, common_divisor}
+use Rattle.cocycle_make.proofs.Names.{◌≡◌, sym, ap, ◌∙◌, arith, greatest, divides_both, common_divisor}
 use Rattle.cocycle_make.proofs.Divisor.{greatest-zero, greatest-passes, greatest-fails, divisor}
 use Rattle.cocycle_make.proofs.lowest.common_divisor.Goals as goal
 use Rattle.cocycle_make.proofs.lowest.common_divisor.Goals.{then-divides_both, else-divides_both}

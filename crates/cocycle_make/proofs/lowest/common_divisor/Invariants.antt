@@ -1,5 +1,4 @@
-use Rattle.std.proofs.Common.{◌≡◌}
-use Rattle.cocycle_make.specs.Divisors.{greatest, divides_both}
+use Rattle.cocycle_make.proofs.Names.{◌≡◌, greatest, divides_both}
 use Rattle.cocycle_make.proofs.lowest.common_divisor.Given as goal
 
 -- the greatest of the numbers tried

@@ -1,5 +1,4 @@
-use Rattle.std.proofs.Common.{rules, ap}
-use Rattle.cocycle_make.specs.Cocycles.{step_of, type_one_value}
+use Rattle.cocycle_make.proofs.Names.{rules, ap, step_of, type_one_value}
 use Rattle.cocycle_make.proofs.Lawful.{type_one_lawful}
 use Rattle.cocycle_make.proofs.Made.{made, made_order}
 use Rattle.cocycle_make.proofs.makers.type_one.Goals as goal

@@ -1,6 +1,4 @@
-use Rattle.std.proofs.Common.{◌≡◌, rules, ap, ◌∙◌}
-use Rattle.cocycle_make.specs.Divisors.{common_divisor}
-use Rattle.cocycle_make.specs.Cocycles.{roots_of, step_of, divisor_of_three, type_three_value}
+use Rattle.cocycle_make.proofs.Names.{◌≡◌, rules, ap, ◌∙◌, common_divisor, roots_of, step_of, divisor_of_three, type_three_value}
 use Rattle.cocycle_make.proofs.Lawful.{type_three_lawful}
 use Rattle.cocycle_make.proofs.Made.{made, made_factors}
 use Rattle.cocycle_make.proofs.makers.type_three.Goals as goal

@@ -1,5 +1,4 @@
-use Rattle.std.proofs.Common.{rules, ap}
-use Rattle.cocycle_make.specs.Cocycles.{step_of, type_two_value}
+use Rattle.cocycle_make.proofs.Names.{rules, ap, step_of, type_two_value}
 use Rattle.cocycle_make.proofs.Lawful.{type_two_lawful}
 use Rattle.cocycle_make.proofs.Made.{made, made_factors}
 use Rattle.cocycle_make.proofs.makers.type_two.Goals as goal

@@ -1,7 +1,4 @@
-use Rattle.std.proofs.Common.{ap, ◌∙◌}
-use Rattle.clap.specs.Walk.{texts}
-use Rattle.clap.specs.Simple.{App, is_simple, matches_of}
-use Rattle.clap.specs.Takes.{takes}
+use Rattle.command_words.proofs.Names.{ap, ◌∙◌, texts, App, is_simple, matches_of, takes}
 use Rattle.command_words.proofs.Parsed.{is_simple_line, takes_plain, found_plain}
 use Rattle.command_words.proofs.parsing.parse.Goals as goal
 

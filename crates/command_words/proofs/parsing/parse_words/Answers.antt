@@ -1,8 +1,4 @@
-use Rattle.std.proofs.Common.{◌≡◌, ◌∷◌, List, codes, map, ap, ◌∙◌, drop}
-use Rattle.std.specs.Prelude.{string_bytes}
-use Rattle.clap.specs.Walk.{Text, texts, rows_of}
-use Rattle.clap.specs.Matches.{found_of}
-use Rattle.command_words.specs.Found.{found_in}
+use Rattle.command_words.proofs.Names.{◌≡◌, ◌∷◌, List, codes, map, ap, ◌∙◌, drop, string_bytes, Text, texts, rows_of, found_of, found_in}
 use Rattle.command_words.proofs.Parsed.{has_command, words_found}
 use Rattle.command_words.proofs.parsing.parse_words.Goals as goal
 

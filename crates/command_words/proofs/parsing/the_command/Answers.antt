@@ -1,8 +1,4 @@
-use Rattle.std.proofs.Common.{◌≡◌, None, Some, codes, sym, ap, ◌∙◌}
-use Rattle.std.proofs.lemmas.Result.{IfOk-weaker}
-use Rattle.clap.specs.Walk.{rows_of, first_of}
-use Rattle.clap.specs.Matches.{found_of}
-use Rattle.clap.proofs.WalkLemmas.{first_value-rows}
+use Rattle.command_words.proofs.Names.{◌≡◌, None, Some, codes, sym, ap, ◌∙◌, IfOk-weaker, rows_of, first_of, found_of, first_value-rows}
 use Rattle.command_words.proofs.parsing.the_command.Goals as goal
 
 pub unreachable-requires : goal.unreachable-requires

@@ -1,9 +1,4 @@
-use Rattle.std.proofs.Common.{◌≡◌, List, [], None, Option, Some, codes, refl, sym, ap, ◌∙◌}
-use Rattle.std.specs.Prelude.{unwrap_or}
-use Rattle.std.proofs.lemmas.Result.{IfOk-weaker}
-use Rattle.clap.specs.Walk.{Text, texts, rows_of, all_of}
-use Rattle.clap.specs.Matches.{found_of}
-use Rattle.clap.proofs.WalkLemmas.{raw_values-rows}
+use Rattle.command_words.proofs.Names.{◌≡◌, List, [], None, Option, Some, codes, refl, sym, ap, ◌∙◌, unwrap_or, IfOk-weaker, Text, texts, rows_of, all_of, found_of, raw_values-rows}
 use Rattle.command_words.proofs.parsing.the_values.Goals as goal
 
 pub returns-in-Some : goal.returns-in-Some

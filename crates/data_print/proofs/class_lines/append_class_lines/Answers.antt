@@ -1,8 +1,5 @@
-use Rattle.std.proofs.Common.{sym, ap, ◌∙◌, arith}
-use Rattle.std.specs.Prelude.{slice_index}
+use Rattle.data_print.proofs.Names.{sym, ap, ◌∙◌, arith, slice_index, class_line, first_lines}
 use Rattle.std.proofs.lemmas.List.{append-nil}
-use Rattle.data_print.specs.ClassLines.{class_line}
-use Rattle.data_print.specs.Text.{first_lines}
 use Rattle.data_print.proofs.Fronts.{first_lines-more, lines_front, on_err}
 use Rattle.data_print.proofs.class_lines.append_class_lines.Goals as goal
 

@@ -1,7 +1,4 @@
-use Rattle.std.proofs.Common.{◌≡◌, ◌++◌}
-use Rattle.std.specs.Prelude.{slice_index}
-use Rattle.data_print.specs.Text.{first_lines}
-use Rattle.data_print.specs.ClassLines.{class_line}
+use Rattle.data_print.proofs.Names.{◌≡◌, ◌++◌, slice_index, first_lines, class_line}
 use Rattle.data_print.proofs.class_lines.append_class_lines.Given as goal
 
 abbrev pub invariant-loop-c : goal.invariant-loop-c

@@ -1,6 +1,4 @@
-use Rattle.std.proofs.Common.{◌≡◌, ◌++◌}
-use Rattle.fusion_web.specs.Entries.{count_of}
-use Rattle.data_print.specs.FusionLines.{product_text}
+use Rattle.data_print.proofs.Names.{◌≡◌, ◌++◌, count_of, product_text}
 use Rattle.data_print.proofs.FusionTexts.{results_text}
 use Rattle.data_print.proofs.fusion_lines.append_product.Given as goal
 

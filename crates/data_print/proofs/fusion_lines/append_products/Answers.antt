@@ -1,8 +1,5 @@
-use Rattle.std.proofs.Common.{refl, ap, sym, ◌∙◌, ◌++◌, arith}
+use Rattle.data_print.proofs.Names.{refl, ap, sym, ◌∙◌, ◌++◌, arith, count_of, first_lines, product_text}
 use Rattle.std.proofs.lemmas.List.{append-nil}
-use Rattle.fusion_web.specs.Entries.{count_of}
-use Rattle.data_print.specs.Text.{first_lines}
-use Rattle.data_print.specs.FusionLines.{product_text}
 use Rattle.data_print.proofs.Fronts.{first_lines-more}
 use Rattle.data_print.proofs.fusion_lines.append_products.Goals as goal
 

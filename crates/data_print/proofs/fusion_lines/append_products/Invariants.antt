@@ -1,7 +1,4 @@
-use Rattle.std.proofs.Common.{◌≡◌, ◌++◌}
-use Rattle.fusion_web.specs.Entries.{count_of}
-use Rattle.data_print.specs.Text.{first_lines}
-use Rattle.data_print.specs.FusionLines.{product_text}
+use Rattle.data_print.proofs.Names.{◌≡◌, ◌++◌, count_of, first_lines, product_text}
 use Rattle.data_print.proofs.fusion_lines.append_products.Given as goal
 
 -- the lines of the products with the simples before j

@@ -1,7 +1,4 @@
-use Rattle.std.proofs.Common.{◌≡◌}
-use Rattle.fusion_web.specs.Entries.{count_of}
-use Rattle.data_print.specs.Text.{first_lines}
-use Rattle.data_print.specs.FusionLines.{products_text}
+use Rattle.data_print.proofs.Names.{◌≡◌, count_of, first_lines, products_text}
 use Rattle.data_print.proofs.fusion_lines.fusion_text.Given as goal
 
 -- the lines of the products of the simples before i

@@ -1,9 +1,5 @@
-use Rattle.std.proofs.Common.{◌++◌, ap, sym, ◌∙◌, arith, append-nil, zero-add}
+use Rattle.data_print.proofs.Names.{◌++◌, ap, sym, ◌∙◌, arith, append-nil, zero-add, ap₂, value_at, value_word, value_words, first_values}
 use Rattle.std.proofs.lemmas.List.FromFn.{map-range_with_len_more}
-use mathlib.Core.Path.{ap₂}
-use Rattle.transport.specs.Simples.{value_at}
-use Rattle.data_print.specs.Values.{value_word, value_words}
-use Rattle.data_print.specs.SimpleLines.{first_values}
 use Rattle.data_print.proofs.ValueTexts.{words_more}
 use Rattle.data_print.proofs.simple_lines.append_values.Goals as goal
 

@@ -1,6 +1,4 @@
-use Rattle.std.proofs.Common.{◌≡◌, ◌++◌}
-use Rattle.data_print.specs.Values.{value_words}
-use Rattle.data_print.specs.SimpleLines.{first_values}
+use Rattle.data_print.proofs.Names.{◌≡◌, ◌++◌, value_words, first_values}
 use Rattle.data_print.proofs.simple_lines.append_values.Given as goal
 
 -- the values before p

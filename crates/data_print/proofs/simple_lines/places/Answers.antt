@@ -1,5 +1,4 @@
-use Rattle.std.proofs.Common.{◌<◌, length, ap, ◌∙◌, subst, sym}
-use mathlib.Core.Path.{ap₂}
+use Rattle.data_print.proofs.Names.{◌<◌, length, ap, ◌∙◌, subst, sym, ap₂}
 use Rattle.classes.specs.Conjugacy.{centraliser_of, representative_at}
 use Rattle.data_print.proofs.Places.{places_of}
 use Rattle.data_print.proofs.simple_lines.places.Goals as goal

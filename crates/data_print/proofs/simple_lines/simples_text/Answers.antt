@@ -1,6 +1,4 @@
-use Rattle.std.proofs.Common.{[], refl, ap, ◌∙◌, arith}
-use Rattle.data_print.specs.Text.{◌⧺◌, first_lines}
-use Rattle.data_print.specs.SimpleLines.{simple_line, character_line}
+use Rattle.data_print.proofs.Names.{[], refl, ap, ◌∙◌, arith, ◌⧺◌, first_lines, simple_line, character_line}
 use Rattle.data_print.proofs.Fronts.{first_lines-more}
 use Rattle.data_print.proofs.simple_lines.simples_text.Goals as goal
 

@@ -1,6 +1,4 @@
-use Rattle.std.proofs.Common.{◌≡◌}
-use Rattle.data_print.specs.Text.{◌⧺◌, first_lines}
-use Rattle.data_print.specs.SimpleLines.{simple_line, character_line}
+use Rattle.data_print.proofs.Names.{◌≡◌, ◌⧺◌, first_lines, simple_line, character_line}
 use Rattle.data_print.proofs.simple_lines.simples_text.Given as goal
 
 -- the lines of the simples before i

@@ -1,9 +1,4 @@
-use Rattle.std.proofs.Common.{◌++◌, [], map, take, ap, sym, ◌∙◌, arith, append-nil}
-use Rattle.std.proofs.lemmas.List.{take_all, map_more}
-use mathlib.Core.Path.{ap₂}
-use Rattle.cyclotomic.specs.CyclotomicRing.{cyclotomic_value}
-use Rattle.qd_ring.specs.RowLists.{row_at}
-use Rattle.data_print.specs.Values.{value_word, value_words}
+use Rattle.data_print.proofs.Names.{◌++◌, [], map, take, ap, sym, ◌∙◌, arith, append-nil, take_all, map_more, ap₂, cyclotomic_value, row_at, value_word, value_words}
 use Rattle.data_print.proofs.ValueTexts.{words_more}
 use Rattle.data_print.proofs.value_words.append_row.Goals as goal
 

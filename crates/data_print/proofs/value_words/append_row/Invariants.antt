@@ -1,7 +1,4 @@
-use Rattle.std.proofs.Common.{◌≡◌, ◌++◌, map, take}
-use Rattle.cyclotomic.specs.CyclotomicRing.{cyclotomic_value}
-use Rattle.qd_ring.specs.RowLists.{row_at}
-use Rattle.data_print.specs.Values.{value_words}
+use Rattle.data_print.proofs.Names.{◌≡◌, ◌++◌, map, take, cyclotomic_value, row_at, value_words}
 use Rattle.data_print.proofs.value_words.append_row.Given as goal
 
 -- the values before j

@@ -1,6 +1,4 @@
-use Rattle.std.proofs.Common.{◌≡◌, ◌++◌, ap, ◌∙◌, subst, append_assoc}
-use Rattle.std.specs.Prelude.{codes, OnOk}
-use mathlib.Core.Path.{ap₂}
+use Rattle.data_print.proofs.Names.{◌≡◌, ◌++◌, ap, ◌∙◌, subst, append_assoc, codes, OnOk, ap₂}
 use Rattle.qd_ring.specs.ValueText.{value_text}
 use Rattle.data_print.proofs.ValueTexts.{text_of}
 use Rattle.data_print.proofs.value_words.append_value.Goals as goal

@@ -1,6 +1,5 @@
-use Rattle.dixon_split.proofs.Names.{arith, ◌%◌, ap, sym, ◌∙◌, mod-eq_of_lt}
+use Rattle.dixon_split.proofs.Names.{arith, ◌%◌, ap, sym, ◌∙◌, mod-eq_of_lt, plus_product_value}
 use Rattle.prime_field.proofs.PolynomialValues.{modulus_small, product_small}
-use Rattle.prime_field.proofs.ResidueSums.{plus_product_value}
 use Rattle.dixon_split.proofs.arithmetic.plus_product.Goals as goal
 
 pub overflow_mul-product : goal.overflow_mul-product

@@ -1,5 +1,4 @@
-use Rattle.dixon_split.proofs.Names.{◌≡◌, arith, subst, IsTabulated}
-use Rattle.prime_field.proofs.ResidueSums.{tabulated_push}
+use Rattle.dixon_split.proofs.Names.{◌≡◌, arith, subst, IsTabulated, tabulated_push}
 use Rattle.dixon_split.proofs.arithmetic.tabulate.Goals as goal
 
 pub loop-i-preserved : goal.loop-i-preserved

@@ -1,5 +1,4 @@
-use Rattle.dixon_split.proofs.Names.{◌*◌, ◌≤◌, ap, refl, subst, sym, arith, ap₂, IsTabulated}
-use Rattle.dixon_split.specs.ClassSums.{sum_number}
+use Rattle.dixon_split.proofs.Names.{◌*◌, ◌≤◌, ap, refl, subst, sym, arith, ap₂, IsTabulated, sum_number}
 use Rattle.dixon_split.proofs.ClassSums.{length_is, rank_small, sums_few, squares_few, cubes_few, constants_below, constant_found}
 use Rattle.dixon_split.proofs.class_sums.centre.Goals as goal
 

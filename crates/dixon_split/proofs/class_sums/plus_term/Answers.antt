@@ -1,6 +1,5 @@
-use Rattle.dixon_split.proofs.Names.{ℕ, ◌∙◌, ap, sym, get_or, power, field, field_residue, phase, left_quotient, root}
-use Rattle.twisted.specs.Algebra.{exponent}
-use Rattle.dixon_split.specs.ClassSums.{residue_field, residue_root}
+use Rattle.dixon_split.proofs.Names.{ℕ, ◌∙◌, ap, sym, get_or, power, field, field_residue, phase, left_quotient, root, exponent, residue_root}
+use Rattle.dixon_split.specs.ClassSums.{residue_field}
 use Rattle.dixon_split.proofs.ClassSums.{term_added, term_skipped, term_without_second, quotient_place}
 use Rattle.dixon_split.proofs.class_sums.plus_term.Goals as goal
 

@@ -1,5 +1,5 @@
-use Rattle.dixon_split.proofs.Names.{◌≡◌, ◌∙◌, ap, arith, sum_below, modulus_positive, size}
-use Rattle.dixon_split.specs.ClassSums.{residue_field, term_at}
+use Rattle.dixon_split.proofs.Names.{◌≡◌, ◌∙◌, ap, arith, sum_below, modulus_positive, size, term_at}
+use Rattle.dixon_split.specs.ClassSums.{residue_field}
 use Rattle.dixon_split.proofs.ClassSums.{sum_begun, sum_grown}
 use Rattle.dixon_split.proofs.class_sums.product_at.Goals as goal
 

@@ -1,5 +1,5 @@
-use Rattle.dixon_split.proofs.Names.{◌≡◌, ◌<◌, sum_below}
-use Rattle.dixon_split.specs.ClassSums.{residue_field, term_at}
+use Rattle.dixon_split.proofs.Names.{◌≡◌, ◌<◌, sum_below, term_at}
+use Rattle.dixon_split.specs.ClassSums.{residue_field}
 use Rattle.dixon_split.proofs.class_sums.product_at.Given as goal
 
 abbrev pub invariant-loop-y : goal.invariant-loop-y

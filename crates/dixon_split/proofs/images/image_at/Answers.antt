@@ -1,6 +1,4 @@
-use Rattle.dixon_split.proofs.Names.{get_or, sym, ap, ◌∙◌, refl, zero-mod, sum_zero, field, field_residue, modulus_positive}
-use Rattle.prime_field.proofs.ResidueSums.{sum_step}
-use Rattle.dixon_split.specs.Structures.{constant}
+use Rattle.dixon_split.proofs.Names.{get_or, sym, ap, ◌∙◌, refl, zero-mod, sum_zero, field, field_residue, modulus_positive, sum_step, constant}
 use Rattle.dixon_split.proofs.images.image_at.Goals as goal
 
 pub loop-j-init : goal.loop-j-init

@@ -1,5 +1,4 @@
-use Rattle.dixon_split.proofs.Names.{◌≡◌, ◌<◌, get_or, sum_below, field, field_residue}
-use Rattle.dixon_split.specs.Structures.{constant}
+use Rattle.dixon_split.proofs.Names.{◌≡◌, ◌<◌, get_or, sum_below, field, field_residue, constant}
 use Rattle.dixon_split.proofs.images.image_at.Given as goal
 
 abbrev pub invariant-loop-j : goal.invariant-loop-j

@@ -1,5 +1,4 @@
-use Rattle.std.proofs.Common.{rules, subst, sym, ◌<◌, ◌≡◌, ◌*◌, ◌%◌}
-use Rattle.prime_field.specs.Laws.Moduli.{modulus_positive}
+use Rattle.dixon_split.proofs.Names.{rules, subst, sym, ◌<◌, ◌≡◌, ◌*◌, ◌%◌, modulus_positive}
 use Rattle.dixon_split.proofs.Quotients.{quotient_below, quotient_divides}
 use Rattle.dixon_split.proofs.multipliers.quotient.Goals as goal
 

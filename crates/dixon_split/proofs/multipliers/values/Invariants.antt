@@ -1,5 +1,4 @@
-use Rattle.std.proofs.Common.{map}
-use Rattle.dixon_split.specs.Values.{AreValues}
+use Rattle.dixon_split.proofs.Names.{map, AreValues}
 use Rattle.dixon_split.proofs.multipliers.values.Given as goal
 
 abbrev pub invariant-loop-n : goal.invariant-loop-n

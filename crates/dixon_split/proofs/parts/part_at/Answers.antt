@@ -1,5 +1,4 @@
-use Rattle.dixon_split.proofs.Names.{◌≡◌, ◌∙◌, ap, arith, modulus_positive}
-use Rattle.dixon_split.specs.Layers.{horner_value}
+use Rattle.dixon_split.proofs.Names.{◌≡◌, ◌∙◌, ap, arith, modulus_positive, horner_value}
 use Rattle.dixon_split.proofs.Layers.{horner_value_none, horner_value_step, part_value_is, place_small}
 use Rattle.dixon_split.proofs.parts.part_at.Goals as goal
 

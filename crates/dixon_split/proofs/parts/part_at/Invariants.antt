@@ -1,5 +1,4 @@
-use Rattle.std.proofs.Common.{◌≡◌, ◌<◌}
-use Rattle.dixon_split.specs.Layers.{horner_value}
+use Rattle.dixon_split.proofs.Names.{◌≡◌, ◌<◌, horner_value}
 use Rattle.dixon_split.proofs.parts.part_at.Given as goal
 
 abbrev pub invariant-loop-j : goal.invariant-loop-j

@@ -1,7 +1,4 @@
-use Rattle.std.proofs.Common.{◌≡◌, ◌∙◌, ◌++◌, ap, sym, subst, arith}
-use Rattle.dixon_split.specs.Elements.{IsElement}
-use Rattle.dixon_split.specs.Structures.{residues}
-use Rattle.dixon_split.specs.Layers.{ArePowers}
+use Rattle.dixon_split.proofs.Names.{◌≡◌, ◌∙◌, ◌++◌, ap, sym, subst, arith, IsElement, residues, ArePowers}
 use Rattle.dixon_split.proofs.Layers.{powers_none, powers_more, power_none, power_more}
 use Rattle.dixon_split.proofs.parts.powers.Goals as goal
 

@@ -1,7 +1,4 @@
-use Rattle.dixon_split.proofs.Names.{◌≡◌, CommRing, power}
-use Rattle.dixon_split.specs.Elements.{Element, IsElement}
-use Rattle.dixon_split.specs.Structures.{residues, HasStructure}
-use Rattle.dixon_split.specs.Layers.{ArePowers}
+use Rattle.dixon_split.proofs.Names.{◌≡◌, CommRing, power, Element, IsElement, residues, HasStructure, ArePowers}
 use Rattle.dixon_split.proofs.parts.powers.Given as goal
 
 abbrev pub invariant-loop-j : goal.invariant-loop-j

@@ -1,6 +1,4 @@
-use Rattle.dixon_split.proofs.Names.{◌∙◌, ◌++◌, map, ap, sym, subst, add-one, parts_below}
-use Rattle.dixon_split.specs.Structures.{residues}
-use Rattle.dixon_split.specs.Layers.{ArePowers}
+use Rattle.dixon_split.proofs.Names.{◌∙◌, ◌++◌, map, ap, sym, subst, add-one, parts_below, residues, ArePowers}
 use Rattle.dixon_split.proofs.PushedParts.{none_added}
 use Rattle.dixon_split.proofs.parts.push_all_parts.Goals as goal
 

@@ -1,6 +1,4 @@
-use Rattle.dixon_split.proofs.Names.{◌≡◌, ◌++◌, All, map, CommRing, ZeroTest, parts_below}
-use Rattle.dixon_split.specs.Elements.{Element, IsElement}
-use Rattle.dixon_split.specs.Structures.{residues, HasStructure}
+use Rattle.dixon_split.proofs.Names.{◌≡◌, ◌++◌, All, map, CommRing, ZeroTest, parts_below, Element, IsElement, residues, HasStructure}
 use Rattle.dixon_split.proofs.parts.push_all_parts.Given as goal
 
 abbrev pub invariant-loop-v : goal.invariant-loop-v

@@ -1,5 +1,4 @@
-use Rattle.dixon_split.proofs.Names.{◌∙◌, ap, sym, map, get_or, eqb, all_below}
-use Rattle.dixon_split.specs.Structures.{residues}
+use Rattle.dixon_split.proofs.Names.{◌∙◌, ap, sym, map, get_or, eqb, all_below, residues}
 use Rattle.dixon_split.proofs.PushedParts.{map_push, skipped, added}
 use Rattle.dixon_split.proofs.parts.push_part.Goals as goal
 

@@ -1,7 +1,4 @@
-use Rattle.dixon_split.proofs.Names.{◌≡◌, ◌≢◌, ◌∙◌, ◌∷◌, [], map, ap, sym, subst, arith, All, flat_map, add-one, pieces, parts_below}
-use Rattle.splitting_theory.proofs.Pieces.{pieces_zero, pieces_suc}
-use Rattle.dixon_split.specs.Elements.{IsElement}
-use Rattle.dixon_split.specs.Structures.{residues}
+use Rattle.dixon_split.proofs.Names.{◌≡◌, ◌≢◌, ◌∙◌, ◌∷◌, [], map, ap, sym, subst, arith, All, flat_map, add-one, pieces, parts_below, pieces_zero, pieces_suc, IsElement, residues}
 use Rattle.dixon_split.proofs.Refining.{pieces_good, first_one, first_is_element, all_single, single}
 use Rattle.dixon_split.proofs.pieces.all_pieces.Goals as goal
 

@@ -1,6 +1,4 @@
-use Rattle.dixon_split.proofs.Names.{◌≡◌, All, map, CommRing, IsFixed, ZeroTest, pieces}
-use Rattle.dixon_split.specs.Elements.{Element, IsElement}
-use Rattle.dixon_split.specs.Structures.{residues, HasStructure}
+use Rattle.dixon_split.proofs.Names.{◌≡◌, All, map, CommRing, IsFixed, ZeroTest, pieces, Element, IsElement, residues, HasStructure}
 use Rattle.dixon_split.proofs.pieces.all_pieces.Given as goal
 
 abbrev pub invariant-loop-t : goal.invariant-loop-t

@@ -1,6 +1,4 @@
-use Rattle.dixon_split.proofs.Names.{◌≡◌, ◌∙◌, ◌++◌, ◌∷◌, [], ◌<◌, map, ap, sym, number}
-use Rattle.splitting_theory.proofs.Pieces.{parts_single}
-use Rattle.dixon_split.specs.Structures.{residues}
+use Rattle.dixon_split.proofs.Names.{◌≡◌, ◌∙◌, ◌++◌, ◌∷◌, [], ◌<◌, map, ap, sym, number, parts_single, residues}
 use Rattle.dixon_split.proofs.PushedParts.{map_push}
 use Rattle.dixon_split.proofs.Refining.{some_at}
 use Rattle.dixon_split.proofs.pieces.push_parts.Goals as goal

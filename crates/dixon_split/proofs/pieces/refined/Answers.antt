@@ -1,5 +1,4 @@
-use Rattle.dixon_split.proofs.Names.{◌∙◌, ◌++◌, map, take, ap, sym, arith, flat_map, parts_below}
-use Rattle.dixon_split.specs.Structures.{residues}
+use Rattle.dixon_split.proofs.Names.{◌∙◌, ◌++◌, map, take, ap, sym, arith, flat_map, parts_below, residues}
 use Rattle.dixon_split.proofs.Refining.{refined_more, take_whole, good_here}
 use Rattle.dixon_split.proofs.pieces.refined.Goals as goal
 

@@ -1,6 +1,4 @@
-use Rattle.dixon_split.proofs.Names.{◌≡◌, ◌≢◌, All, map, take, flat_map, CommRing, IsFixed, ZeroTest, parts_below}
-use Rattle.dixon_split.specs.Elements.{Element, IsElement}
-use Rattle.dixon_split.specs.Structures.{residues, HasStructure}
+use Rattle.dixon_split.proofs.Names.{◌≡◌, ◌≢◌, All, map, take, flat_map, CommRing, IsFixed, ZeroTest, parts_below, Element, IsElement, residues, HasStructure}
 use Rattle.dixon_split.proofs.pieces.refined.Given as goal
 
 abbrev pub invariant-loop-piece : goal.invariant-loop-piece

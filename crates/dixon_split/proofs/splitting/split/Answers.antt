@@ -1,7 +1,4 @@
-use Rattle.dixon_split.proofs.Names.{◌∙◌, ◌*◌, ◌%◌, ◌<◌, map, length, ap, sym, subst, arith, length-map}
-use Rattle.std.proofs.Math.Nat.{mul-mod_right}
-use Rattle.dixon_split.specs.Structures.{residues}
-use Rattle.dixon_split.specs.Values.{AreValues}
+use Rattle.dixon_split.proofs.Names.{◌∙◌, ◌*◌, ◌%◌, ◌<◌, map, length, ap, sym, subst, arith, length-map, mul-mod_right, residues, AreValues}
 use Rattle.dixon_split.proofs.Characters.{gives_characters}
 use Rattle.dixon_split.proofs.Values.{map_twice, pieces_count, values_characters}
 use Rattle.dixon_split.proofs.splitting.split.Goals as goal

@@ -1,7 +1,4 @@
-use Rattle.fusion.proofs.Names.{◌≡◌, ◌==◌, [], ℕ, Bool, List, length, get_or, refl, sym, ap, ◌∙◌, subst, IfSome, Vec, class_of, Pair, value_of_terms, class_at}
-use Rattle.group_table.proofs.Numbers.{passing_below-zero, passing_below-passes, passing_below-fails}
-use Rattle.fusion.specs.declared.weighted.Weighted.{Weighted}
-use Rattle.fusion.specs.Kept.{AreAt, IsWeighted, listed_at, places_before, weighted_conjugate}
+use Rattle.fusion.proofs.Names.{◌≡◌, ◌==◌, [], ℕ, Bool, List, length, get_or, refl, sym, ap, ◌∙◌, subst, IfSome, Vec, class_of, Pair, value_of_terms, class_at, passing_below-zero, passing_below-passes, passing_below-fails, Weighted, AreAt, IsWeighted, listed_at, places_before, weighted_conjugate}
 use Rattle.fusion.proofs.Lists.{none_at, one_more_place}
 use Rattle.fusion.proofs.conjugates.conjugate_row.Goals as goal
 use Rattle.fusion.proofs.conjugates.conjugate_row.Goals.{then-is_in_class+in_ok-push, else-is_in_class}

@@ -1,5 +1,4 @@
-use Rattle.std.proofs.Common.{length, get_or}
-use Rattle.fusion.specs.Kept.{AreAt, places_before, IsWeighted}
+use Rattle.fusion.proofs.Names.{length, get_or, AreAt, places_before, IsWeighted}
 use Rattle.fusion.proofs.conjugates.conjugate_row.Given as goal
 
 -- those at the pairs before p

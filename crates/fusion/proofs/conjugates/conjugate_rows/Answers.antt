@@ -1,6 +1,4 @@
-use Rattle.fusion.proofs.Names.{ℕ, Vec}
-use Rattle.fusion.specs.declared.weighted.Weighted.{Weighted}
-use Rattle.fusion.specs.Kept.{AreWeighted}
+use Rattle.fusion.proofs.Names.{ℕ, Vec, Weighted, AreWeighted}
 use Rattle.fusion.proofs.Lists.{one_more}
 use Rattle.fusion.proofs.conjugates.conjugate_rows.Goals as goal
 

@@ -1,5 +1,4 @@
-use Rattle.fusion.proofs.Names.{◌≡◌, ◌+◌, ◌*◌, ℕ, List, Option, arith, subst, get_or, Box, Monomial}
-use Rattle.fusion.specs.Kept.{IsFullRow, value_or_nought, full_term}
+use Rattle.fusion.proofs.Names.{◌≡◌, ◌+◌, ◌*◌, ℕ, List, Option, arith, subst, get_or, Box, Monomial, IsFullRow, value_or_nought, full_term}
 use Rattle.fusion.proofs.Lists.{item_read}
 use Rattle.fusion.proofs.Places.{row_read}
 use Rattle.fusion.proofs.full.full_at.Goals as goal

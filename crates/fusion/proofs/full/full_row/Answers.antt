@@ -1,5 +1,4 @@
-use Rattle.fusion.proofs.Names.{◌≡◌, ℕ, List, Option, Box, Monomial}
-use Rattle.fusion.specs.Kept.{value_or_nought, full_term}
+use Rattle.fusion.proofs.Names.{◌≡◌, ℕ, List, Option, Box, Monomial, value_or_nought, full_term}
 use Rattle.fusion.proofs.Lists.{one_more}
 use Rattle.fusion.proofs.full.full_row.Goals as goal
 

@@ -1,5 +1,4 @@
-use Rattle.std.proofs.Common.{◌≡◌}
-use Rattle.fusion.specs.Kept.{AreAt, value_or_nought, full_term}
+use Rattle.fusion.proofs.Names.{◌≡◌, AreAt, value_or_nought, full_term}
 use Rattle.fusion.proofs.full.full_row.Given as goal
 
 -- the values before x

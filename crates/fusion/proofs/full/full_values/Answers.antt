@@ -1,5 +1,4 @@
-use Rattle.fusion.proofs.Names.{◌/◌, ◌%◌, ℕ, List, Option, subst, Vec, Box, Monomial}
-use Rattle.fusion.specs.Kept.{IsClassRow}
+use Rattle.fusion.proofs.Names.{◌/◌, ◌%◌, ℕ, List, Option, subst, Vec, Box, Monomial, IsClassRow}
 use Rattle.fusion.proofs.Lists.{one_more}
 use Rattle.fusion.proofs.full.full_values.Goals as goal
 

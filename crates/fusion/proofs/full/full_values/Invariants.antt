@@ -1,5 +1,4 @@
-use Rattle.std.proofs.Common.{◌/◌, ◌%◌}
-use Rattle.fusion.specs.Kept.{AreAt, IsClassRow}
+use Rattle.fusion.proofs.Names.{◌/◌, ◌%◌, AreAt, IsClassRow}
 use Rattle.fusion.proofs.full.full_values.Given as goal
 
 -- the rows before q

@@ -1,7 +1,5 @@
-use Rattle.fusion.proofs.Names.{◌≡◌, List, Option, sym, ap, ap₂, ◌∙◌, subst, IfSome, cyclotomic, value_sum, value_product, Monomial, value_of_terms, folded_value}
-use Rattle.std.proofs.Math.Nat.{mod-eq_of_lt}
+use Rattle.fusion.proofs.Names.{◌≡◌, List, Option, sym, ap, ap₂, ◌∙◌, subst, IfSome, cyclotomic, value_sum, value_product, Monomial, value_of_terms, folded_value, mod-eq_of_lt, value_or_nought}
 use Rattle.cyclotomic.proofs.Checks.{conductor_positive}
-use Rattle.fusion.specs.Kept.{value_or_nought}
 use Rattle.fusion.proofs.TensorSums.{nought_product, left_out, turned_none}
 use Rattle.fusion.proofs.inner.add_pair.Goals as goal
 

@@ -1,6 +1,4 @@
-use Rattle.fusion.proofs.Names.{◌≡◌, ◌<◌, ℕ, List, Option, length, get_or, sym, ap, ◌∙◌, subst, arith, Vec, Box, sum_below, sum_zero, cyclotomic, value_product, CyclotomicValue, cyclotomic_ring, listed_pairs, Monomial, folded_value, sum_below_more, count, tensor_character}
-use Rattle.fusion.specs.declared.weighted.Weighted.{Weighted}
-use Rattle.fusion.specs.Kept.{value_or_nought, listed_at, places_of, weighted_conjugate, IsWeighted, AreWeighted, orbit_term}
+use Rattle.fusion.proofs.Names.{◌≡◌, ◌<◌, ℕ, List, Option, length, get_or, sym, ap, ◌∙◌, subst, arith, Vec, Box, sum_below, sum_zero, cyclotomic, value_product, CyclotomicValue, cyclotomic_ring, listed_pairs, Monomial, folded_value, sum_below_more, count, tensor_character, Weighted, value_or_nought, listed_at, places_of, weighted_conjugate, IsWeighted, AreWeighted, orbit_term}
 use Rattle.fusion.proofs.Lists.{item_read}
 use Rattle.fusion.proofs.OrbitSums.{fusion_sum_of_orbits, orbit_product, place_below}
 use Rattle.fusion.proofs.inner.folded_sum.Goals as goal

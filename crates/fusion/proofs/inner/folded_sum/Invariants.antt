@@ -1,5 +1,4 @@
-use Rattle.fusion.proofs.Names.{◌≡◌, get_or, sum_below, cyclotomic_ring, folded_value}
-use Rattle.fusion.specs.Kept.{places_of, orbit_term}
+use Rattle.fusion.proofs.Names.{◌≡◌, get_or, sum_below, cyclotomic_ring, folded_value, places_of, orbit_term}
 use Rattle.fusion.proofs.inner.folded_sum.Given as goal
 
 -- the terms at the places before the index

@@ -1,5 +1,4 @@
-use Rattle.fusion.proofs.Names.{◌≡◌, ◌%◌, true, sym, ap, ◌∙◌, eqb-true, eq-eqb, and_true, value_sum, value_of_terms, folded_value, gamma, root_exponent, full_character, commute, left_quotient, quotient_commutes}
-use Rattle.fusion.specs.Kept.{value_or_nought, full_term, tensor_part}
+use Rattle.fusion.proofs.Names.{◌≡◌, ◌%◌, true, sym, ap, ◌∙◌, eqb-true, eq-eqb, and_true, value_sum, value_of_terms, folded_value, gamma, root_exponent, full_character, commute, left_quotient, quotient_commutes, value_or_nought, full_term, tensor_part}
 use Rattle.fusion.proofs.TensorSums.{as_value, part_missed, part_first, part_second, part_is, left_out}
 use Rattle.fusion.proofs.making.add_part.Goals as goal
 use Rattle.fusion.proofs.making.add_part.Given.{Over}

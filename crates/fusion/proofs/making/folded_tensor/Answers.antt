@@ -1,5 +1,4 @@
-use Rattle.fusion.proofs.Names.{◌≡◌, ℕ, length, get_or, sym, ◌∙◌, ap, arith, sum_below, sum_zero, CyclotomicValue, cyclotomic_ring, folded_value, sum_below_more}
-use Rattle.fusion.specs.Kept.{members_at, tensor_part}
+use Rattle.fusion.proofs.Names.{◌≡◌, ℕ, length, get_or, sym, ◌∙◌, ap, arith, sum_below, sum_zero, CyclotomicValue, cyclotomic_ring, folded_value, sum_below_more, members_at, tensor_part}
 use Rattle.fusion.proofs.TensorSums.{tensor_of_members}
 use Rattle.fusion.proofs.making.folded_tensor.Goals as goal
 

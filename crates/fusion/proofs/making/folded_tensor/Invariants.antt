@@ -1,5 +1,4 @@
-use Rattle.fusion.proofs.Names.{◌≡◌, get_or, sum_below, cyclotomic_ring, folded_value}
-use Rattle.fusion.specs.Kept.{members_at, tensor_part}
+use Rattle.fusion.proofs.Names.{◌≡◌, get_or, sum_below, cyclotomic_ring, folded_value, members_at, tensor_part}
 use Rattle.fusion.proofs.making.folded_tensor.Given as goal
 
 -- the parts of the members before place q

@@ -1,5 +1,4 @@
-use Rattle.fusion.proofs.Names.{◌≡◌, ℕ, length, get_or, sym, ◌∙◌, ap, arith, sum_below, sum_zero, CyclotomicValue, cyclotomic_ring}
-use Rattle.fusion.specs.Kept.{members_at, tensor_part}
+use Rattle.fusion.proofs.Names.{◌≡◌, ℕ, length, get_or, sym, ◌∙◌, ap, arith, sum_below, sum_zero, CyclotomicValue, cyclotomic_ring, members_at, tensor_part}
 use Rattle.fusion.proofs.TensorSums.{part_missed, nought_more, tensor_of_members}
 use Rattle.fusion.proofs.making.is_made.Goals as goal
 

@@ -1,5 +1,4 @@
-use Rattle.fusion.proofs.Names.{◌≡◌, get_or, sum_below, value_nought, cyclotomic_ring}
-use Rattle.fusion.specs.Kept.{members_at, tensor_part}
+use Rattle.fusion.proofs.Names.{◌≡◌, get_or, sum_below, value_nought, cyclotomic_ring, members_at, tensor_part}
 use Rattle.fusion.proofs.making.is_made.Given as goal
 
 -- the parts of the members before place q add up to 0

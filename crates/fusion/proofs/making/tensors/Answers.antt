@@ -1,5 +1,4 @@
-use Rattle.fusion.proofs.Names.{◌≡◌, ℕ, List, Option, ap, ◌∙◌, Box, Pair, Monomial, tensor_character}
-use Rattle.fusion.specs.Kept.{value_or_nought, listed_at}
+use Rattle.fusion.proofs.Names.{◌≡◌, ℕ, List, Option, ap, ◌∙◌, Box, Pair, Monomial, tensor_character, value_or_nought, listed_at}
 use Rattle.fusion.proofs.Lists.{one_more}
 use Rattle.fusion.proofs.making.tensors.Goals as goal
 

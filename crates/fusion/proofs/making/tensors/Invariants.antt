@@ -1,5 +1,4 @@
-use Rattle.fusion.proofs.Names.{◌≡◌, tensor_character}
-use Rattle.fusion.specs.Kept.{AreAt, value_or_nought, listed_at}
+use Rattle.fusion.proofs.Names.{◌≡◌, tensor_character, AreAt, value_or_nought, listed_at}
 use Rattle.fusion.proofs.making.tensors.Given as goal
 
 -- the values at the pairs before p

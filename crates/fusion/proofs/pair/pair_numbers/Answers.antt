@@ -1,5 +1,4 @@
-use Rattle.fusion.proofs.Names.{◌≡◌, ℕ, Some, first-zero, first_none-step}
-use Rattle.fusion.specs.Numbers.{quotient_at, sum_fault}
+use Rattle.fusion.proofs.Names.{◌≡◌, ℕ, Some, first-zero, first_none-step, quotient_at, sum_fault}
 use Rattle.fusion.proofs.Lists.{none_at, one_more}
 use Rattle.fusion.proofs.Faults.{no_fault}
 use Rattle.fusion.proofs.pair.pair_numbers.Goals as goal

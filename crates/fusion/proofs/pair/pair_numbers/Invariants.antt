@@ -1,6 +1,4 @@
-use Rattle.fusion.proofs.Names.{◌≡◌, Some, None, first}
-use Rattle.fusion.specs.Numbers.{quotient_at, sum_fault}
-use Rattle.fusion.specs.Kept.{AreAt}
+use Rattle.fusion.proofs.Names.{◌≡◌, Some, None, first, quotient_at, sum_fault, AreAt}
 use Rattle.fusion.proofs.pair.pair_numbers.Given as goal
 
 -- the numbers before l, all of which are there

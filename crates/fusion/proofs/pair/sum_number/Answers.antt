@@ -1,5 +1,4 @@
-use Rattle.std.proofs.Common.{ap₂, sym, ◌∙◌}
-use Rattle.fusion.specs.Numbers.{whole_quotient}
+use Rattle.fusion.proofs.Names.{ap₂, sym, ◌∙◌, whole_quotient}
 use Rattle.fusion.proofs.Faults.{first_fault}
 use Rattle.fusion.proofs.pair.sum_number.Goals as goal
 

@@ -1,5 +1,4 @@
-use Rattle.fusion.proofs.Names.{◌≡◌, ◌<◌, ◌*◌, subst, arith, ap, ◌∙◌, cyclotomic_value, IsTotal}
-use Rattle.fusion.specs.Kept.{inner_part}
+use Rattle.fusion.proofs.Names.{◌≡◌, ◌<◌, ◌*◌, subst, arith, ap, ◌∙◌, cyclotomic_value, IsTotal, inner_part}
 use Rattle.fusion.proofs.plain.fusion_sum.Goals as goal
 
 pub loop-p-init : goal.loop-p-init

@@ -1,5 +1,4 @@
-use Rattle.fusion.proofs.Names.{cyclotomic_value, IsTotal}
-use Rattle.fusion.specs.Kept.{inner_part}
+use Rattle.fusion.proofs.Names.{cyclotomic_value, IsTotal, inner_part}
 use Rattle.fusion.proofs.plain.fusion_sum.Given as goal
 
 -- the terms before p

@@ -1,5 +1,4 @@
-use Rattle.fusion.proofs.Names.{cyclotomic_value, IsTotal}
-use Rattle.fusion.specs.Kept.{tensor_part}
+use Rattle.fusion.proofs.Names.{cyclotomic_value, IsTotal, tensor_part}
 use Rattle.fusion.proofs.plain.tensor_character.Given as goal
 
 -- the parts before h

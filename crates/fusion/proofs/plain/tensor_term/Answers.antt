@@ -1,5 +1,4 @@
-use Rattle.fusion.proofs.Names.{◌≡◌, ◌%◌, Some, sym, ap, ◌∙◌, subst, arith, gamma, Forms, multiplied, root_exponent, full_character, left_quotient, quotient_commutes}
-use Rattle.group_table.specs.Group.{product}
+use Rattle.fusion.proofs.Names.{◌≡◌, ◌%◌, Some, sym, ap, ◌∙◌, subst, arith, gamma, Forms, multiplied, root_exponent, full_character, left_quotient, quotient_commutes, product}
 use Rattle.fusion.proofs.PlainParts.{multiplied_forms, turned_forms}
 use Rattle.fusion.proofs.plain.tensor_term.Goals as goal
 

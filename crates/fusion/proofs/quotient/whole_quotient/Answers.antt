@@ -1,5 +1,4 @@
-use Rattle.fusion.proofs.Names.{◌≡◌, ◌/◌, ◌%◌, ◌∷◌, [], Some, ap, sym, ◌∙◌, pos, cyclotomic_value}
-use Rattle.fusion.specs.Numbers.{natural_of}
+use Rattle.fusion.proofs.Names.{◌≡◌, ◌/◌, ◌%◌, ◌∷◌, [], Some, ap, sym, ◌∙◌, pos, cyclotomic_value, natural_of}
 use Rattle.fusion.proofs.Quotients.{read_back, quotient_found, quotient_rest, quotient_none, quotient_by, quotient_below}
 use Rattle.fusion.proofs.quotient.whole_quotient.Goals as goal
 use Rattle.fusion.proofs.quotient.whole_quotient.Given.{Over}

@@ -1,7 +1,6 @@
-use Rattle.std.proofs.Common.{◌+◌, ◌/◌, ◌%◌, ◌∷◌, [], ◌++◌, ap, ◌∙◌, sym, length, length-append, zero-add}
+use Rattle.fusion.proofs.Names.{◌+◌, ◌/◌, ◌%◌, ◌∷◌, [], ◌++◌, ap, ◌∙◌, sym, length, length-append, zero-add, count_of}
 use Rattle.std.proofs.lemmas.List.FromFn.{map-range_with_len_more}
 use mathlib.Core.Path.{ap₂}
-use Rattle.fusion_web.specs.Entries.{count_of}
 use Rattle.fusion.proofs.reads.plane.Goals as goal
 
 pub loop-q-preserved : goal.loop-q-preserved

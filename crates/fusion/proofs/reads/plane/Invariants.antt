@@ -1,5 +1,4 @@
-use Rattle.fusion.proofs.Names.{◌≡◌, ◌/◌, ◌%◌, length, map, count_of}
-use Rattle.std.specs.List.{range_with_len}
+use Rattle.fusion.proofs.Names.{◌≡◌, ◌/◌, ◌%◌, length, map, count_of, range_with_len}
 use Rattle.fusion.proofs.reads.plane.Given as goal
 
 -- the counts of the pairs before q

@@ -1,5 +1,4 @@
-use Rattle.std.proofs.Common.{◌∷◌, [], length, ap, ◌∙◌, arith, length-append}
-use Rattle.fusion_web.specs.Entries.{WebEntries, Entry, count_of}
+use Rattle.fusion.proofs.Names.{◌∷◌, [], length, ap, ◌∙◌, arith, length-append, WebEntries, Entry, count_of}
 use Rattle.fusion.proofs.web.add_count.Goals as goal
 
 pub returns-in-Ok : goal.returns-in-Ok

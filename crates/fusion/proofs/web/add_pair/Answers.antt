@@ -1,6 +1,4 @@
-use Rattle.fusion.proofs.Names.{◌≡◌, ℕ, ◌+◌, ◌<◌, Some, sym, arith, count}
-use Rattle.fusion.specs.Numbers.{quotient_at, fusion_number}
-use Rattle.fusion.specs.Fronts.{triple}
+use Rattle.fusion.proofs.Names.{◌≡◌, ℕ, ◌+◌, ◌<◌, Some, sym, arith, count, quotient_at, fusion_number, triple}
 use Rattle.fusion.proofs.Lists.{item_read}
 use Rattle.fusion.proofs.Faults.{number_found}
 use Rattle.fusion.proofs.Bounds.{number_small}

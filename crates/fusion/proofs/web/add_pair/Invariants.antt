@@ -1,5 +1,4 @@
-use Rattle.transport.specs.Simples.{count}
-use Rattle.fusion.specs.Fronts.{triple, IsFront}
+use Rattle.fusion.proofs.Names.{count, triple, IsFront}
 use Rattle.fusion.proofs.web.add_pair.Given as goal
 
 -- the numbers before l are there

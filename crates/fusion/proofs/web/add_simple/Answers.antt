@@ -1,5 +1,4 @@
-use Rattle.scan.proofs.Places.{first-zero, first_none-step}
-use Rattle.fusion.specs.Numbers.{pair_fault}
+use Rattle.fusion.proofs.Names.{first-zero, first_none-step, pair_fault}
 use Rattle.fusion.proofs.web.add_simple.Goals as goal
 
 pub loop-j-init : goal.loop-j-init

@@ -1,6 +1,4 @@
-use Rattle.fusion.proofs.Names.{◌≡◌, None, first, count}
-use Rattle.fusion.specs.Numbers.{pair_fault}
-use Rattle.fusion.specs.Fronts.{triple, IsFront}
+use Rattle.fusion.proofs.Names.{◌≡◌, None, first, count, pair_fault, triple, IsFront}
 use Rattle.fusion.proofs.web.add_simple.Given as goal
 
 -- the numbers of the pairs before j are there, and all of them whole

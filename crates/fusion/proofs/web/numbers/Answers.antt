@@ -1,5 +1,4 @@
-use Rattle.fusion.proofs.Names.{◌≡◌, [], None, ap, ◌∙◌, subst, arith, first, first-zero, first_none-step, count_of, count}
-use Rattle.fusion.specs.Numbers.{simple_fault}
+use Rattle.fusion.proofs.Names.{◌≡◌, [], None, ap, ◌∙◌, subst, arith, first, first-zero, first_none-step, count_of, count, simple_fault}
 use Rattle.fusion.proofs.Fronts.{front_none, front_all}
 use Rattle.fusion.proofs.Rules.{are_rule, are_small}
 use Rattle.fusion.proofs.web.numbers.Goals as goal

@@ -1,6 +1,4 @@
-use Rattle.fusion.proofs.Names.{◌≡◌, None, first, count}
-use Rattle.fusion.specs.Numbers.{simple_fault}
-use Rattle.fusion.specs.Fronts.{triple, IsFront}
+use Rattle.fusion.proofs.Names.{◌≡◌, None, first, count, simple_fault, triple, IsFront}
 use Rattle.fusion.proofs.web.numbers.Given as goal
 
 -- the numbers of the simples before i are there, and all of them whole

@@ -1,7 +1,4 @@
-use Rattle.std.proofs.Common.{ℕ, length, subst, sym}
-use Rattle.std.proofs.lemmas.List.{length-map}
-use Rattle.fusion_web.specs.Links.{entry_of, ring_at, key_at, next_at}
-use Rattle.fusion_web.specs.Rings.{IsFirst}
+use Rattle.fusion_web.proofs.Names.{ℕ, length, subst, sym, length-map, entry_of, ring_at, key_at, next_at, IsFirst}
 use Rattle.fusion_web.proofs.RingLaws.{first_after_last}
 use Rattle.fusion_web.proofs.links.head.Goals as goal
 

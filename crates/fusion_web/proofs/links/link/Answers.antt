@@ -1,6 +1,4 @@
-use Rattle.std.proofs.Common.{◌<◌, ◌∙◌, ℕ, List, length, sym, ap, subst, arith, get_or, set, None, Some, map}
-use Rattle.fusion_web.specs.declared.node.Node.{Node}
-use Rattle.fusion_web.specs.Links.{entry_of, ring_at, AreLinked}
+use Rattle.fusion_web.proofs.Names.{◌<◌, ◌∙◌, ℕ, List, length, sym, ap, subst, arith, get_or, set, None, Some, map, Node, entry_of, ring_at, AreLinked}
 use Rattle.fusion_web.proofs.NodeLaws.{ring_seen, key_seen, entries_kept, linked_alone, linked_last, linked_between, with_last, twice_is}
 use Rattle.fusion_web.proofs.links.link.Goals as goal
 

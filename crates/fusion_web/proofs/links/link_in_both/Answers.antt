@@ -1,6 +1,4 @@
-use Rattle.std.proofs.Common.{◌∙◌, ℕ, length, sym, subst, arith}
-use Rattle.fusion_web.specs.Links.{node_at, AreLinked}
-use Rattle.fusion_web.specs.declared.side.Side.TheVariants.{Row, Into}
+use Rattle.fusion_web.proofs.Names.{◌∙◌, ℕ, length, sym, subst, arith, node_at, AreLinked, Row, Into}
 use Rattle.fusion_web.proofs.WebLaws.{each_node, distinct_nodes, linked_same, web_same, count_same, intos_same, rows_same}
 use Rattle.fusion_web.proofs.links.link_in_both.Goals as goal
 

@@ -1,5 +1,4 @@
-use Rattle.std.proofs.Common.{◌-◌}
-use Rattle.fusion_web.specs.Links.{ring_at, key_at, next_at}
+use Rattle.fusion_web.proofs.Names.{◌-◌, ring_at, key_at, next_at}
 use Rattle.fusion_web.proofs.RingLaws.{IsSearched}
 use Rattle.fusion_web.proofs.links.place_before.Given as goal
 

@@ -1,5 +1,4 @@
-use Rattle.std.proofs.Common.{◌<◌, ◌%◌, ap, sym, refl, arith}
-use Rattle.std.proofs.Math.Nat.{mod-lt, pow-zero}
+use Rattle.group_make.proofs.Names.{◌<◌, ◌%◌, ap, sym, refl, arith, mod-lt, pow-zero}
 use Rattle.group_make.proofs.Bounds.{product_small, power_more}
 use Rattle.group_make.proofs.formulas.power_modulo.Goals as goal
 

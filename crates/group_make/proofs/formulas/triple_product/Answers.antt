@@ -1,5 +1,4 @@
-use Rattle.std.proofs.Common.{◌+◌, ◌/◌, ◌%◌, arith}
-use Rattle.std.proofs.Math.Nat.{mod-lt}
+use Rattle.group_make.proofs.Names.{◌+◌, ◌/◌, ◌%◌, arith, mod-lt}
 use Rattle.group_make.proofs.Bounds.{TripleFits, triple_fits}
 use Rattle.group_make.proofs.formulas.triple_product.Goals as goal
 

@@ -1,5 +1,4 @@
-use Rattle.std.proofs.Common.{rules, arith}
-use Rattle.group_make.specs.Formulas.{cyclic_product}
+use Rattle.group_make.proofs.Names.{rules, arith, cyclic_product}
 use Rattle.group_make.proofs.Tables.{made_group, table_group}
 use Rattle.group_make.proofs.Extensions.{cyclic_below}
 use Rattle.group_make.proofs.makers.cyclic.Goals as goal

@@ -1,5 +1,4 @@
-use Rattle.std.proofs.Common.{rules, ◌*◌, arith}
-use Rattle.group_make.specs.Formulas.{dicyclic_product}
+use Rattle.group_make.proofs.Names.{rules, ◌*◌, arith, dicyclic_product}
 use Rattle.group_make.proofs.Tables.{made_group, table_group}
 use Rattle.group_make.proofs.FormulaGroups.{dicyclic_below}
 use Rattle.group_make.proofs.makers.dicyclic.Goals as goal

@@ -1,5 +1,4 @@
-use Rattle.std.proofs.Common.{rules, ◌*◌, arith}
-use Rattle.group_make.specs.Formulas.{semidirect_product}
+use Rattle.group_make.proofs.Names.{rules, ◌*◌, arith, semidirect_product}
 use Rattle.group_make.proofs.Tables.{made_group, table_group}
 use Rattle.group_make.proofs.FormulaGroups.{semidirect_below}
 use Rattle.group_make.proofs.Bounds.{small_factors, acts_once}

@@ -1,6 +1,4 @@
-use Rattle.cyclotomic.specs.CyclotomicRing.{cyclotomic_value}
-use Rattle.qd_ring.specs.Totals.{IsTotal}
-use Rattle.indicators.specs.Indicators.{term_at}
+use Rattle.indicators.proofs.Names.{cyclotomic_value, IsTotal, term_at}
 use Rattle.indicators.proofs.numerator.indicator.Given as goal
 
 -- the terms before that with the number q

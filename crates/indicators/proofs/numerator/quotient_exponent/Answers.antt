@@ -1,6 +1,5 @@
-use Rattle.std.proofs.Common.{◌∙◌, ◌*◌, ◌%◌, ◌+◌, ◌-◌, ap}
+use Rattle.indicators.proofs.Names.{◌∙◌, ◌*◌, ◌%◌, ◌+◌, ◌-◌, ap, ap₂}
 use Rattle.std.proofs.lemmas.Nat.{mul-mod_second}
-use mathlib.Core.Path.{ap₂}
 use Rattle.indicators.proofs.numerator.quotient_exponent.Goals as goal
 
 pub returns : goal.returns

@@ -1,9 +1,5 @@
-use Rattle.std.proofs.Common.{◌≡◌, ◌∙◌, ◌*◌, ◌%◌, ◌+◌, ◌-◌, ℕ, ap, subst}
-use Rattle.std.specs.Prelude.{slice_index}
+use Rattle.indicators.proofs.Names.{◌≡◌, ◌∙◌, ◌*◌, ◌%◌, ◌+◌, ◌-◌, ℕ, ap, subst, slice_index, ap₂, Forms, given, whole, multiplied, turned, quotient_exponent}
 use Rattle.std.proofs.Math.Nat.{mod-mod}
-use mathlib.Core.Path.{ap₂}
-use Rattle.qd_ring.specs.Formed.{Forms, given, whole, multiplied, turned}
-use Rattle.indicators.specs.Indicators.{quotient_exponent}
 use Rattle.indicators.proofs.FormedLaws.{whole_forms, product_forms, turned_forms}
 use Rattle.indicators.proofs.numerator.term.Goals as goal
 

@@ -1,6 +1,4 @@
-use Rattle.std.proofs.Common.{◌∙◌, ◌/◌, ◌%◌, ℕ, length, sym, subst}
-use Rattle.cyclotomic.specs.CyclotomicRing.{cyclotomic_value}
-use Rattle.indicators.specs.Indicators.{indicator_term, term_at}
+use Rattle.indicators.proofs.Names.{◌∙◌, ◌/◌, ◌%◌, ℕ, length, sym, subst, cyclotomic_value, indicator_term, term_at}
 use Rattle.indicators.proofs.FormedLaws.{IsNought, nought_term, total_nought}
 use Rattle.indicators.proofs.numerator.with_term.Goals as goal
 

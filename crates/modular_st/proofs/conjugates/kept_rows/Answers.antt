@@ -1,5 +1,4 @@
-use Rattle.modular_st.proofs.Names.{ℕ, ◌≡◌, ◌+◌, ◌*◌, ◌/◌, ◌%◌, ◌∷◌, [], List, IfSome, arith, ap, sym, ◌∙◌, length, subst, length-append, Vec, representatives, Monomial, count}
-use Rattle.modular_st.specs.Conjugates.{AllAt, IsKeptRow}
+use Rattle.modular_st.proofs.Names.{ℕ, ◌≡◌, ◌+◌, ◌*◌, ◌/◌, ◌%◌, ◌∷◌, [], List, IfSome, arith, ap, sym, ◌∙◌, length, subst, length-append, Vec, representatives, Monomial, count, AllAt, IsKeptRow}
 use Rattle.modular_st.proofs.AllAts.{none_at, one_more_at}
 use Rattle.modular_st.proofs.conjugates.kept_rows.Goals as goal
 

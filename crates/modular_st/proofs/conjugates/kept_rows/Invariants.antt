@@ -1,5 +1,4 @@
-use Rattle.modular_st.proofs.Names.{◌≡◌, ◌/◌, ◌%◌, length, representatives}
-use Rattle.modular_st.specs.Conjugates.{AllAt, IsKeptRow}
+use Rattle.modular_st.proofs.Names.{◌≡◌, ◌/◌, ◌%◌, length, representatives, AllAt, IsKeptRow}
 use Rattle.modular_st.proofs.conjugates.kept_rows.Given as goal
 
 -- the rows before q

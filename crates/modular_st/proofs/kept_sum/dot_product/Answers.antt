@@ -1,8 +1,5 @@
-use Rattle.modular_st.proofs.Names.{◌≡◌, ◌<◌, [], length, get_or, arith, sym, ◌∙◌, subst, given, IsTurnedProduct, value_of_terms}
-use Rattle.std.proofs.Math.Nat.{mod-eq_of_lt}
-use Rattle.std.proofs.lemmas.List.{get_or_default}
+use Rattle.modular_st.proofs.Names.{◌≡◌, ◌<◌, [], length, get_or, arith, sym, ◌∙◌, subst, given, IsTurnedProduct, value_of_terms, mod-eq_of_lt, get_or_default, product_at}
 use Rattle.cyclotomic.proofs.Checks.{conductor_positive}
-use Rattle.modular_st.specs.Dots.{product_at}
 use Rattle.modular_st.proofs.KeptSums.{plain_product}
 use Rattle.modular_st.proofs.kept_sum.dot_product.Goals as goal
 

@@ -1,6 +1,4 @@
-use Rattle.qd_ring.specs.Folding.{folded_value, IsFolded}
-use Rattle.qd_ring.specs.Formed.{given}
-use Rattle.modular_st.specs.Dots.{product_at}
+use Rattle.modular_st.proofs.Names.{folded_value, IsFolded, given, product_at}
 use Rattle.modular_st.proofs.kept_sum.dot_product.Given as goal
 
 -- the products before q

@@ -1,5 +1,4 @@
-use Rattle.modular_st.proofs.Names.{arith, map, subst, listed_pairs}
-use Rattle.modular_st.specs.Conjugates.{exchanged, IsKeptRow}
+use Rattle.modular_st.proofs.Names.{arith, map, subst, listed_pairs, exchanged, IsKeptRow}
 use Rattle.modular_st.proofs.KeptSums.{same_width, numerators_are}
 use Rattle.modular_st.proofs.kept_sum.folded_sum.Goals as goal
 

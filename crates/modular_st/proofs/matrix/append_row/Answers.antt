@@ -1,5 +1,4 @@
-use Rattle.modular_st.proofs.Names.{◌+◌, ◌-◌, ◌<◌, length, ◌++◌, ◌∷◌, [], arith, ap, ◌∙◌, row_at}
-use Rattle.modular_st.specs.SMatrices.{values_of_rows, s_front}
+use Rattle.modular_st.proofs.Names.{◌+◌, ◌-◌, ◌<◌, length, ◌++◌, ◌∷◌, [], arith, ap, ◌∙◌, row_at, values_of_rows, s_front}
 use Rattle.modular_st.proofs.RowsMade.{rows_count, last_width, value_more, front_more, front_width}
 use Rattle.modular_st.proofs.matrix.append_row.Goals as goal
 

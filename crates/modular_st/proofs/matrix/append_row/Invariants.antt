@@ -1,5 +1,4 @@
-use Rattle.std.proofs.Common.{◌≡◌, ◌++◌, ◌∷◌, []}
-use Rattle.modular_st.specs.SMatrices.{values_of_rows, s_front}
+use Rattle.modular_st.proofs.Names.{◌≡◌, ◌++◌, ◌∷◌, [], values_of_rows, s_front}
 use Rattle.modular_st.proofs.matrix.append_row.Given as goal
 
 -- the numerators before j

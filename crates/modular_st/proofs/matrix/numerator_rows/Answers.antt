@@ -1,5 +1,4 @@
-use Rattle.modular_st.proofs.Names.{◌+◌, ◌<◌, ◌++◌, ◌∷◌, [], arith, ap, sym, ◌∙◌, length, zero-add, length-map, map-range_with_len_more, length-map-range_with_len, count}
-use Rattle.modular_st.specs.SMatrices.{row_values, s_front}
+use Rattle.modular_st.proofs.Names.{◌+◌, ◌<◌, ◌++◌, ◌∷◌, [], arith, ap, sym, ◌∙◌, length, zero-add, length-map, map-range_with_len_more, length-map-range_with_len, count, row_values, s_front}
 use Rattle.modular_st.proofs.Entries.{rows_done}
 use Rattle.modular_st.proofs.matrix.numerator_rows.Goals as goal
 

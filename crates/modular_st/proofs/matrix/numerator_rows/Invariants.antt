@@ -1,5 +1,4 @@
-use Rattle.modular_st.proofs.Names.{◌≡◌, map, range_with_len, count}
-use Rattle.modular_st.specs.SMatrices.{values_of_rows, s_front}
+use Rattle.modular_st.proofs.Names.{◌≡◌, map, range_with_len, count, values_of_rows, s_front}
 use Rattle.modular_st.proofs.matrix.numerator_rows.Given as goal
 
 -- the rows before i

@@ -1,5 +1,4 @@
-use Rattle.modular_st.proofs.Names.{cyclotomic_value, IsTotal}
-use Rattle.modular_st.specs.Numerators.{s_term}
+use Rattle.modular_st.proofs.Names.{cyclotomic_value, IsTotal, s_term}
 use Rattle.modular_st.proofs.numerator.sum.Given as goal
 
 -- the terms before p

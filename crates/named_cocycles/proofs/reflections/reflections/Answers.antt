@@ -1,7 +1,4 @@
-use Rattle.std.proofs.Common.{◌*◌, rules, refl, arith}
-use Rattle.cocycle_make.proofs.Made.{made}
-use Rattle.group_make.specs.Formulas.{dihedral_group}
-use Rattle.named_cocycles.specs.Makers.{reflections_value}
+use Rattle.named_cocycles.proofs.Names.{◌*◌, rules, refl, arith, made, dihedral_group, reflections_value}
 use Rattle.named_cocycles.proofs.Named.{is_small}
 use Rattle.named_cocycles.proofs.Signs.{reflections_lawful}
 use Rattle.named_cocycles.proofs.reflections.reflections.Goals as goal

@@ -1,8 +1,4 @@
-use Rattle.std.proofs.Common.{◌≡◌, length, map, sym, ap, ◌∙◌, arith, length-append, lit<}
-use Rattle.std.specs.List.{range_with_len}
-use Rattle.std.proofs.Math.Nat.{mod-lt}
-use Rattle.group_table.specs.Group.{Table}
-use Rattle.named_cocycles.specs.Samples.{has_identity, gauge_number}
+use Rattle.named_cocycles.proofs.Names.{◌≡◌, length, map, sym, ap, ◌∙◌, arith, length-append, lit<, range_with_len, mod-lt, Table, has_identity, gauge_number}
 use Rattle.named_cocycles.proofs.Generator.{number-start, number_step, exponent_step, numbers_more}
 use Rattle.named_cocycles.proofs.samples.gauge_numbers.Goals as goal
 

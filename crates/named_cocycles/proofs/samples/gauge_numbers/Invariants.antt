@@ -1,6 +1,4 @@
-use Rattle.std.proofs.Common.{◌≡◌, ◌^◌, ◌<◌, length, map}
-use Rattle.std.specs.List.{range_with_len}
-use Rattle.named_cocycles.specs.Samples.{number_at, gauge_number}
+use Rattle.named_cocycles.proofs.Names.{◌≡◌, ◌^◌, ◌<◌, length, map, range_with_len, number_at, gauge_number}
 use Rattle.named_cocycles.proofs.samples.gauge_numbers.Given as goal
 
 -- the exponents of the pairs before place i, and what the generator has come to

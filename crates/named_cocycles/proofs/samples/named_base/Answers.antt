@@ -1,5 +1,4 @@
-use Rattle.std.proofs.Common.{◌≡◌, ◌%◌, arith}
-use Rattle.std.proofs.Math.Nat.{mod-lt}
+use Rattle.named_cocycles.proofs.Names.{◌≡◌, ◌%◌, arith, mod-lt}
 use Rattle.named_cocycles.proofs.Gauges.{ok_is, base_zero, base_one, base_two, base_three}
 use Rattle.named_cocycles.proofs.samples.named_base.Goals as goal
 

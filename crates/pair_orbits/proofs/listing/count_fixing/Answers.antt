@@ -1,5 +1,4 @@
-use Rattle.pair_orbits.proofs.Names.{◌≡◌, ◌==◌, ◌+◌, ℕ, Bool, true, false, length, sym, ap, ◌∙◌, arith, eq-eqb, ne_eqb, ◌∷◌, [], length-append, passing_below, passing_below-zero, passing_below-passes, passing_below-fails, length-passing_below}
-use Rattle.pair_orbits.specs.PairOrbits.{conjugate_pair, fixing}
+use Rattle.pair_orbits.proofs.Names.{◌≡◌, ◌==◌, ◌+◌, ℕ, Bool, true, false, length, sym, ap, ◌∙◌, arith, eq-eqb, ne_eqb, ◌∷◌, [], length-append, passing_below, passing_below-zero, passing_below-passes, passing_below-fails, length-passing_below, conjugate_pair, fixing}
 use Rattle.pair_orbits.proofs.listing.count_fixing.Goals as goal
 use Rattle.pair_orbits.proofs.listing.count_fixing.Goals.{then-conjugate_pair-p, else-conjugate_pair-p}
 

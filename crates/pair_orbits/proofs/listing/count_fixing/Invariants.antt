@@ -1,5 +1,4 @@
-use Rattle.pair_orbits.proofs.Names.{◌≡◌, ◌==◌, length, passing_below}
-use Rattle.pair_orbits.specs.PairOrbits.{conjugate_pair}
+use Rattle.pair_orbits.proofs.Names.{◌≡◌, ◌==◌, length, passing_below, conjugate_pair}
 use Rattle.pair_orbits.proofs.listing.count_fixing.Given as goal
 
 -- those below c are counted

@@ -1,5 +1,4 @@
-use Rattle.qd_engine.proofs.Names.{◌≡◌, ◌∷◌, [], ◌++◌, All, length, ap, sym, le_antisymm, ◌∙◌, arith, map-range_with_len_more, Table, representatives, Block, IsValueOf}
-use Rattle.qd_engine.specs.Certificate.{certified_block}
+use Rattle.qd_engine.proofs.Names.{◌≡◌, ◌∷◌, [], ◌++◌, All, length, ap, sym, le_antisymm, ◌∙◌, arith, map-range_with_len_more, Table, representatives, Block, IsValueOf, certified_block}
 use Rattle.qd_engine.proofs.Certificates.{all_more, all_classes}
 use Rattle.qd_engine.proofs.certificate.blocks_of.Goals as goal
 

@@ -1,5 +1,4 @@
-use Rattle.qd_engine.proofs.Names.{◌≡◌, All, map, range_with_len, Block, IsValueOf}
-use Rattle.qd_engine.specs.Certificate.{certified_block}
+use Rattle.qd_engine.proofs.Names.{◌≡◌, All, map, range_with_len, Block, IsValueOf, certified_block}
 use Rattle.qd_engine.proofs.certificate.blocks_of.Given as goal
 
 -- the blocks of the classes before c

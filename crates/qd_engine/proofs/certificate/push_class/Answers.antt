@@ -1,5 +1,4 @@
-use Rattle.qd_engine.proofs.Names.{◌≡◌, ◌<◌, [], ◌∷◌, ◌++◌, length, map, All, length-append, ap, sym, subst, ◌∙◌, arith, Table, representative_at, count, block, last_rows, with_last_rows, IsValueOf, row_of}
-use Rattle.qd_engine.specs.Certificate.{certified_block}
+use Rattle.qd_engine.proofs.Names.{◌≡◌, ◌<◌, [], ◌∷◌, ◌++◌, length, map, All, length-append, ap, sym, subst, ◌∙◌, arith, Table, representative_at, count, block, last_rows, with_last_rows, IsValueOf, row_of, certified_block}
 use Rattle.qd_engine.proofs.Certificates.{last_of_front, with_last_front, members_below, on_ok}
 use Rattle.qd_engine.proofs.certificate.push_class.Goals as goal
 

@@ -1,5 +1,4 @@
-use Rattle.qd_engine.proofs.Names.{map, ap, ◌∙◌, rank}
-use Rattle.qd_engine.specs.Report.{class_ranks}
+use Rattle.qd_engine.proofs.Names.{map, ap, ◌∙◌, rank, class_ranks}
 use Rattle.qd_engine.proofs.class_list.list_of.Goals as goal
 
 pub returns : goal.returns

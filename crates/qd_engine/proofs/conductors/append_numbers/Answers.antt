@@ -1,8 +1,4 @@
-use Rattle.qd_engine.proofs.Names.{◌≡◌, ◌++◌, ◌≤◌, None, sym, ap, refl, subst, arith, OnOk, IfErr, SimplesOver}
-use Rattle.qd_engine.specs.Rows.{source_of, numbers_cause}
-use Rattle.qd_engine.specs.Report.{row_part_text, parts_text}
-use Rattle.qd_engine.specs.Tests.{LateReport}
-use Rattle.qd_engine.specs.Follows.{StopsLate}
+use Rattle.qd_engine.proofs.Names.{◌≡◌, ◌++◌, ◌≤◌, None, sym, ap, refl, subst, arith, OnOk, IfErr, SimplesOver, source_of, numbers_cause, row_part_text, parts_text, LateReport, StopsLate}
 use Rattle.qd_engine.proofs.Following.{follow_late, follow_next}
 use Rattle.qd_engine.proofs.LateLaws.{stops_late}
 use Rattle.qd_engine.proofs.SimpleCounts.{simples_number}

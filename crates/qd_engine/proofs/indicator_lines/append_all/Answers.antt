@@ -1,5 +1,4 @@
-use Rattle.qd_engine.proofs.Names.{◌++◌, le_antisymm, refl, sym, ap, ◌∙◌, append-nil, first_lines, indicator_line, first_lines-more}
-use Rattle.qd_engine.specs.Report.{indicator_of}
+use Rattle.qd_engine.proofs.Names.{◌++◌, le_antisymm, refl, sym, ap, ◌∙◌, append-nil, first_lines, indicator_line, first_lines-more, indicator_of}
 use Rattle.qd_engine.proofs.indicator_lines.append_all.Goals as goal
 
 pub loop-l-init : goal.loop-l-init

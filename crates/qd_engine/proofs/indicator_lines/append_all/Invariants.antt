@@ -1,5 +1,4 @@
-use Rattle.qd_engine.proofs.Names.{◌≡◌, ◌++◌, first_lines, indicator_line}
-use Rattle.qd_engine.specs.Report.{indicator_of}
+use Rattle.qd_engine.proofs.Names.{◌≡◌, ◌++◌, first_lines, indicator_line, indicator_of}
 use Rattle.qd_engine.proofs.indicator_lines.append_all.Given as goal
 
 -- the lines of the simples before l

@@ -1,7 +1,5 @@
-use Rattle.qd_engine.proofs.Names.{◌≡◌, ◌++◌, sym, subst, ◌∙◌, OnOk, WebEntries}
+use Rattle.qd_engine.proofs.Names.{◌≡◌, ◌++◌, sym, subst, ◌∙◌, OnOk, WebEntries, numbers_text, HasWeb}
 use Rattle.std.specs.Prelude.{Option}
-use Rattle.qd_engine.specs.Report.{numbers_text}
-use Rattle.qd_engine.specs.Rows.{HasWeb}
 use Rattle.qd_engine.proofs.NumberLines.{web_text, web_is}
 use Rattle.qd_engine.proofs.numbers.append_fusion_numbers.Goals as goal
 

@@ -1,6 +1,5 @@
-use Rattle.std.proofs.Common.{subst}
+use Rattle.qd_engine.proofs.Names.{subst, fusion_never_overflows}
 use Rattle.fusion.specs.Refusal.{Refuses}
-use Rattle.root_fusion.proofs.NoOverflows.{fusion_never_overflows}
 use Rattle.qd_steps.proofs.TableCauses.{plain_same}
 use Rattle.qd_engine.proofs.NumberLines.{first_not_whole}
 use Rattle.qd_engine.proofs.numbers.whole_web.Goals as goal

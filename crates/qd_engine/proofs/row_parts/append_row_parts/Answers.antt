@@ -1,7 +1,5 @@
-use Rattle.qd_engine.proofs.Names.{◌++◌, get_or, sym, ap, ◌∙◌, append-nil, err_from_is_err_and}
+use Rattle.qd_engine.proofs.Names.{◌++◌, get_or, sym, ap, ◌∙◌, append-nil, err_from_is_err_and, source_of, row_part_text}
 use Rattle.std.proofs.lemmas.Option.{slice_get-get_or}
-use Rattle.qd_engine.specs.Rows.{source_of}
-use Rattle.qd_engine.specs.Report.{row_part_text}
 use Rattle.qd_engine.specs.declared.command.RowPart.TheVariants.{Blank}
 use Rattle.qd_engine.proofs.Parts.{no_parts, parts_more}
 use Rattle.qd_engine.proofs.Following.{part_stops}

@@ -1,6 +1,4 @@
-use Rattle.std.proofs.Common.{◌≡◌, ◌++◌, take}
-use Rattle.qd_engine.specs.Rows.{source_of}
-use Rattle.qd_engine.specs.Report.{row_part_text, parts_text}
+use Rattle.qd_engine.proofs.Names.{◌≡◌, ◌++◌, take, source_of, row_part_text, parts_text}
 use Rattle.qd_engine.proofs.row_parts.append_row_parts.Given as goal
 
 -- the parts before this one

@@ -1,8 +1,4 @@
-use Rattle.qd_engine.proofs.Names.{sym, ap, subst, Given}
-use Rattle.qd_engine.specs.Documents.{given_or_none}
-use Rattle.qd_engine.specs.Rows.{AddsRows}
-use Rattle.qd_engine.specs.declared.command.RowSource.{RowSource}
-use Rattle.qd_engine.specs.declared.command.RowSource.TheVariants.{Stated}
+use Rattle.qd_engine.proofs.Names.{sym, ap, subst, Given, given_or_none, AddsRows, RowSource, Stated}
 use Rattle.qd_engine.proofs.row_report.append_source.Goals as goal
 
 pub returns-in-Lifted : goal.returns-in-Lifted

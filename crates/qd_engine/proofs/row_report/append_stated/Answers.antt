@@ -1,9 +1,4 @@
-use Rattle.qd_engine.proofs.Names.{◌≡◌, ◌++◌, ℕ, None, subst, sum, Table, tables_cause, simples_over, option_or}
-use Rattle.qd_engine.specs.Report.{row_part_text, parts_text}
-use Rattle.qd_engine.specs.Words.{most_simples}
-use Rattle.qd_engine.specs.Tests.{stated_test, simples_test, shape_test, LateReport}
-use Rattle.qd_engine.specs.Follows.{Follows}
-use Rattle.qd_engine.specs.declared.command.RowSource.TheVariants.{Stated}
+use Rattle.qd_engine.proofs.Names.{◌≡◌, ◌++◌, ℕ, None, subst, sum, Table, tables_cause, simples_over, option_or, row_part_text, parts_text, most_simples, stated_test, simples_test, shape_test, LateReport, Follows, Stated}
 use Rattle.qd_engine.proofs.Following.{follow_next}
 use Rattle.qd_engine.proofs.RankLaws.{ranks_few, ranks_small}
 use Rattle.qd_engine.proofs.row_report.append_stated.Goals as goal

@@ -1,5 +1,4 @@
-use Rattle.qd_engine.proofs.Names.{◌<◌, subst, ◌∙◌, ap, sym, Table}
-use Rattle.qd_engine.specs.Documents.{conductor_of}
+use Rattle.qd_engine.proofs.Names.{◌<◌, subst, ◌∙◌, ap, sym, Table, conductor_of}
 use Rattle.qd_engine.proofs.LiftedRows.{modulus_passes, field_is, over_bound}
 use Rattle.qd_engine.proofs.row_tests.field.Goals as goal
 

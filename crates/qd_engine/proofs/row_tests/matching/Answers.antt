@@ -1,5 +1,4 @@
-use Rattle.qd_engine.proofs.Names.{sym, ap, ◌∙◌, option_map}
-use Rattle.data_print.specs.declared.cause.Cause.TheVariants.{Shape}
+use Rattle.qd_engine.proofs.Names.{sym, ap, ◌∙◌, option_map, Shape}
 use Rattle.qd_engine.proofs.Shapes.{shape_matches}
 use Rattle.qd_engine.proofs.row_tests.matching.Goals as goal
 

@@ -1,7 +1,5 @@
-use Rattle.qd_engine.proofs.Names.{◌≡◌, ◌*◌, Some, sym, ap, ap₂, subst, ◌∙◌, unwrap_or, Table, least_conductor, root_order}
+use Rattle.qd_engine.proofs.Names.{◌≡◌, ◌*◌, Some, sym, ap, ap₂, subst, ◌∙◌, unwrap_or, Table, least_conductor, root_order, product, identity_of, conductor_of}
 use Rattle.orders.specs.Order.{exponent_of}
-use Rattle.group_table.specs.Group.{product, identity_of}
-use Rattle.qd_engine.specs.Documents.{conductor_of}
 use Rattle.qd_engine.proofs.ConductorLaws.{least_is_conductor}
 use Rattle.qd_engine.proofs.row_tests.needed_conductor.Goals as goal
 

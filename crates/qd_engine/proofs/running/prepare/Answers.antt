@@ -1,5 +1,4 @@
-use Rattle.qd_engine.proofs.Names.{◌≡◌, ◌≤◌, Some, sym, subst, ◌∙◌, err_from_is_err_and, INPUT_LIMIT}
-use Rattle.qd_engine.specs.Words.{texts, command_of}
+use Rattle.qd_engine.proofs.Names.{◌≡◌, ◌≤◌, Some, sym, subst, ◌∙◌, err_from_is_err_and, INPUT_LIMIT, texts, command_of}
 use Rattle.qd_engine.proofs.Taken.{reads_input, read_prepares, answer_prepares, answer_takes}
 use Rattle.qd_engine.proofs.running.prepare.Goals as goal
 

@@ -1,8 +1,6 @@
-use Rattle.qd_engine.specs.Words.{texts}
-use Rattle.qd_engine.specs.Answers.{said_by}
+use Rattle.qd_engine.proofs.Names.{texts, said_by, Rises}
 use Rattle.qd_engine.proofs.Meaning.{answer_comes, done_means, plan_decides, acceptable_done}
 use Rattle.qd_engine.proofs.Taken.{prepared_ends, prepared_takes, drained_if_done}
-use Rattle.qd_io.specs.Stream.{Rises}
 use Rattle.qd_engine.proofs.running.run.Goals as goal
 
 pub returns-clause-written : goal.returns-clause-written

@@ -1,7 +1,4 @@
-use Rattle.qd_engine.proofs.Names.{◌≡◌, ℕ, Vec, err_from_is_err_and, Cochain, made_cocycle, maker_fault}
-use Rattle.qd_engine.specs.Documents.{document_in}
-use Rattle.qd_engine.specs.Tests.{maker_test, Late}
-use Rattle.qd_engine.specs.Endings.{Reports}
+use Rattle.qd_engine.proofs.Names.{◌≡◌, ℕ, Vec, err_from_is_err_and, Cochain, made_cocycle, maker_fault, document_in, maker_test, Late, Reports}
 use Rattle.qd_engine.proofs.Following.{input_refused, made_test, made_follows}
 use Rattle.qd_engine.proofs.steps.answer_to_maker.Goals as goal
 

@@ -1,8 +1,4 @@
-use Rattle.qd_engine.proofs.Names.{◌≡◌, ℕ, None, sym, ap, subst, ◌∙◌, Vec, err_from_is_err_and, stop_of, tokens, document_of, Document, Form}
-use Rattle.qd_engine.specs.Documents.{document_in}
-use Rattle.qd_engine.specs.Tests.{scan_test, Late}
-use Rattle.qd_engine.specs.Endings.{Reports}
-use Rattle.qd_engine.specs.Sources.{HasRowsOf}
+use Rattle.qd_engine.proofs.Names.{◌≡◌, ℕ, None, sym, ap, subst, ◌∙◌, Vec, err_from_is_err_and, stop_of, tokens, document_of, Document, Form, document_in, scan_test, Late, Reports, HasRowsOf}
 use Rattle.qd_engine.proofs.Documents.{has_rows}
 use Rattle.qd_engine.proofs.Following.{input_refused, read_has, read_document, read_test, document_follows}
 use Rattle.qd_engine.proofs.steps.answer_to_text.Goals as goal

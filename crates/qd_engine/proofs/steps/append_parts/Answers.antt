@@ -1,5 +1,4 @@
-use Rattle.qd_engine.proofs.Names.{◌++◌, sym, ap, ◌∙◌, append-nil}
-use Rattle.qd_engine.specs.Report.{part_text}
+use Rattle.qd_engine.proofs.Names.{◌++◌, sym, ap, ◌∙◌, append-nil, part_text}
 use Rattle.qd_engine.specs.declared.command.Part.TheVariants.{Blank}
 use Rattle.qd_engine.proofs.Parts.{no_parts, parts_more}
 use Rattle.qd_engine.proofs.steps.append_parts.Goals as goal

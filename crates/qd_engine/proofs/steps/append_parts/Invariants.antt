@@ -1,6 +1,4 @@
-use Rattle.std.proofs.Common.{◌≡◌, ◌++◌, take}
-use Rattle.qd_engine.specs.Report.{part_text, parts_text}
-use Rattle.qd_engine.specs.ClassLists.{IsKnownOf}
+use Rattle.qd_engine.proofs.Names.{◌≡◌, ◌++◌, take, part_text, parts_text, IsKnownOf}
 use Rattle.qd_engine.proofs.steps.append_parts.Given as goal
 
 -- the parts before this one, and the list of the classes where one of them made it

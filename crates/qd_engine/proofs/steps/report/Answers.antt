@@ -1,6 +1,4 @@
-use Rattle.std.proofs.Common.{◌≡◌, ◌++◌, ap, ◌∙◌}
-use Rattle.qd_engine.specs.Documents.{given_or_none}
-use Rattle.qd_engine.specs.Report.{part_text, parts_text, rows_text}
+use Rattle.qd_engine.proofs.Names.{◌≡◌, ◌++◌, ap, ◌∙◌, given_or_none, part_text, parts_text, rows_text}
 use Rattle.qd_engine.proofs.steps.report.Goals as goal
 
 pub returns : goal.returns

@@ -1,5 +1,4 @@
-use Rattle.qd_engine.proofs.Names.{◌≡◌, ap, ◌∙◌, Cochain}
-use Rattle.qd_engine.specs.Summary.{sample_start}
+use Rattle.qd_engine.proofs.Names.{◌≡◌, ap, ◌∙◌, Cochain, sample_start}
 use Rattle.qd_engine.proofs.Summaries.{web_total, web_many, two_pieces, same_end}
 use Rattle.qd_engine.proofs.summary.append_line.Goals as goal
 

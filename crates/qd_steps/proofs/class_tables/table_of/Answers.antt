@@ -1,6 +1,4 @@
-use Rattle.qd_steps.proofs.Names.{subst, ◌∙◌, RowsOver}
-use Rattle.qd_steps.specs.Tables.{cause_over}
-use Rattle.qd_steps.specs.Refused.{IsRefusalFor}
+use Rattle.qd_steps.proofs.Names.{subst, ◌∙◌, RowsOver, cause_over, IsRefusalFor}
 use Rattle.qd_steps.proofs.TableCauses.{check_refused}
 use Rattle.qd_steps.proofs.class_tables.table_of.Goals as goal
 

@@ -1,5 +1,4 @@
-use Rattle.qd_steps.proofs.Names.{◌≡◌, List, [], ◌∷◌, ◌++◌, sym, ap, ◌∙◌, into_iter_items, err_from_is_err_and, RowsOver}
-use Rattle.std.proofs.Common.{append_assoc}
+use Rattle.qd_steps.proofs.Names.{◌≡◌, List, [], ◌∷◌, ◌++◌, sym, ap, ◌∙◌, into_iter_items, err_from_is_err_and, RowsOver, append_assoc}
 use Rattle.qd_steps.proofs.TableSteps.{none_yet, next_passes, next_refused}
 use Rattle.qd_steps.proofs.class_tables.tables_of.Goals as goal
 

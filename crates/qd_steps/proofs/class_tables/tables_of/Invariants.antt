@@ -1,5 +1,4 @@
-use Rattle.qd_steps.proofs.Names.{◌≡◌, ◌++◌, None, length, into_iter_items, first, table_at}
-use Rattle.qd_steps.specs.Tables.{cause_over}
+use Rattle.qd_steps.proofs.Names.{◌≡◌, ◌++◌, None, length, into_iter_items, first, table_at, cause_over}
 use Rattle.qd_steps.proofs.class_tables.tables_of.Given as goal
 
 -- the tables of the classes so far, which miss nothing, and before those that are left

@@ -1,5 +1,4 @@
-use Rattle.qd_steps.proofs.Names.{◌≡◌, ◌<◌, None, map, length, le_antisymm, ap, subst, ◌∙◌, range_with_len, err_from_is_err_and, first, first-zero, first_none-step}
-use Rattle.qd_steps.specs.ClassTwists.{lifted_over, lift_cause_over}
+use Rattle.qd_steps.proofs.Names.{◌≡◌, ◌<◌, None, map, length, le_antisymm, ap, subst, ◌∙◌, range_with_len, err_from_is_err_and, first, first-zero, first_none-step, lifted_over, lift_cause_over}
 use Rattle.qd_steps.proofs.TableSteps.{one_more, first_refused}
 use Rattle.qd_steps.proofs.lifted.lifted_classes.Goals as goal
 

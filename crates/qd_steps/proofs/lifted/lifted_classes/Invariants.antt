@@ -1,5 +1,4 @@
-use Rattle.qd_steps.proofs.Names.{◌≡◌, None, map, range_with_len, first}
-use Rattle.qd_steps.specs.ClassTwists.{lifted_over, lift_cause_over}
+use Rattle.qd_steps.proofs.Names.{◌≡◌, None, map, range_with_len, first, lifted_over, lift_cause_over}
 use Rattle.qd_steps.proofs.lifted.lifted_classes.Given as goal
 
 -- the rows of the classes before class c, which are all lifted

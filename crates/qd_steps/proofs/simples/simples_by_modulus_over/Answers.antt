@@ -1,7 +1,4 @@
-use Rattle.qd_steps.proofs.Names.{◌≡◌, ◌%◌, None, true, List, OnOk, IfOk, IfErr, sym, subst, ◌∙◌, arith, err_from_is_err_and, is_conductor, IsCocycle, RowsOver}
-use Rattle.twist_lift.specs.Laws.{root_order}
-use Rattle.qd_steps.specs.ByModulus.{lifted_blocks}
-use Rattle.qd_steps.specs.Refused.{IsRefusalFor}
+use Rattle.qd_steps.proofs.Names.{◌≡◌, ◌%◌, None, true, List, OnOk, IfOk, IfErr, sym, subst, ◌∙◌, arith, err_from_is_err_and, is_conductor, IsCocycle, RowsOver, root_order, lifted_blocks, IsRefusalFor}
 use Rattle.qd_steps.proofs.TableSteps.{one_table_each, tables_few}
 use Rattle.qd_steps.proofs.LiftSteps.{lift_goes_first, tables_decide}
 use Rattle.qd_steps.proofs.TwistLists.{twists_served, lifted_tables, same_lifts}

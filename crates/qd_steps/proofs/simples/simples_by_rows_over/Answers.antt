@@ -1,6 +1,4 @@
-use Rattle.qd_steps.proofs.Names.{◌≡◌, None, List, OnOk, IfOk, IfErr, sym, ap, subst, ◌∙◌, arith, IsCocycle, RowsOver}
-use Rattle.qd_steps.specs.Tables.{first_cause}
-use Rattle.qd_steps.specs.Refused.{IsRefusalFor}
+use Rattle.qd_steps.proofs.Names.{◌≡◌, None, List, OnOk, IfOk, IfErr, sym, ap, subst, ◌∙◌, arith, IsCocycle, RowsOver, first_cause, IsRefusalFor}
 use Rattle.qd_steps.proofs.TableSteps.{one_table_each, tables_few, same_causes}
 use Rattle.qd_steps.proofs.TwistLists.{twists_number, stated_shaped, stated_tables}
 use Rattle.qd_steps.proofs.simples.simples_by_rows_over.Goals as goal

@@ -1,5 +1,4 @@
-use Rattle.qd_steps.proofs.Names.{map, le_antisymm, ap, ◌∙◌, range_with_len}
-use Rattle.qd_steps.specs.ClassTwists.{stated_over}
+use Rattle.qd_steps.proofs.Names.{map, le_antisymm, ap, ◌∙◌, range_with_len, stated_over}
 use Rattle.qd_steps.proofs.TableSteps.{one_more}
 use Rattle.qd_steps.proofs.stated.stated_classes.Goals as goal
 

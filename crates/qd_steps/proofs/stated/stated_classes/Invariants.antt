@@ -1,5 +1,4 @@
-use Rattle.qd_steps.proofs.Names.{◌≡◌, map, range_with_len}
-use Rattle.qd_steps.specs.ClassTwists.{stated_over}
+use Rattle.qd_steps.proofs.Names.{◌≡◌, map, range_with_len, stated_over}
 use Rattle.qd_steps.proofs.stated.stated_classes.Given as goal
 
 -- the rows of the classes before class c

@@ -1,5 +1,4 @@
-use Rattle.std.proofs.Common.{◌≡◌, ◌^◌, min, take}
-use Rattle.qd_text.specs.Numbers.{value}
+use Rattle.qd_text.proofs.Names.{◌≡◌, ◌^◌, min, take, value}
 use Rattle.qd_text.proofs.natural.capped_value.Given as goal
 
 -- the value of the digits so far, capped

@@ -1,5 +1,4 @@
-use Rattle.std.proofs.Common.{◌≡◌, ◌∙◌, ◌+◌, ◌<◌, ◌≤◌, ◌∷◌, sym, ap, List, ℕ, take, drop, length, false, get_or, arith}
-use Rattle.qd_text.specs.Tokens.{tokens_from, is_separator}
+use Rattle.qd_text.proofs.Names.{◌≡◌, ◌∙◌, ◌+◌, ◌<◌, ◌≤◌, ◌∷◌, sym, ap, List, ℕ, take, drop, length, false, get_or, arith, tokens_from, is_separator}
 use Rattle.qd_text.proofs.Lexemes.{front_len, token_at, token_ends, filled_at, front_len-slice, nothing_left}
 use Rattle.qd_text.proofs.token.next_token.Goals as goal
 

@@ -1,5 +1,4 @@
-use Rattle.std.proofs.Common.{◌∙◌, sym, ap, drop, length, false, ◌+◌, arith}
-use Rattle.qd_text.specs.Tokens.{blanked, runs}
+use Rattle.qd_text.proofs.Names.{◌∙◌, sym, ap, drop, length, false, ◌+◌, arith, blanked, runs}
 use Rattle.qd_text.proofs.Lexemes.{skip_at, nothing_left}
 use Rattle.qd_text.proofs.token.token_start.Goals as goal
 

@@ -1,5 +1,4 @@
-use Rattle.std.proofs.Common.{◌≡◌, drop, false}
-use Rattle.qd_text.specs.Tokens.{blanked, runs, tokens_from}
+use Rattle.qd_text.proofs.Names.{◌≡◌, drop, false, blanked, runs, tokens_from}
 use Rattle.qd_text.proofs.token.token_start.Given as goal
 
 -- the tokens are those that are left, where `inside` says whether a comment is open

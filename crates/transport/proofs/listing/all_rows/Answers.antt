@@ -1,7 +1,4 @@
-use Rattle.transport.proofs.Names.{◌≡◌, ◌++◌, map, ap, sym, ◌∙◌, arith, subst, RowsOver, IsShaped, characters_of, IsGood}
-use Rattle.std.proofs.Common.{rules}
-use Rattle.transport.specs.Simples.{rows_of}
-use Rattle.transport.specs.Kept.{simple_in}
+use Rattle.transport.proofs.Names.{◌≡◌, ◌++◌, map, ap, sym, ◌∙◌, arith, subst, RowsOver, IsShaped, characters_of, IsGood, rules, rows_of, simple_in}
 use Rattle.transport.proofs.Rows.{rows_below-zero}
 use Rattle.transport.proofs.Entries.{next_class, next_good, few_more}
 use Rattle.transport.proofs.listing.all_rows.Goals as goal

@@ -1,6 +1,4 @@
-use Rattle.std.proofs.Common.{◌≡◌, ◌≤◌, ◌*◌, length, map}
-use Rattle.transport.specs.Simples.{rows_below}
-use Rattle.transport.specs.Kept.{simple_in, AreGood}
+use Rattle.transport.proofs.Names.{◌≡◌, ◌≤◌, ◌*◌, length, map, rows_below, simple_in, AreGood}
 use Rattle.transport.proofs.listing.all_rows.Given as goal
 
 -- the rows of the classes before c, whose tables are good

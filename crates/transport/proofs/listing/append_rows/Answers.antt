@@ -1,6 +1,4 @@
-use Rattle.std.proofs.Common.{ap, ◌∙◌, map}
-use Rattle.transport.specs.Simples.{simple_of}
-use Rattle.transport.specs.Kept.{simple_in}
+use Rattle.transport.proofs.Names.{ap, ◌∙◌, map, simple_of, simple_in}
 use Rattle.transport.proofs.Entries.{one_more_after}
 use Rattle.transport.proofs.listing.append_rows.Goals as goal
 

@@ -1,6 +1,4 @@
-use Rattle.transport.proofs.Names.{◌≡◌, ◌++◌, map, range_with_len}
-use Rattle.transport.specs.Simples.{simple_of}
-use Rattle.transport.specs.Kept.{simple_in}
+use Rattle.transport.proofs.Names.{◌≡◌, ◌++◌, map, range_with_len, simple_of, simple_in}
 use Rattle.transport.proofs.listing.append_rows.Given as goal
 
 -- the rows before r, after those that were there

@@ -1,8 +1,7 @@
 -- An array that stands for 1 is that of 1.
-use Rattle.transport.proofs.Names.{ap, sym, ◌∙◌, cyclotomic, value_one, cyclotomic_value, is_same, is_same-Decides}
+use Rattle.transport.proofs.Names.{ap, sym, ◌∙◌, cyclotomic, value_one, cyclotomic_value, is_same, is_same-Decides, arrays_same}
 use Rattle.std.specs.Bool.{one_answer}
 use Rattle.std.specs.Cmp.Rules.{signed_items}
-use Rattle.qd_ring.proofs.CycSums.{arrays_same}
 use Rattle.transport.proofs.listing.is_one.Goals as goal
 
 pub returns : goal.returns

@@ -1,5 +1,4 @@
-use Rattle.std.proofs.Common.{ap, ◌∙◌}
-use Rattle.transport.specs.Simples.{ascending, simples_of}
+use Rattle.transport.proofs.Names.{ap, ◌∙◌, ascending, simples_of}
 use Rattle.transport.proofs.Entries.{sorted_entries}
 use Rattle.transport.proofs.listing.listed.Goals as goal
 

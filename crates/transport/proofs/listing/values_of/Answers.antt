@@ -1,5 +1,4 @@
-use Rattle.transport.proofs.Names.{ap, ◌∙◌, cyclotomic_value, Cyc, characters_of}
-use Rattle.transport.specs.Kept.{coefficients_of}
+use Rattle.transport.proofs.Names.{ap, ◌∙◌, cyclotomic_value, Cyc, characters_of, coefficients_of}
 use Rattle.transport.proofs.Entries.{one_more}
 use Rattle.transport.proofs.listing.values_of.Goals as goal
 

@@ -1,5 +1,4 @@
-use Rattle.transport.proofs.Names.{◌≡◌, map, range_with_len, characters_of}
-use Rattle.transport.specs.Kept.{coefficients_of}
+use Rattle.transport.proofs.Names.{◌≡◌, map, range_with_len, characters_of, coefficients_of}
 use Rattle.transport.proofs.listing.values_of.Given as goal
 
 -- the coefficients of the values before p

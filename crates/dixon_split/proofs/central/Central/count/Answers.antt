@@ -1,5 +1,4 @@
-use Rattle.std.proofs.Common.{length, arith}
-use Rattle.std.proofs.Math.Nat.{div-le_self}
+use Rattle.dixon_split.proofs.Names.{length, arith, div-le_self}
 use Rattle.dixon_split.proofs.Lists.{count_is, widths_are}
 use Rattle.dixon_split.proofs.central.Central.count.Goals as goal
 

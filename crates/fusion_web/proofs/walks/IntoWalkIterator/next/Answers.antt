@@ -1,6 +1,4 @@
-use Rattle.std.proofs.Common.{◌≡◌, ◌∙◌, ◌∷◌, Some, length, sym, ap, rules}
-use Rattle.fusion_web.specs.Entries.{Entry}
-use Rattle.fusion_web.specs.Walks.{into_rest}
+use Rattle.fusion_web.proofs.Names.{◌≡◌, ◌∙◌, ◌∷◌, Some, length, sym, ap, rules, Entry, into_rest}
 use Rattle.fusion_web.proofs.WalkLaws.{into_step}
 use Rattle.fusion_web.proofs.walks.IntoWalkIterator.next.Goals as goal
 

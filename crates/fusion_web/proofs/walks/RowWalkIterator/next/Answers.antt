@@ -1,6 +1,4 @@
-use Rattle.std.proofs.Common.{◌≡◌, ◌∙◌, ◌∷◌, Some, length, sym, ap, rules}
-use Rattle.fusion_web.specs.Entries.{Entry}
-use Rattle.fusion_web.specs.Walks.{row_rest}
+use Rattle.fusion_web.proofs.Names.{◌≡◌, ◌∙◌, ◌∷◌, Some, length, sym, ap, rules, Entry, row_rest}
 use Rattle.fusion_web.proofs.WalkLaws.{row_step}
 use Rattle.fusion_web.proofs.walks.RowWalkIterator.next.Goals as goal
 

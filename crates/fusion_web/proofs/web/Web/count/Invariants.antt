@@ -1,5 +1,4 @@
-use Rattle.std.proofs.Common.{◌≡◌}
-use Rattle.fusion_web.specs.Entries.{count_of}
+use Rattle.fusion_web.proofs.Names.{◌≡◌, count_of}
 use Rattle.fusion_web.proofs.WalkLaws.{lookup}
 use Rattle.fusion_web.proofs.web.Web.count.Given as goal
 

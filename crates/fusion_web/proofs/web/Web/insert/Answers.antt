@@ -1,9 +1,4 @@
-use Rattle.std.proofs.Common.{◌≡◌, ◌<◌, ◌∙◌, length, sym, ap, arith}
-use Rattle.std.proofs.lemmas.List.{length-map}
-use Rattle.fusion_web.specs.Entries.{WebEntries, IsEntry, count_of, most_nodes}
-use Rattle.fusion_web.specs.Links.{entry_of, web_of}
-use Rattle.fusion_web.specs.declared.node.Node.{Node}
-use Rattle.fusion_web.specs.declared.side.Side.TheVariants.{Row, Into}
+use Rattle.fusion_web.proofs.Names.{◌≡◌, ◌<◌, ◌∙◌, length, sym, ap, arith, length-map, WebEntries, IsEntry, count_of, most_nodes, entry_of, web_of, Node, Row, Into}
 use Rattle.fusion_web.proofs.WebLaws.{written, web_pushed, still_linked, linked_as_written}
 use Rattle.fusion_web.proofs.web.Web.insert.Goals as goal
 

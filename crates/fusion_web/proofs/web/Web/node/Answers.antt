@@ -1,10 +1,4 @@
-use Rattle.std.proofs.Common.{◌≡◌, ◌<◌, ℕ, ◌∙◌, sym, ap, subst, arith, length}
-use Rattle.std.proofs.lemmas.List.{length-map, get_or_default}
-use Rattle.fusion_web.specs.Entries.{WebEntries}
-use Rattle.fusion_web.specs.Links.{entry_of, no_node, next_at, ring_at, key_at, web_of, Follows}
-use Rattle.fusion_web.specs.declared.node.Node.{Node}
-use Rattle.fusion_web.specs.declared.side.Side.TheVariants.{Into}
-use Rattle.fusion_web.specs.Rings.{IsNext}
+use Rattle.fusion_web.proofs.Names.{◌≡◌, ◌<◌, ℕ, ◌∙◌, sym, ap, subst, arith, length, length-map, get_or_default, WebEntries, entry_of, no_node, next_at, ring_at, key_at, web_of, Follows, Node, Into, IsNext}
 use Rattle.fusion_web.proofs.web.Web.node.Goals as goal
 
 pub returns-clause-into : goal.returns-clause-into

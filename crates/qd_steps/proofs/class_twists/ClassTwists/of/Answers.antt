@@ -1,6 +1,4 @@
-use Rattle.qd_steps.proofs.Names.{length, le_antisymm, ap, ◌∙◌, arith, length-map-range_with_len, representatives, representative_at, twist_of}
-use Rattle.group_table.specs.Group.{Table}
-use Rattle.qd_steps.specs.Tables.{class_twist}
+use Rattle.qd_steps.proofs.Names.{length, le_antisymm, ap, ◌∙◌, arith, length-map-range_with_len, representatives, representative_at, twist_of, Table, class_twist}
 use Rattle.qd_steps.proofs.TableSteps.{one_more}
 use Rattle.qd_steps.proofs.TwistLists.{all_twists}
 use Rattle.qd_steps.proofs.class_twists.ClassTwists.of.Goals as goal

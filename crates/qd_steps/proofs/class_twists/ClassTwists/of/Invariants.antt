@@ -1,5 +1,4 @@
-use Rattle.qd_steps.proofs.Names.{◌≡◌, map, range_with_len}
-use Rattle.qd_steps.specs.Tables.{class_twist}
+use Rattle.qd_steps.proofs.Names.{◌≡◌, map, range_with_len, class_twist}
 use Rattle.qd_steps.proofs.class_twists.ClassTwists.of.Given as goal
 
 -- those of the classes before class c

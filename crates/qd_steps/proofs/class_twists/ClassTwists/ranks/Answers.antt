@@ -1,7 +1,5 @@
-use Rattle.qd_steps.proofs.Names.{◌<◌, ◌∷◌, [], ◌++◌, length, map, take, le_antisymm, sym, ap, subst, ◌∙◌, arith, length-append, rank, no_table}
+use Rattle.qd_steps.proofs.Names.{◌<◌, ◌∷◌, [], ◌++◌, length, map, take, le_antisymm, sym, ap, subst, ◌∙◌, arith, length-append, rank, no_table, take-length, map_more}
 use Rattle.std.proofs.Common.{ap₂}
-use Rattle.std.proofs.Math.Seq.{take-length}
-use Rattle.std.proofs.lemmas.List.{map_more}
 use Rattle.qd_steps.proofs.class_twists.ClassTwists.ranks.Goals as goal
 
 pub loop-c-preserved : goal.loop-c-preserved

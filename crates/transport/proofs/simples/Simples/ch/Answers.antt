@@ -1,7 +1,4 @@
-use Rattle.transport.proofs.Names.{◌≡◌, ◌*◌, ◌/◌, ◌%◌, ◌==◌, true, Some, None, sym, ap, ap₂, ◌∙◌, subst, eq-eqb, Table, Cochain, class_of, transporter_of, cyclotomic_value, carried, transport_phase}
-use Rattle.transport.specs.Simples.{SimplesOver, class_at, AreSimples}
-use Rattle.transport.specs.FullCharacters.{root_exponent, element_value}
-use Rattle.transport.specs.Headline.{CharactersOrthogonal}
+use Rattle.transport.proofs.Names.{◌≡◌, ◌*◌, ◌/◌, ◌%◌, ◌==◌, true, Some, None, sym, ap, ap₂, ◌∙◌, subst, eq-eqb, Table, Cochain, class_of, transporter_of, cyclotomic_value, carried, transport_phase, SimplesOver, class_at, AreSimples, root_exponent, element_value, CharactersOrthogonal}
 use Rattle.transport.proofs.Distinct.{other_number}
 use Rattle.transport.proofs.FullCharacters.{character_formed}
 use Rattle.transport.proofs.SMatrixLaws.{characters_orthogonal}

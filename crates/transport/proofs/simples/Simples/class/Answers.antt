@@ -1,5 +1,4 @@
-use Rattle.transport.proofs.Names.{◌≡◌, ◌<◌, length, subst, sym, ap, ◌∙◌, representatives, representative_at, centraliser_of, size}
-use Rattle.transport.specs.Simples.{SimplesOver, Simple, count, over_at, table_at}
+use Rattle.transport.proofs.Names.{◌≡◌, ◌<◌, length, subst, sym, ap, ◌∙◌, representatives, representative_at, centraliser_of, size, SimplesOver, Simple, count, over_at, table_at}
 use Rattle.transport.proofs.Listed.{entry_is_row, entry_kept, places_of}
 use Rattle.transport.proofs.simples.Simples.class.Goals as goal
 use Rattle.transport.proofs.simples.Simples.class.Given.{Over}

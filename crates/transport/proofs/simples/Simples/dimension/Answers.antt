@@ -1,5 +1,4 @@
-use Rattle.std.proofs.Common.{◌≤◌, subst, sym, ap, arith}
-use Rattle.transport.specs.Simples.{SimplesOver, AreSimples}
+use Rattle.transport.proofs.Names.{◌≤◌, subst, sym, ap, arith, SimplesOver, AreSimples}
 use Rattle.transport.proofs.Listed.{degree_at_most, product_small}
 use Rattle.transport.proofs.simples.Simples.dimension.Goals as goal
 

@@ -1,6 +1,4 @@
-use Rattle.transport.proofs.Names.{◌<◌, length, subst, sym, ap, arith, ◌∙◌, ◌≡◌, IsTwist, element, size, RowsOver}
-use Rattle.transport.specs.Simples.{SimplesOver, count}
-use Rattle.transport.specs.Kept.{simple_in}
+use Rattle.transport.proofs.Names.{◌<◌, length, subst, sym, ap, arith, ◌∙◌, ◌≡◌, IsTwist, element, size, RowsOver, SimplesOver, count, simple_in}
 use Rattle.transport.proofs.Listed.{IsRow, entry_is_row, over_is_twist, place_small}
 use Rattle.transport.proofs.simples.Simples.element_value.Goals as goal
 use Rattle.transport.proofs.simples.Simples.element_value.Given.{Over}

@@ -1,6 +1,4 @@
-use Rattle.transport.proofs.Names.{◌<◌, length, subst, sym, arith, RowsOver, characters_of}
-use Rattle.transport.specs.Simples.{SimplesOver, count}
-use Rattle.transport.specs.Kept.{simple_in}
+use Rattle.transport.proofs.Names.{◌<◌, length, subst, sym, arith, RowsOver, characters_of, SimplesOver, count, simple_in}
 use Rattle.transport.proofs.Listed.{IsRow, entry_is_row, twist_small}
 use Rattle.transport.proofs.simples.Simples.twist.Goals as goal
 use Rattle.transport.proofs.simples.Simples.twist.Given.{Over}

@@ -1,5 +1,4 @@
-use Rattle.std.proofs.Common.{◌<◌, subst}
-use Rattle.transport.specs.Simples.{SimplesOver, count, IsVacuumAt}
+use Rattle.transport.proofs.Names.{◌<◌, subst, SimplesOver, count, IsVacuumAt}
 use Rattle.transport.proofs.Listed.{vacuum_is}
 use Rattle.transport.proofs.simples.Simples.vacuum.Goals as goal
 

@@ -1,6 +1,4 @@
-use Rattle.transport.proofs.Names.{◌≡◌, ◌<◌, length, subst, sym, arith, cyclotomic_value, size}
-use Rattle.std.proofs.Common.{vec_len}
-use Rattle.transport.specs.Simples.{SimplesOver, Simple, count, over_at, table_at, value_at}
+use Rattle.transport.proofs.Names.{◌≡◌, ◌<◌, length, subst, sym, arith, cyclotomic_value, size, vec_len, SimplesOver, Simple, count, over_at, table_at, value_at}
 use Rattle.transport.proofs.Listed.{entry_kept, values_count, kept_value}
 use Rattle.transport.proofs.simples.Simples.value.Goals as goal
 
