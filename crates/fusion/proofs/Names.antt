@@ -14,7 +14,7 @@ pub use Rattle.fusion.specs.Numbers.{HoldsSmallNumbers, SumsBeforeAreWhole, fusi
 pub use Rattle.fusion.specs.declared.weighted.Weighted.{Weighted}
 pub use Rattle.fusion_web.specs.Entries.{Entry, WebEntries, count_of, most_nodes}
 pub use Rattle.group_table.proofs.Numbers.{IsPassing, passing_below-all, passing_below-fails, passing_below-passes, passing_below-zero}
-pub use Rattle.group_table.specs.Group.{IsGroup, Table, product}
+pub use Rattle.group_table.specs.Group.{IsGroup, Table, commute, product}
 pub use Rattle.pair_orbits.specs.PairOrbits.{listed_pairs}
 pub use Rattle.pair_orbits.specs.declared.pair.Pair.{Pair}
 pub use Rattle.qd_ring.proofs.BufferLaws.{read_128}
@@ -43,7 +43,6 @@ pub use Rattle.transport.proofs.TensorProducts.{quotient_commutes, tensor_is}
 pub use Rattle.transport.specs.FullCharacters.{full_character, root_exponent}
 pub use Rattle.transport.specs.Fusion.{IsFusionNumber, fusion_sum, left_quotient, tensor_character, tensor_term}
 pub use Rattle.transport.specs.Headline.{IsFusionRule, OfAllSimples}
-pub use Rattle.transport.specs.SSums.{commute}
 pub use Rattle.transport.specs.Simples.{AreSimples, SimplesOver, class_at, count, dimension_at}
 pub use mathlib.Core.Logic.{inl, inr, ◌⊎◌}
 pub use mir.Syntax.{w128}

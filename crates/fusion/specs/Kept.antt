@@ -1,5 +1,6 @@
 -- Full characters, tensor characters and conjugates of full characters, as they are kept.
 use Rattle.std.specs.Prelude.{◌≡◌, ℕ, ◌*◌, ◌/◌, ◌%◌, ◌<◌, false, ◌==◌, Option, Some, None, IfSome, List, length, get_or}
+use Rattle.group_table.specs.Group.{Commute, commute}
 use Rattle.std.specs.Global.{Vec, Box}
 use Rattle.algebra.specs.Sums.{multiple}
 use Rattle.group_table.specs.Numbers.{passing_below}
@@ -15,8 +16,6 @@ use Rattle.qd_ring.specs.SparseValues.{value_of_terms}
 use Rattle.qd_ring.specs.Formed.{Formed, conjugated, multiplied, where_so}
 use Rattle.transport.specs.Simples.{SimplesOver, count, class_at}
 use Rattle.transport.specs.FullCharacters.{full_character}
-use Rattle.transport.specs.SSums.{commute}
-use Rattle.transport.specs.Laws.{Commute}
 use Rattle.transport.specs.Fusion.{tensor_term, tensor_character}
 use Rattle.fusion.specs.Numbers.{quotient_at}
 use Rattle.fusion.specs.declared.kept.Kept.{Kept}
@@ -61,7 +60,7 @@ module _ (k : ℕ) (s : SimplesOver) where
     pub j_below : j < count k s
     pub g_below : g < s.cocycle.group.order
     pub x_below : x < s.cocycle.group.order
-    pub commute : Commute s g x
+    pub commute : Commute s.cocycle.group g x
 
   -- the members of the class of i, ascending
   abbrev pub members_at : ℕ → List ℕ

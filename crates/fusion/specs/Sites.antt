@@ -1,10 +1,11 @@
 -- The sites at which the sums of fusion numbers overflow.
 use Rattle.std.specs.Prelude.{◌≡◌, ℕ, ◌<◌, false}
+use Rattle.group_table.specs.Group.{Commute}
 use mathlib.Core.Logic.{◌⊎◌}
 use Rattle.transport.specs.Simples.{SimplesOver, count}
 use Rattle.transport.specs.FullCharacters.{full_character}
 use Rattle.transport.specs.Fusion.{tensor_character, fusion_sum}
-use Rattle.transport.specs.Laws.{IsElement, Commute}
+use Rattle.transport.specs.Laws.{IsElement}
 use Rattle.qd_ring.specs.declared.site.Part.TheVariants.{Full, Tensor, Inner}
 use Rattle.qd_ring.specs.declared.site.Site.{Site}
 use Rattle.fusion.specs.Numbers.{PairsBeforeAreWhole, SumsBeforeAreWhole}
@@ -24,7 +25,7 @@ module _ (k : ℕ) (s : SimplesOver) where
   pub record IsCommutingPair (g x : ℕ) : Type 0 where
     pub g_below : IsElement s g
     pub x_below : IsElement s x
-    pub commute : Commute s g x
+    pub commute : Commute s.cocycle.group g x
 
   -- the site of a full character that overflows
   pub record IsFullOverflow (site : Site) : Type 0 where

@@ -1,10 +1,10 @@
 //! The weighted conjugates of full characters at the listed pairs, made once, in sparse form.
 
 ghost use Rattle.std.specs.Prelude.{◌≡◌, ◌<◌, IfSome, IfOk};
+ghost use Rattle.group_table.specs.Group.{Commute};
 ghost use Rattle.pair_orbits.specs.PairOrbits.{listed_pairs};
 ghost use Rattle.qd_ring.specs.SparseValues.{value_of_terms};
 ghost use Rattle.transport.specs.Simples.{count};
-ghost use Rattle.transport.specs.Laws.{Commute};
 ghost use Rattle.fusion.specs.Kept.{weighted_conjugate, AreWeighted, AreAllWeighted};
 
 use crate::elements::{is_in_class, order};
@@ -21,7 +21,7 @@ fn weighted_conjugate<const K: u32>(simples: &Simples<K>, l: u32, pair: Pair) ->
     requires l_below { l < count K simples.now }
     requires g_below { pair.g < simples.now.cocycle.group.order }
     requires h_below { pair.h < simples.now.cocycle.group.order }
-    requires commute { Commute simples.now pair.g pair.h }
+    requires commute { Commute simples.now.cocycle.group pair.g pair.h }
     ensures value { IfSome result
         (λ terms. value_of_terms K terms ≡ weighted_conjugate K simples.now l pair) }
 {

@@ -1,13 +1,12 @@
 //! What the sums ask of elements of the group.
 
 ghost use Rattle.std.specs.Prelude.{◌≡◌, ◌%◌, ◌<◌, ◌==◌, true, length, slice_index};
-ghost use Rattle.group_table.specs.Group.{IsSmall};
+ghost use Rattle.group_table.specs.Group.{IsSmall, commute};
 ghost use Rattle.classes.specs.Conjugacy.{class_of, representatives};
 ghost use Rattle.cyclotomic.specs.Conductors.{is_conductor};
 ghost use Rattle.slant.specs.Phases.{gamma};
 ghost use Rattle.transport.specs.Simples.{count, class_at};
 ghost use Rattle.transport.specs.FullCharacters.{root_exponent};
-ghost use Rattle.transport.specs.SSums.{commute};
 ghost use Rattle.transport.specs.Fusion.{left_quotient};
 ghost use Rattle.fusion.specs.Kept.{members_at};
 

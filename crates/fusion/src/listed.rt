@@ -1,8 +1,8 @@
 //! The listed pairs of elements that commute.
 
 ghost use Rattle.std.specs.Prelude.{◌≡◌, ◌<◌, length};
+ghost use Rattle.group_table.specs.Group.{Commute};
 ghost use Rattle.pair_orbits.specs.PairOrbits.{listed_pairs};
-ghost use Rattle.transport.specs.Laws.{Commute};
 ghost use Rattle.fusion.specs.Kept.{listed_at};
 
 use crate::elements::order;
@@ -16,7 +16,7 @@ pub fn listed_at<const K: u32>(simples: &Simples<K>, pairs: &Pairs, p: u32) -> P
     ensures pair { result ≡ listed_at K simples.now p }
     ensures g_below { result.g < simples.now.cocycle.group.order }
     ensures h_below { result.h < simples.now.cocycle.group.order }
-    ensures commute { Commute simples.now result.g result.h }
+    ensures commute { Commute simples.now.cocycle.group result.g result.h }
 {
     listing_laws();
     let _order = order(simples);

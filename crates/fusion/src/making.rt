@@ -1,13 +1,13 @@
 //! The tensor characters of two simples at the listed pairs, each as a folded sum over the members of the class of the first.
 
 ghost use Rattle.std.specs.Prelude.{◌≡◌, ◌<◌, ◌==◌, ◌&&◌, false, IfSome, IfOk, IfErr, IsTrue};
+ghost use Rattle.group_table.specs.Group.{commute};
 ghost use Rattle.classes.specs.Conjugacy.{class_of};
 ghost use Rattle.cyclotomic.specs.Ring.{value_sum, value_nought};
 ghost use Rattle.cyclotomic.specs.CyclotomicRing.{cyclotomic_value};
 ghost use Rattle.pair_orbits.specs.PairOrbits.{listed_pairs};
 ghost use Rattle.qd_ring.specs.Folding.{folded_value};
 ghost use Rattle.transport.specs.Simples.{count, class_at};
-ghost use Rattle.transport.specs.SSums.{commute};
 ghost use Rattle.transport.specs.Fusion.{left_quotient, tensor_character};
 ghost use Rattle.fusion.specs.Numbers.{PairsBeforeAreWhole};
 ghost use Rattle.fusion.specs.Kept.{value_or_nought, Answers, AreFullValues, IsTensorPlace, tensor_part, AreTensors};

@@ -1,9 +1,9 @@
 //! Tensor characters and fusion sums, term by term: the way where a folded sum has no room left.
 
 ghost use Rattle.std.specs.Prelude.{◌≡◌, ◌*◌, ◌<◌};
+ghost use Rattle.group_table.specs.Group.{Commute};
 ghost use Rattle.qd_ring.specs.Formed.{Forms};
 ghost use Rattle.transport.specs.Simples.{count};
-ghost use Rattle.transport.specs.Laws.{Commute};
 ghost use Rattle.transport.specs.FullCharacters.{full_character};
 ghost use Rattle.transport.specs.Fusion.{tensor_term, tensor_character, fusion_sum};
 ghost use Rattle.fusion.specs.Kept.{IsTensorPlace, tensor_part, inner_term, inner_part};
@@ -17,7 +17,7 @@ fn full_character<const K: u32>(simples: &Simples<K>, i: u32, g: u32, x: u32) ->
     requires i_below { i < count K simples.now }
     requires g_below { g < simples.now.cocycle.group.order }
     requires x_below { x < simples.now.cocycle.group.order }
-    requires commute { Commute simples.now g x }
+    requires commute { Commute simples.now.cocycle.group g x }
     ensures forms { Forms (full_character K simples.now i g x) result }
 {
     match simples.ch(i, g, x) {
@@ -37,7 +37,7 @@ fn tensor_term<const K: u32>(
 ) -> Option<Cyc<K>>
     requires place { IsTensorPlace K simples.now i j g x }
     requires h_below { h < simples.now.cocycle.group.order }
-    requires h_commutes { Commute simples.now h x }
+    requires h_commutes { Commute simples.now.cocycle.group h x }
     ensures forms { Forms (tensor_term K simples.now i j g x h) result }
 {
     let _count = simples.count();

@@ -1,8 +1,9 @@
 -- The numerators of the matrix S, term by term, and their sites.
 use Rattle.std.specs.Prelude.{◌≡◌, ℕ, ◌/◌, ◌%◌, ◌<◌, false}
+use Rattle.group_table.specs.Group.{commute}
 use Rattle.table_check.specs.Formed.{Formed, where_so}
 use Rattle.transport.specs.Simples.{SimplesOver, count}
-use Rattle.transport.specs.SSums.{commute, pair_term, s_sum}
+use Rattle.transport.specs.SSums.{pair_term, s_sum}
 use Rattle.qd_ring.specs.declared.site.Part.TheVariants.{S}
 use Rattle.qd_ring.specs.declared.site.Site.{Site}
 

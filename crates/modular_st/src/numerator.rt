@@ -2,12 +2,12 @@
 
 ghost use Rattle.std.specs.Prelude.{◌≡◌, ◌<◌, ◌*◌, true, IfErr};
 ghost use Rattle.std.specs.Result.{result_ok};
-ghost use Rattle.group_table.specs.Group.{product, IsSmall};
+ghost use Rattle.group_table.specs.Group.{product, IsSmall, commute};
 ghost use Rattle.cyclotomic.specs.Conductors.{is_conductor};
 ghost use Rattle.table_check.specs.Formed.{Forms, conjugated};
 ghost use Rattle.transport.specs.Simples.{count};
 ghost use Rattle.transport.specs.FullCharacters.{full_character};
-ghost use Rattle.transport.specs.SSums.{commute, pair_term, s_sum};
+ghost use Rattle.transport.specs.SSums.{pair_term, s_sum};
 ghost use Rattle.modular_st.specs.Numerators.{s_term, s_site};
 
 use group_table::Group;

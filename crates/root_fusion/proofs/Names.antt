@@ -18,6 +18,7 @@ pub use Rattle.transport.proofs.Listed.{over_is_twist, place_small, simple_is_ro
 pub use Rattle.transport.specs.FullCharacters.{carried_value, element_value, full_character, root_exponent}
 pub use Rattle.transport.specs.Fusion.{AreFusionNumbers, fusion_sum, left_quotient, tensor_character, tensor_term}
 pub use Rattle.transport.specs.Headline.{OfAllSimples, order_of}
-pub use Rattle.transport.specs.SSums.{commute, s_sum}
+pub use Rattle.transport.specs.SSums.{s_sum}
 pub use Rattle.transport.specs.Simples.{AreSimples, SimplesOver, characters_at, class_at, count, dimension_at, over_at, simple_at, twist_at}
 pub use mathlib.Core.Logic.{inl, inr, ◌⊎◌}
+pub use Rattle.group_table.specs.Group.{commute}

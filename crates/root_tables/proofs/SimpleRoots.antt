@@ -1,10 +1,11 @@
 -- The numerators of S of simples whose values are sums of few roots of unity: all of them fit.
 use Rattle.root_tables.proofs.Names.{◌≡◌, ℕ, ◌*◌, ◌/◌, ◌%◌, ◌<◌, ◌==◌, true, refl, arith, unwrap_or, mul-le-mul, class_of, transporter_of, size, element, place_of, given, conjugated, where_so, HasRootRows, RootSimplesFit}
+use Rattle.group_table.specs.Group.{commute}
 use Rattle.twisted.proofs.Places.{place_there}
 use Rattle.slant.specs.Phases.{carried, transport_phase}
 use Rattle.transport.specs.Simples.{SimplesOver, AreSimples, count, class_at, simple_at, over_at}
 use Rattle.transport.specs.FullCharacters.{root_exponent, element_value, carried_value, full_character}
-use Rattle.transport.specs.SSums.{commute, pair_term, s_sum}
+use Rattle.transport.specs.SSums.{pair_term, s_sum}
 use Rattle.transport.proofs.Listed.{simple_is_row, over_is_twist, place_small}
 use Rattle.root_tables.proofs.FormedRoots.{FormedOfRoots, of_roots, conjugated_formed, turned_formed, multiplied_formed, where_formed, listed_formed, few_fit, few_together}
 use Rattle.root_tables.proofs.TableRoots.{degree_few}

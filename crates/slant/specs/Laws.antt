@@ -2,7 +2,7 @@
 -- (Dijkgraaf, Pasquier, Roche 1990). Every variable is an element of the group.
 use Rattle.std.specs.Prelude.{◌≡◌, ℕ, ◌+◌, ◌<◌}
 use Rattle.algebra.specs.Congruences.{Same}
-use Rattle.group_table.specs.Group.{product, inverse, identity_of}
+use Rattle.group_table.specs.Group.{product, inverse, identity_of, Commute}
 use Rattle.cochain.specs.Cochain.{Cochain, value, IsCocycle}
 use Rattle.classes.specs.Conjugacy.{conjugate}
 use Rattle.slant.specs.Phases.{carried, theta, gamma, transport_phase, kappa}
@@ -10,10 +10,6 @@ use Rattle.slant.specs.Phases.{carried, theta, gamma, transport_phase, kappa}
 -- x is an element of the group
 abbrev pub IsElement : Cochain → ℕ → Type 0
 IsElement w x = x < w.group.order
-
--- g x = x g
-abbrev pub Commute : Cochain → ℕ → ℕ → Type 0
-Commute w g x = product w.group g x ≡ product w.group x g
 
 -- every phase is below the number of roots
 abbrev pub PhasesBelow : Type 0
@@ -50,25 +46,25 @@ ThetaGammaCompatible =
 -- ga_b(g,h) = th_b(g,h) for g and h that commute with b
 abbrev pub GammaIsTheta : Type 0
 GammaIsTheta =
-    (w : Cochain) → IsCocycle w → (b g h : ℕ) → IsElement w b → IsElement w g → IsElement w h → Commute w g b → Commute w h b →
+    (w : Cochain) → IsCocycle w → (b g h : ℕ) → IsElement w b → IsElement w g → IsElement w h → Commute w.group g b → Commute w.group h b →
     gamma w b g h ≡ theta w b g h
 
 -- for g and x that commute, the transport phases of x in the algebra of g and of g in that of x are inverse to each other
 abbrev pub TransportPhasesInverse : Type 0
 TransportPhasesInverse =
-    (w : Cochain) → IsCocycle w → (g x k : ℕ) → IsElement w g → IsElement w x → IsElement w k → Commute w g x →
+    (w : Cochain) → IsCocycle w → (g x k : ℕ) → IsElement w g → IsElement w x → IsElement w k → Commute w.group g x →
     Same w.roots (transport_phase w g x k + transport_phase w x g k) 0
 
 -- th_g(g,x) = th_g(x,g) = w(g,x,g) for g and x that commute
 abbrev pub ThetaAtItself : Type 0
 ThetaAtItself =
-    (w : Cochain) → IsCocycle w → (g x : ℕ) → IsElement w g → IsElement w x → Commute w g x →
+    (w : Cochain) → IsCocycle w → (g x : ℕ) → IsElement w g → IsElement w x → Commute w.group g x →
     (theta w g g x ≡ value w g x g) × (theta w g x g ≡ value w g x g)
 
 -- th_gx(g,x) = th_g(g,x) th_x(x,g) for g and x that commute
 abbrev pub ThetaProductIndex : Type 0
 ThetaProductIndex =
-    (w : Cochain) → IsCocycle w → (g x : ℕ) → IsElement w g → IsElement w x → Commute w g x →
+    (w : Cochain) → IsCocycle w → (g x : ℕ) → IsElement w g → IsElement w x → Commute w.group g x →
     Same w.roots (theta w (product w.group g x) g x) (theta w g g x + theta w x x g)
 
 -- in its own algebra an element is carried with no phase
@@ -78,19 +74,19 @@ TransportPhaseOfItself = (w : Cochain) → IsCocycle w → (g k : ℕ) → IsEle
 -- along kc: along k, and then along c, for g and x that commute
 abbrev pub TransportPhaseComposes : Type 0
 TransportPhaseComposes =
-    (w : Cochain) → IsCocycle w → (g x k c : ℕ) → IsElement w g → IsElement w x → IsElement w k → IsElement w c → Commute w g x →
+    (w : Cochain) → IsCocycle w → (g x k c : ℕ) → IsElement w g → IsElement w x → IsElement w k → IsElement w c → Commute w.group g x →
     Same w.roots (transport_phase w g x (product w.group k c)) (transport_phase w g x k + transport_phase w (carried w.group g k) (carried w.group x k) c)
 
 -- and back along k^-1
 abbrev pub TransportPhaseBack : Type 0
 TransportPhaseBack =
-    (w : Cochain) → IsCocycle w → (g x k : ℕ) → IsElement w g → IsElement w x → IsElement w k → Commute w g x →
+    (w : Cochain) → IsCocycle w → (g x k : ℕ) → IsElement w g → IsElement w x → IsElement w k → Commute w.group g x →
     Same w.roots (transport_phase w (carried w.group g k) (carried w.group x k) (inverse w.group k) + transport_phase w g x k) 0
 
 -- for x and y that commute with g, carrying along k turns products of the algebra of g into products of that of k^-1 g k
 abbrev pub TransportIsAlgebraMap : Type 0
 TransportIsAlgebraMap =
-    (w : Cochain) → IsCocycle w → (g x y k : ℕ) → IsElement w g → IsElement w x → IsElement w y → IsElement w k → Commute w g x → Commute w g y →
+    (w : Cochain) → IsCocycle w → (g x y k : ℕ) → IsElement w g → IsElement w x → IsElement w y → IsElement w k → Commute w.group g x → Commute w.group g y →
     Same w.roots
     (theta w g x y + transport_phase w g (product w.group x y) k)
     (transport_phase w g x k + transport_phase w g y k + theta w (carried w.group g k) (carried w.group x k) (carried w.group y k))
@@ -98,7 +94,7 @@ TransportIsAlgebraMap =
 -- for g and h that commute with x, the coproduct phase is carried along k
 abbrev pub GammaTransport : Type 0
 GammaTransport =
-    (w : Cochain) → IsCocycle w → (x g h k : ℕ) → IsElement w x → IsElement w g → IsElement w h → IsElement w k → Commute w g x → Commute w h x →
+    (w : Cochain) → IsCocycle w → (x g h k : ℕ) → IsElement w x → IsElement w g → IsElement w h → IsElement w k → Commute w.group g x → Commute w.group h x →
     Same w.roots
     (gamma w x g h + transport_phase w g x k + transport_phase w h x k)
     (transport_phase w (product w.group g h) x k + gamma w (carried w.group x k) (carried w.group g k) (carried w.group h k))
@@ -107,7 +103,7 @@ GammaTransport =
 abbrev pub KappaComposes : Type 0
 KappaComposes =
     (w : Cochain) → IsCocycle w → (a d c x : ℕ) → IsElement w a → IsElement w d → IsElement w c → IsElement w x →
-    Commute w a d → Commute w a c → Commute w a x →
+    Commute w.group a d → Commute w.group a c → Commute w.group a x →
     Same w.roots (kappa w a (product w.group d c) x) (kappa w a d (conjugate w.group c x) + kappa w a c x)
 
 -- the conjugation phase by c is inverse to the transport phase of c x c^-1 along c

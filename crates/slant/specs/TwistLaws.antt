@@ -1,11 +1,11 @@
 -- What the twisted centraliser of an element is, for each normalised 3-cocycle (Dijkgraaf, Pasquier, Roche 1990).
 use Rattle.std.specs.Prelude.{◌≡◌, ℕ, ◌<◌, ◌↔◌, Contains}
-use Rattle.group_table.specs.Group.{product, inverse, identity_of}
+use Rattle.group_table.specs.Group.{product, inverse, identity_of, Commute}
 use Rattle.cochain.specs.Cochain.{Cochain, IsCocycle}
 use Rattle.twisted.specs.Twist.{size, element, phase, IsTwist}
 use Rattle.twisted.specs.Regular.{kappa as kappa_at_places}
 use Rattle.slant.specs.Phases.{theta, kappa}
-use Rattle.slant.specs.Laws.{IsElement, Commute}
+use Rattle.slant.specs.Laws.{IsElement}
 use Rattle.slant.specs.Twists.{twist_of}
 
 -- the slant product at a is a normalised 2-cocycle of the centraliser of a, which is a group on its places
@@ -15,7 +15,7 @@ CentraliserIsTwist = (w : Cochain) → IsCocycle w → (a : ℕ) → IsElement w
 -- its elements are those that commute with a
 abbrev pub ElementsCommute : Type 0
 ElementsCommute =
-    (w : Cochain) → IsCocycle w → (a x : ℕ) → Contains (twist_of w a).elements x ↔ (IsElement w x × Commute w x a)
+    (w : Cochain) → IsCocycle w → (a x : ℕ) → Contains (twist_of w a).elements x ↔ (IsElement w x × Commute w.group x a)
 
 -- the element at the place of a product is the product of the elements
 abbrev pub ProductsAgree : Type 0

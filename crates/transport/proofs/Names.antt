@@ -36,7 +36,7 @@ pub use Rattle.cyclotomic.specs.CyclotomicRing.{CyclotomicValue, conjugate, conj
 pub use Rattle.cyclotomic.specs.Laws.Values.{multiple_one as scale_one, multiple_sum as scale_sum, multiple_zero as scale_zero, same_value, value_of-scaled}
 pub use Rattle.cyclotomic.specs.Ring.{value_nought, value_one, value_product}
 pub use Rattle.group_table.proofs.Sentences.{identity_below}
-pub use Rattle.group_table.specs.Group.{IsGroup, Table, identity_of, product}
+pub use Rattle.group_table.specs.Group.{Commute, IsGroup, Table, commute, identity_of, product}
 unfoldable pub use Rattle.phases.specs.Phases.{gamma as coproduct_phase, kappa as conjugation_phase, theta as slant_phase, transport_phase as carrying_phase}
 pub use Rattle.qd_ring.proofs.CycSums.{array-of_value, arrays_same}
 pub use Rattle.qd_ring.specs.declared.cyc.Cyc.{Cyc}
@@ -73,10 +73,10 @@ pub use Rattle.transport.specs.FullCharacters.{carried_value, element_value, ful
 pub use Rattle.transport.specs.Fusion.{AreFusionNumbers, fusion_sum, inner_product, left_quotient, pair_sum, tensor_character, tensor_term}
 pub use Rattle.transport.specs.Headline.{AdjointUnitary, CharactersOrthogonal, FusionDimensions, HasModularData, IsByEachTransporter, NumbersAreRule, NumbersOfDimensions, OfAllSimples, SFourthRelation, SSymmetric, STCubeRelation, STSRelation, SUnitary, SquaresOfDimensions, StepsAreInverse, TensorProductsDecompose, TwistsAct, TwistsUnitary, VacuumEntry, VacuumRow}
 pub use Rattle.transport.specs.Kept.{AreGood, coefficients_of, simple_in}
-pub use Rattle.transport.specs.Laws.{Commute, Covariant, IsElement, TermsInvariant, TransporterIndependent}
+pub use Rattle.transport.specs.Laws.{Covariant, IsElement, TermsInvariant, TransporterIndependent}
 unfoldable pub use Rattle.transport.specs.Matrices.{product_numbers, sum_numbers}
 pub use Rattle.transport.specs.Matrices.{Matrix, adjoint, at_equal, by_s, by_twists, dimensions_product, product_of, s_entry, twist_root}
-pub use Rattle.transport.specs.SSums.{commute, pair_term}
+pub use Rattle.transport.specs.SSums.{pair_term}
 unfoldable pub use Rattle.transport.specs.Simples.{ascending, insert, rows_below, simples_of}
 pub use Rattle.transport.specs.Simples.{AreSimples, HasTables, IsVacuumAt, Simple, SimplesOver, characters_at, class_at, compare, count, degree_at, dimension_at, no_simple, over_at, rows_of, simple_at, simple_of, table_at, twist_at, value_at}
 pub use Rattle.transport.specs.declared.entry.Entry.{Entry}

@@ -62,8 +62,8 @@ module _ (k : ℕ) (s : SimplesOver) (S : AreSimples k s) where
       (λ g x commuting. ap₂ (λ u v. T.ring.mul u (conjugate k v)) (tensor_is i j g x commuting) (character_is k s S l g x commuting))
 
 -- where g and h commute with x, so does h^-1 g
-pub quotient_commutes : (k : ℕ) (s : SimplesOver) → AreSimples k s → (g x h : ℕ) → IsElement s g → IsElement s x → IsElement s h → Commute s g x → Commute s h x
-    → (left_quotient s.cocycle.group h g < s.cocycle.group.order) × Commute s (left_quotient s.cocycle.group h g) x
+pub quotient_commutes : (k : ℕ) (s : SimplesOver) → AreSimples k s → (g x h : ℕ) → IsElement s g → IsElement s x → IsElement s h → Commute s.cocycle.group g x → Commute s.cocycle.group h x
+    → (left_quotient s.cocycle.group h g < s.cocycle.group.order) × Commute s.cocycle.group (left_quotient s.cocycle.group h g) x
 quotient_commutes k s S g x h g_below x_below h_below first second =
     let G : Below s.cocycle.group.order = record { value = g; below = g_below } in
     let X : Below s.cocycle.group.order = record { value = x; below = x_below } in

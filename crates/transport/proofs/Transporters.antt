@@ -2,7 +2,7 @@
 use Rattle.transport.proofs.Names.{◌≡◌, ℕ, ◌<◌, false, ◌==◌, sym, ap, ◌∙◌, class_of, transporter_of, value_nought, CyclotomicValue, where_so, SimplesOver, count, class_at, AreSimples, carried_value, full_character, IsElement, Commute, IsByEachTransporter}
 use Rattle.transport.proofs.CharacterLaws.{transporters_agree}
 
-pub by_each_transporter : (k : ℕ) (s : SimplesOver) → AreSimples k s → (i g x : ℕ) → i < count k s → IsElement s g → IsElement s x → Commute s g x
+pub by_each_transporter : (k : ℕ) (s : SimplesOver) → AreSimples k s → (i g x : ℕ) → i < count k s → IsElement s g → IsElement s x → Commute s.cocycle.group g x
     → (u : CyclotomicValue k) → u ≡ (full_character k s i g x).value → IsByEachTransporter k s i g x u
 by_each_transporter k s S i g x i_below g_below x_below commutes u same = record {
   carried = λ c c_below carries. same ∙ transporters_agree k s S i g x c i_below g_below x_below c_below commutes carries;

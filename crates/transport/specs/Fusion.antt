@@ -1,12 +1,11 @@
 -- Tensor products of the simples of a twisted quantum double, and their fusion sums (by the coproduct of Dijkgraaf, Pasquier, Roche 1990).
 -- Every index g, x and h is an element of the group; i, j and l are simples.
 use Rattle.std.specs.Prelude.{◌≡◌, ℕ, ◌*◌, ◌/◌, ◌%◌, ◌<◌}
-use Rattle.group_table.specs.Group.{Table, product, inverse}
+use Rattle.group_table.specs.Group.{Table, product, inverse, commute}
 use Rattle.table_check.specs.Formed.{Formed, conjugated, multiplied, turned, listed, where_so, whole}
 use Rattle.slant.specs.Phases.{gamma}
 use Rattle.transport.specs.Simples.{SimplesOver, count}
 use Rattle.transport.specs.FullCharacters.{root_exponent, full_character}
-use Rattle.transport.specs.SSums.{commute}
 
 -- h^-1 g
 abbrev pub left_quotient : Table → ℕ → ℕ → ℕ

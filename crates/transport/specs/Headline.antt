@@ -4,13 +4,13 @@ use Rattle.std.specs.Prelude.{◌≡◌, ℕ, ◌*◌, ◌/◌, ◌<◌}
 use Rattle.cyclotomic.specs.Cyclotomic.{cyclotomic}
 use Rattle.cyclotomic.specs.Ring.{value_one}
 use Rattle.cyclotomic.specs.CyclotomicRing.{CyclotomicValue, root, conjugate}
-use Rattle.group_table.specs.Group.{product}
+use Rattle.group_table.specs.Group.{product, Commute}
 use Rattle.classes.specs.Conjugacy.{conjugate as conjugation, representative_at}
 use Rattle.slant.specs.Phases.{theta}
 use Rattle.table_check.specs.Formed.{whole}
 use Rattle.transport.specs.Simples.{SimplesOver, count, class_at, dimension_at, AreSimples}
 use Rattle.transport.specs.FullCharacters.{root_exponent, carried_value, full_character}
-use Rattle.transport.specs.Laws.{IsElement, Commute}
+use Rattle.transport.specs.Laws.{IsElement}
 use Rattle.transport.specs.Fusion.{tensor_character, inner_product, fusion_sum, IsFusionNumber, AreFusionNumbers}
 use Rattle.transport.specs.Matrices.{Matrix, at_equal, sum_of, times, product_of, adjoint, sum_numbers, s_entry, twist_root, by_twists, by_s, by_adjoint, by_inverse_twists, dimensions_product}
 
@@ -68,7 +68,7 @@ module _ (k : ℕ) (s : SimplesOver) where
   -- x^t is the value of u_g in its algebra: e(th_g(g,x)) ch_i(g, g x) = x^t ch_i(g,x) for g and x that commute
   abbrev pub TwistsAct : Type 0
   TwistsAct =
-      (i g x : ℕ) → IsSimple i → IsElement s g → IsElement s x → Commute s g x →
+      (i g x : ℕ) → IsSimple i → IsElement s g → IsElement s x → Commute s.cocycle.group g x →
       times k (root k (root_exponent k s.cocycle (theta s.cocycle g g x))) (full_character k s i g (product s.cocycle.group g x)).value
       ≡ times k (twist_root k s i) (full_character k s i g x).value
 
@@ -105,7 +105,7 @@ module _ (k : ℕ) (s : SimplesOver) where
   -- n (i*j)(g,x) is the sum over l of I_ijl ch_l(g,x), with the fusion sums I, at g and x that commute
   abbrev pub TensorProductsDecompose : Type 0
   TensorProductsDecompose =
-      (i j g x : ℕ) → IsSimple i → IsSimple j → IsElement s g → IsElement s x → Commute s g x →
+      (i j g x : ℕ) → IsSimple i → IsSimple j → IsElement s g → IsElement s x → Commute s.cocycle.group g x →
       times k (whole k (order_of s)) (tensor_character k s i j g x).value
       ≡ sum_of k (count k s) (λ l. times k (fusion_sum k s i j l).value (full_character k s l g x).value)
 
@@ -127,7 +127,7 @@ module _ (k : ℕ) (s : SimplesOver) where
     -- each fusion sum I_ijl is n N_ijl
     pub numbers : AreFusionNumbers k s number
     -- they are the tensor multiplicities: (i*j)(g,x) is the sum over l of N_ijl ch_l(g,x) at g and x that commute
-    pub multiplicities : (i j g x : ℕ) → IsSimple i → IsSimple j → IsElement s g → IsElement s x → Commute s g x
+    pub multiplicities : (i j g x : ℕ) → IsSimple i → IsSimple j → IsElement s g → IsElement s x → Commute s.cocycle.group g x
         → (tensor_character k s i j g x).value ≡ sum_of k (count k s) (λ l. times k (whole k (number i j l)) (full_character k s l g x).value)
     -- the N_ijl D_l add up to D_i D_j
     pub dimensions : (i j : ℕ) → IsSimple i → IsSimple j

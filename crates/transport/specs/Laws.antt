@@ -3,7 +3,7 @@
 use Rattle.std.specs.Prelude.{◌≡◌, ℕ, ◌<◌, List, length}
 use Rattle.std.specs.List.Sorted.{IsPermutation, IsSorted}
 use Rattle.table_check.specs.Characters.{RowsOver}
-use Rattle.group_table.specs.Group.{product}
+use Rattle.group_table.specs.Group.{product, Commute}
 use Rattle.classes.specs.Conjugacy.{conjugate, representative_at}
 use Rattle.cyclotomic.specs.Cyclotomic.{cyclotomic}
 use Rattle.cyclotomic.specs.Ring.{value_product}
@@ -17,20 +17,16 @@ use Rattle.transport.specs.SSums.{pair_term}
 abbrev pub IsElement : SimplesOver → ℕ → Type 0
 IsElement s x = x < s.cocycle.group.order
 
--- g x = x g
-abbrev pub Commute : SimplesOver → ℕ → ℕ → Type 0
-Commute s g x = product s.cocycle.group g x ≡ product s.cocycle.group x g
-
 -- the full character is the same by every c that carries the representative a of the class of i to g = c a c^-1
 abbrev pub TransporterIndependent : Type 0
 TransporterIndependent =
-    (k : ℕ) (s : SimplesOver) → AreSimples k s → (i g x c : ℕ) → i < count k s → IsElement s g → IsElement s x → IsElement s c → Commute s g x →
+    (k : ℕ) (s : SimplesOver) → AreSimples k s → (i g x c : ℕ) → i < count k s → IsElement s g → IsElement s x → IsElement s c → Commute s.cocycle.group g x →
     conjugate s.cocycle.group c (representative_at s.cocycle.group (class_at k s i)) ≡ g → (full_character k s i g x).value ≡ (carried_value k s i g x c).value
 
 -- at g and x it is e(th_g(x,c) / th_g(c, c^-1 x c)) times that at c^-1 g c and c^-1 x c
 abbrev pub Covariant : Type 0
 Covariant =
-    (k : ℕ) (s : SimplesOver) → AreSimples k s → (i g x c : ℕ) → i < count k s → IsElement s g → IsElement s x → IsElement s c → Commute s g x →
+    (k : ℕ) (s : SimplesOver) → AreSimples k s → (i g x c : ℕ) → i < count k s → IsElement s g → IsElement s x → IsElement s c → Commute s.cocycle.group g x →
     (full_character k s i g x).value
     ≡ value_product (cyclotomic k) (root k (root_exponent k s.cocycle (transport_phase s.cocycle g x c)))
     (full_character k s i (carried s.cocycle.group g c) (carried s.cocycle.group x c)).value
@@ -38,7 +34,7 @@ Covariant =
 -- the term of S is the same at all conjugates of a pair
 abbrev pub TermsInvariant : Type 0
 TermsInvariant =
-    (k : ℕ) (s : SimplesOver) → AreSimples k s → (i j g h c : ℕ) → i < count k s → j < count k s → IsElement s g → IsElement s h → IsElement s c → Commute s g h →
+    (k : ℕ) (s : SimplesOver) → AreSimples k s → (i j g h c : ℕ) → i < count k s → j < count k s → IsElement s g → IsElement s h → IsElement s c → Commute s.cocycle.group g h →
     (pair_term k s i j (carried s.cocycle.group g c) (carried s.cocycle.group h c)).value ≡ (pair_term k s i j g h).value
 
 -- the simples are all rows of all tables

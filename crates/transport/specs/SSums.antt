@@ -1,6 +1,6 @@
 -- The matrix S of a twisted quantum double, times the order n of its group (Coste, Gannon, Ruelle 2000; the orientation is this project's).
 use Rattle.std.specs.Prelude.{ℕ, ◌*◌, ◌/◌, ◌%◌, Bool, ◌==◌}
-use Rattle.group_table.specs.Group.{Table, product}
+use Rattle.group_table.specs.Group.{Table, product, commute}
 use Rattle.table_check.specs.Formed.{Formed, conjugated, multiplied, listed, where_so}
 use Rattle.transport.specs.Simples.{SimplesOver}
 use Rattle.transport.specs.FullCharacters.{full_character}
