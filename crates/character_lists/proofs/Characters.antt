@@ -1,7 +1,5 @@
 -- The lists that pass the test are those of all central characters.
-use Rattle.std.proofs.Common.{◌≡◌, ℕ, ◌==◌, true, List, ap, subst, eqb-true, eq-eqb, Contains}
-use Rattle.std.specs.Prelude.{◌&&◌}
-use mathlib.Core.Path.{ap₂}
+use Rattle.character_lists.proofs.Names.{◌≡◌, ℕ, ◌==◌, true, List, ap, subst, eqb-true, eq-eqb, Contains, ◌&&◌, ap₂, Each, Pairwise, IsCharacterList, IsBefore}
 use Rattle.scan.specs.First.{all_below}
 use Rattle.scan.proofs.Places.{all_below-at, all_below-all, and_true}
 use Rattle.algebra.specs.Below.{below_equal}
@@ -9,8 +7,6 @@ use Rattle.prime_field.specs.declared.mod_ring.ModRing.{ModRing}
 use Rattle.prime_field.specs.Field.{field}
 use Rattle.twisted.specs.Twist.{TwistedSubgroup}
 use Rattle.twisted.specs.Regular.{rank}
-use Rattle.splitting_theory.specs.Lists.{Each, Pairwise}
-use Rattle.centre_algebra.specs.CentralCharacters.{IsCharacterList, IsBefore}
 use Rattle.centre_algebra.specs.Laws.{AreCentralCharacters}
 use Rattle.centre_algebra.proofs.CharacterLists.{centre_splits}
 use Rattle.character_lists.specs.CharacterLists.{number_lists, residue_at, respects, is_character, central_characters}

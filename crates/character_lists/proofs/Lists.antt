@@ -1,12 +1,8 @@
 -- Lists in ascending order are known by their elements; and the lists of numbers below a bound.
-use Rattle.std.proofs.Common.{◌≡◌, ℕ, zero, suc, ◌<◌, Bool, true, false, List, [], ◌∷◌, ◌++◌, length, map, get_or, cond, refl, sym, ap, ◌∙◌, subst, arith, ◌⊎◌, inl, inr, Contains}
-use Rattle.std.specs.Prelude.{filter}
+use Rattle.character_lists.proofs.Names.{◌≡◌, ℕ, zero, suc, ◌<◌, Bool, true, false, List, [], ◌∷◌, ◌++◌, length, map, get_or, cond, refl, sym, ap, ◌∙◌, subst, arith, ◌⊎◌, inl, inr, Contains, filter, ap₂, Each, Pairwise, IsBefore}
 use Rattle.std.proofs.lemmas.List.Elements.{Contains-append_left, Contains-append_right}
-use mathlib.Core.Path.{ap₂}
 use Rattle.prime_field.specs.ResidueLists.{AreBelow}
-use Rattle.splitting_theory.specs.Lists.{Each, Pairwise}
 use Rattle.splitting_theory.proofs.Lists.{each_append, each_all, each_map, pairwise_append}
-use Rattle.centre_algebra.specs.CentralCharacters.{IsBefore}
 use Rattle.character_lists.specs.CharacterLists.{with_heads_below, number_lists}
 
 -- ---- elements

@@ -1,9 +1,5 @@
 -- The twisted group algebra of an element: by elements, and by the places of its centraliser.
-use Rattle.characters.proofs.Names.{◌≡◌, refl, sym, ◌∙◌, ap, pick, multiple, Finite, equals, total, Group, inv_op_op, total_ext, total_constant}
-use Rattle.characters.specs.Setting.{Setting, Commuting, commute}
-use Rattle.characters.specs.PhaseRoots.{slant_root, conjugation_root}
-use Rattle.characters.specs.Tables.{centraliser_order, centraliser_product}
-use Rattle.characters.specs.Parts.{IsSubgroup}
+use Rattle.characters.proofs.Names.{◌≡◌, refl, sym, ◌∙◌, ap, pick, multiple, Finite, equals, total, Group, inv_op_op, total_ext, total_constant, Setting, Commuting, commute, slant_root, conjugation_root, centraliser_order, centraliser_product, IsSubgroup}
 use Rattle.characters.proofs.SettingLaws.{commute_of, commute_true, commuting_product, cancel_unit, slant_root_bar, conjugation_root_is}
 use Rattle.characters.proofs.PartLaws.{element_inv, element_quotient, element_conjugate, at_elements, equals_at_places, total_places}
 

@@ -1,7 +1,5 @@
 -- Laws of sums over the centraliser of an element.
-use Rattle.characters.proofs.Names.{◌≡◌, sym, ◌∙◌, ap, pick, Finite, equals, total, one_mul, pick_of, pick_cong, mul_pick, pick_mul, pick_swap, inv_op_op, op_inv_op, op_cancel_left, total_ext, total_exchange, total_pick, total_reindex, mul_total, total_mul, pick_total}
-use Rattle.characters.specs.Setting.{Setting, Commuting, commute}
-use Rattle.characters.specs.Tables.{centraliser_sum, centraliser_order}
+use Rattle.characters.proofs.Names.{◌≡◌, sym, ◌∙◌, ap, pick, Finite, equals, total, one_mul, pick_of, pick_cong, mul_pick, pick_mul, pick_swap, inv_op_op, op_inv_op, op_cancel_left, total_ext, total_exchange, total_pick, total_reindex, mul_total, total_mul, pick_total, Setting, Commuting, commute, centraliser_sum, centraliser_order}
 use Rattle.characters.proofs.SettingLaws.{same_test, commute_of, commute_true, commuting_product}
 use Rattle.characters.proofs.AlgebraLaws.{centraliser_order_is}
 

@@ -1,9 +1,5 @@
 -- Full characters do not depend on the carrier, and are covariant.
-use Rattle.characters.proofs.Names.{◌≡◌, Bool, true, false, refl, sym, ◌∙◌, ap, subst, ap₂, pick, equals, conj, mul_nought, pick_of, pick_off, pick_nought, group_rules, conj_is, conj_op, conj_of_commuting, commuting_of_conj, op_inv_op, equals_true, equals_of}
-use Rattle.characters.specs.Setting.{Setting, Classes, Commuting, commute}
-use Rattle.characters.specs.PhaseRoots.{transport_root, conjugation_root}
-use Rattle.characters.specs.Simples.{Simples}
-use Rattle.characters.specs.FullCharacters.{in_class, full_character}
+use Rattle.characters.proofs.Names.{◌≡◌, Bool, true, false, refl, sym, ◌∙◌, ap, subst, ap₂, pick, equals, conj, mul_nought, pick_of, pick_off, pick_nought, group_rules, conj_is, conj_op, conj_of_commuting, commuting_of_conj, op_inv_op, equals_true, equals_of, Setting, Classes, Commuting, commute, transport_root, conjugation_root, Simples, in_class, full_character}
 use Rattle.characters.proofs.SettingLaws.{commute_of, commuting_conj, conjugation_root_bar, transport_root_composes}
 
 module _ {A G S : Type 0} (T : Setting A G) (C : Classes T.group) (X : Simples T C S) where

@@ -1,6 +1,5 @@
 -- Classes from representatives and elements that carry these to their conjugates.
-use Rattle.characters.proofs.Names.{◌≡◌, sym, ◌∙◌, ap, Group, conj, group_rules, conj_is}
-use Rattle.characters.specs.Setting.{Classes}
+use Rattle.characters.proofs.Names.{◌≡◌, sym, ◌∙◌, ap, Group, conj, group_rules, conj_is, Classes}
 
 module _ {G : Type 0} (P : Group G) where
   -- (k a k^-1) carried back along k

@@ -1,11 +1,5 @@
 -- Covariant functions of pairs that commute are combinations of full characters.
-use Rattle.characters.proofs.Names.{◌≡◌, sym, ◌∙◌, ap, pick, Finite, equals, total, conj, product_rules, one_mul, mul_pick, total_ext, mul_total, total_mul}
-use Rattle.characters.specs.Setting.{Setting, Classes, Commuting}
-use Rattle.characters.specs.PhaseRoots.{transport_root}
-use Rattle.characters.specs.Simples.{Simples}
-use Rattle.characters.specs.Tables.{group_order, GoodTables}
-use Rattle.characters.specs.Pairs.{inner_product, IsCovariant}
-use Rattle.characters.specs.FullCharacters.{full_character}
+use Rattle.characters.proofs.Names.{◌≡◌, sym, ◌∙◌, ap, pick, Finite, equals, total, conj, product_rules, one_mul, mul_pick, total_ext, mul_total, total_mul, Setting, Classes, Commuting, transport_root, Simples, group_order, GoodTables, inner_product, IsCovariant, full_character}
 use Rattle.characters.proofs.SettingLaws.{commuting_conj}
 use Rattle.characters.proofs.PairLaws.{pair_sum_ext, mul_pair_sum, pair_sum_mul, bar_pair_sum, total_pair_sum, pair_sum_pick, inner_product_is}
 use Rattle.characters.proofs.OrthogonalityLaws.{group_order_is}

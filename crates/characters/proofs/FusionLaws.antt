@@ -1,13 +1,5 @@
 -- Tensor products decompose into simples.
-use Rattle.characters.proofs.Names.{◌≡◌, refl, sym, ◌∙◌, ap, ap₂, pick, Finite, equals, total, conj, product_rules, one_mul, mul_left_comm, pick_of, mul_pick, pick_mul, pick_swap, op_conj, conj_injective, conj_inv, conj_of_inv, one_conj, total_ext, total_exchange, total_pick, total_reindex, mul_total, total_mul, pick_total, equals_true, equals_of}
-use Rattle.characters.specs.Setting.{Setting, Classes, Commuting, commute}
-use Rattle.characters.specs.PhaseRoots.{transport_root, coproduct_root}
-use Rattle.characters.specs.Simples.{Simples}
-use Rattle.characters.specs.Tables.{group_order, GoodTables}
-use Rattle.characters.specs.Pairs.{pair_sum, inner_product, IsCovariant}
-use Rattle.characters.specs.FullCharacters.{full_character}
-use Rattle.characters.specs.SMatrix.{dimension}
-use Rattle.characters.specs.Fusion.{tensor_character, fusion_sum}
+use Rattle.characters.proofs.Names.{◌≡◌, refl, sym, ◌∙◌, ap, ap₂, pick, Finite, equals, total, conj, product_rules, one_mul, mul_left_comm, pick_of, mul_pick, pick_mul, pick_swap, op_conj, conj_injective, conj_inv, conj_of_inv, one_conj, total_ext, total_exchange, total_pick, total_reindex, mul_total, total_mul, pick_total, equals_true, equals_of, Setting, Classes, Commuting, commute, transport_root, coproduct_root, Simples, group_order, GoodTables, pair_sum, inner_product, IsCovariant, full_character, dimension, tensor_character, fusion_sum}
 use Rattle.characters.proofs.SettingLaws.{same_test, commute_of, commute_true, commute_conj, coproduct_root_at_one, coproduct_root_carried, transport_root_of_one, commutes_one}
 use Rattle.characters.proofs.PairLaws.{pair_sum_is, pair_sum_ext, mul_pair_sum, total_pair_sum, inner_product_is}
 use Rattle.characters.proofs.CharacterLaws.{covariance}

@@ -1,12 +1,6 @@
 -- Fusion numbers are tensor multiplicities, and are given by S.
 use Rattle.characters.proofs.OrthogonalityLaws.{of_whole}
-use Rattle.characters.proofs.Names.{◌≡◌, ℕ, sym, ◌∙◌, ap, ap₂, IsTorsionFree, pick, multiple, Finite, equals, total, product_rules, mul_left_comm, pick_map, multiple_map, mul_multiple, multiple_mul, mul_pick, total_ext, total_exchange, total_pick, mul_total, total_mul, total_map}
-use Rattle.characters.specs.Setting.{Setting, Classes, Commuting}
-use Rattle.characters.specs.Simples.{Simples}
-use Rattle.characters.specs.Tables.{group_order, GoodTables}
-use Rattle.characters.specs.FullCharacters.{in_class, full_character}
-use Rattle.characters.specs.SMatrix.{s_sum, dimension}
-use Rattle.characters.specs.Fusion.{tensor_character, fusion_sum, AreFusionNumbers}
+use Rattle.characters.proofs.Names.{◌≡◌, ℕ, sym, ◌∙◌, ap, ap₂, IsTorsionFree, pick, multiple, Finite, equals, total, product_rules, mul_left_comm, pick_map, multiple_map, mul_multiple, multiple_mul, mul_pick, total_ext, total_exchange, total_pick, mul_total, total_mul, total_map, Setting, Classes, Commuting, Simples, group_order, GoodTables, in_class, full_character, s_sum, dimension, tensor_character, fusion_sum, AreFusionNumbers}
 use Rattle.characters.proofs.SLaws.{dimension_is, degree_bar}
 use Rattle.characters.proofs.Unitarity.{s_unitary}
 use Rattle.characters.proofs.FusionLaws.{decomposition, fusion_dimensions}

@@ -1,13 +1,5 @@
 -- The orthogonality of rows and of full characters.
-use Rattle.characters.proofs.Names.{◌≡◌, ℕ, ◌≤◌, Bool, true, false, refl, sym, ◌∙◌, ap, ap₂, CommRing, IsTorsionFree, pick, multiple, Finite, equals, total, conj, mul_nought, nought_mul, pick_mul, pick_of, pick_off, pick_nought, pick_cong, pick_true, pick_false, mul_multiple, multiple_is_mul, conj_op, conj_inv, conj_of_inv, inv_op_op, op_inv_op, conj_of_commuting, commuting_of_conj, total_ext, total_exchange, total_pick, total_reindex, total_nought, total_constant, equals_true, equals_of, equals_false, bar_nought}
-use Rattle.algebra.proofs.RingLaws.{neg_unique, neg_neg}
-use Rattle.algebra.proofs.SumLaws.{multiple_of_add, multiple_neg}
-use Rattle.characters.specs.Setting.{Setting, Classes, commute}
-use Rattle.characters.specs.PhaseRoots.{slant_root, transport_root}
-use Rattle.characters.specs.Simples.{Simples}
-use Rattle.characters.specs.Tables.{group_order, centraliser_order, centraliser_product, GoodTable, GoodTables}
-use Rattle.characters.specs.Pairs.{inner_product}
-use Rattle.characters.specs.FullCharacters.{in_class, full_character}
+use Rattle.characters.proofs.Names.{◌≡◌, ℕ, ◌≤◌, Bool, true, false, refl, sym, ◌∙◌, ap, ap₂, CommRing, IsTorsionFree, pick, multiple, Finite, equals, total, conj, mul_nought, nought_mul, pick_mul, pick_of, pick_off, pick_nought, pick_cong, pick_true, pick_false, mul_multiple, multiple_is_mul, conj_op, conj_inv, conj_of_inv, inv_op_op, op_inv_op, conj_of_commuting, commuting_of_conj, total_ext, total_exchange, total_pick, total_reindex, total_nought, total_constant, equals_true, equals_of, equals_false, bar_nought, neg_unique, neg_neg, multiple_of_add, multiple_neg, Setting, Classes, commute, slant_root, transport_root, Simples, group_order, centraliser_order, centraliser_product, GoodTable, GoodTables, inner_product, in_class, full_character}
 use Rattle.characters.proofs.SettingLaws.{same_test, commute_of, commute_true, commute_symmetric, commute_conj, slant_root_bar, transport_root_bar, cancel_pair, one_commutes}
 use Rattle.characters.proofs.PairLaws.{pair_sum_is, inner_product_is}
 use Rattle.characters.proofs.AlgebraLaws.{centraliser_order_is, centraliser_product_is}

@@ -1,8 +1,5 @@
 -- Laws of sums over the pairs of elements that commute.
-use Rattle.characters.proofs.Names.{◌≡◌, refl, sym, ◌∙◌, ap, pick, Finite, equals, total, pick_of, pick_cong, mul_pick, pick_map, pick_swap, op_op_inv, total_reindex, total_ext, total_exchange, total_pick, mul_total, pick_total, total_map}
-use Rattle.algebra.proofs.GroupLaws.{op_inv_cancel, op_cancel_right, inv_inv}
-use Rattle.characters.specs.Setting.{Setting, Commuting, commute}
-use Rattle.characters.specs.Pairs.{pair_sum, inner_product}
+use Rattle.characters.proofs.Names.{◌≡◌, refl, sym, ◌∙◌, ap, pick, Finite, equals, total, pick_of, pick_cong, mul_pick, pick_map, pick_swap, op_op_inv, total_reindex, total_ext, total_exchange, total_pick, mul_total, pick_total, total_map, op_inv_cancel, op_cancel_right, inv_inv, Setting, Commuting, commute, pair_sum, inner_product}
 use Rattle.characters.proofs.SettingLaws.{commute_of, commute_true, commute_symmetric, commuting_product, commuting_inv, same_test}
 
 module _ {A G : Type 0} (T : Setting A G) where

@@ -1,8 +1,5 @@
 -- From places to elements.
-use Rattle.characters.proofs.Names.{◌≡◌, Bool, true, false, refl, sym, ◌∙◌, ap, subst, ap₂, CommRing, pick, Finite, equals, total, Group, pick_off, pick_true, pick_false, op_cancel_left, total_ext, total_exchange, total_pick, total_nought, equals_true, equals_of}
-use Rattle.algebra.proofs.SumLaws.{pick_same}
-use Rattle.algebra.proofs.GroupLaws.{inv_unique}
-use Rattle.characters.specs.Parts.{IsPart, IsSubgroup, extended}
+use Rattle.characters.proofs.Names.{◌≡◌, Bool, true, false, refl, sym, ◌∙◌, ap, subst, ap₂, CommRing, pick, Finite, equals, total, Group, pick_off, pick_true, pick_false, op_cancel_left, total_ext, total_exchange, total_pick, total_nought, equals_true, equals_of, pick_same, inv_unique, IsPart, IsSubgroup, extended}
 use Rattle.characters.proofs.SettingLaws.{same_test}
 
 module _ {G K : Type 0} (inside : G → Bool) (element : K → G) (I : IsPart inside element) where

@@ -1,11 +1,6 @@
 -- A good table over the places of a centraliser is one over its elements.
-use Rattle.characters.proofs.Names.{◌≡◌, sym, ◌∙◌, ap, subst, ap₂, pick, multiple, Finite, equals, total, Group, multiple_is_mul, equals_of}
-use Rattle.characters.specs.Setting.{Setting, Classes, Commuting, commute}
-use Rattle.characters.specs.PhaseRoots.{slant_root, conjugation_root}
-use Rattle.characters.specs.Simples.{Simples}
-use Rattle.characters.specs.Tables.{centraliser_order, centraliser_product, GoodTable}
+use Rattle.characters.proofs.Names.{◌≡◌, sym, ◌∙◌, ap, subst, ap₂, pick, multiple, Finite, equals, total, Group, multiple_is_mul, equals_of, Setting, Classes, Commuting, commute, slant_root, conjugation_root, Simples, centraliser_order, centraliser_product, GoodTable, IsPart, IsSubgroup}
 use Rattle.characters.specs.PlaceTables.{row_product, GoodTableAtPlaces}
-use Rattle.characters.specs.Parts.{IsPart, IsSubgroup}
 use Rattle.characters.proofs.PartLaws.{element_one, element_inv, at_elements, equals_at_places, total_places}
 use Rattle.characters.proofs.AlgebraLaws.{at_commuting, order_of_places, product_at_places, column_at_places}
 

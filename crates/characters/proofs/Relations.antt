@@ -1,13 +1,5 @@
 -- The relations of S and T.
-use Rattle.characters.proofs.Names.{◌≡◌, refl, sym, ◌∙◌, ap, ap₂, IsTorsionFree, pick, Finite, equals, total, product_rules, one_mul, mul_left_comm, mul_pick, pick_mul, op_op_inv, bar_one, total_ext, total_exchange, total_pick, mul_total, total_mul, total_map}
-use Rattle.characters.specs.Setting.{Setting, Classes, Commuting}
-use Rattle.characters.specs.PhaseRoots.{slant_root}
-use Rattle.characters.specs.Simples.{Simples}
-use Rattle.characters.specs.Twists.{AreTwists}
-use Rattle.characters.specs.Tables.{group_order, GoodTables}
-use Rattle.characters.specs.Pairs.{pair_sum}
-use Rattle.characters.specs.FullCharacters.{full_character}
-use Rattle.characters.specs.SMatrix.{s_sum, pair_term}
+use Rattle.characters.proofs.Names.{◌≡◌, refl, sym, ◌∙◌, ap, ap₂, IsTorsionFree, pick, Finite, equals, total, product_rules, one_mul, mul_left_comm, mul_pick, pick_mul, op_op_inv, bar_one, total_ext, total_exchange, total_pick, mul_total, total_mul, total_map, Setting, Classes, Commuting, slant_root, Simples, AreTwists, group_order, GoodTables, pair_sum, full_character, s_sum, pair_term}
 use Rattle.characters.proofs.SettingLaws.{inverse_unique, commuting_product, commuting_inv, slant_root_bar, slant_root_associative, slant_root_second_one, slant_root_product_index, slant_roots_inverse, equals_symmetric}
 use Rattle.characters.proofs.PairLaws.{pair_sum_ext, mul_pair_sum, bar_pair_sum, pair_sum_swap, total_pair_sum, pair_sum_shift, pair_sum_inverse}
 use Rattle.characters.proofs.SLaws.{pair_term_is, s_sum_is, s_sum_symmetric}

@@ -1,15 +1,6 @@
 -- The sum of S: its terms at conjugate pairs, its symmetry, and its row at the vacuum.
-use Rattle.characters.proofs.Names.{◌≡◌, Bool, true, false, refl, sym, ◌∙◌, ap, subst, ap₂, pick, multiple, equals, total, Finite, conj, one_mul, nought_mul, pick_of, pick_off, pick_nought, pick_cong, pick_map, pick_true, pick_false, multiple_map, conj_inv, one_conj, bar_one, bar_nought, total_ext, total_exchange, total_pick, equals_true, equals_of, total_constant}
-use Rattle.std.proofs.Common.{◌*◌}
-use Rattle.algebra.proofs.SumLaws.{multiple_multiple}
+use Rattle.characters.proofs.Names.{◌≡◌, Bool, true, false, refl, sym, ◌∙◌, ap, subst, ap₂, pick, multiple, equals, total, Finite, conj, one_mul, nought_mul, pick_of, pick_off, pick_nought, pick_cong, pick_map, pick_true, pick_false, multiple_map, conj_inv, one_conj, bar_one, bar_nought, total_ext, total_exchange, total_pick, equals_true, equals_of, total_constant, ◌*◌, multiple_multiple, IsPart, Setting, Classes, Commuting, commute, transport_root, Simples, IsVacuum, pair_sum, in_class, full_character, pair_term, s_sum, dimension}
 use Rattle.characters.proofs.PartLaws.{total_places}
-use Rattle.characters.specs.Parts.{IsPart}
-use Rattle.characters.specs.Setting.{Setting, Classes, Commuting, commute}
-use Rattle.characters.specs.PhaseRoots.{transport_root}
-use Rattle.characters.specs.Simples.{Simples, IsVacuum}
-use Rattle.characters.specs.Pairs.{pair_sum}
-use Rattle.characters.specs.FullCharacters.{in_class, full_character}
-use Rattle.characters.specs.SMatrix.{pair_term, s_sum, dimension}
 use Rattle.characters.proofs.SettingLaws.{same_test, commute_of, transport_roots_inverse, transport_root_of_one, transport_root_at_one, cancel_pair, one_commutes, commutes_one}
 use Rattle.characters.proofs.PairLaws.{pair_sum_is, pair_sum_ext, pair_sum_swap}
 use Rattle.characters.proofs.CharacterLaws.{full_character_is, covariance, in_class_true, in_class_of}

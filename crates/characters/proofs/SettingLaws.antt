@@ -1,11 +1,8 @@
 -- Commuting elements, roots and carriers in the setting of full characters.
-use Rattle.characters.proofs.Names.{Finite, equals, ◌≡◌, ℕ, Bool, true, false, refl, sym, ◌∙◌, ap, ap₂, conj, product_rules, one_mul, conj_of_commuting, op_conj, conj_injective, op_cancel_left, op_inv_op, op_op_inv, equals_true, equals_of}
-use Rattle.std.proofs.Common.{◌+◌}
+use Rattle.characters.proofs.Names.{Finite, equals, ◌≡◌, ℕ, Bool, true, false, refl, sym, ◌∙◌, ap, ap₂, conj, product_rules, one_mul, conj_of_commuting, op_conj, conj_injective, op_cancel_left, op_inv_op, op_op_inv, equals_true, equals_of, ◌+◌, Setting, Commuting, commute, slant_root, transport_root, conjugation_root, coproduct_root}
 use Rattle.algebra.specs.Congruences.{Same}
 use Rattle.phases.specs.Phases.{theta, transport_phase}
 use Rattle.phases.proofs.PhaseLaws.{transport_is_algebra_map, transport_phase_of_itself, theta_at_itself, theta_by_itself, theta_product_index, theta_associative, theta_second_one, theta_of_one, theta_gamma_compatible, gamma_transport, gamma_is_theta, gamma_of_one, kappa_is, kappa_is_transport, transport_phase_back, transport_phase_composes, transport_phases_inverse, transport_phase_along_one, transport_phase_of_one, transport_phase_at_one}
-use Rattle.characters.specs.Setting.{Setting, Commuting, commute}
-use Rattle.characters.specs.PhaseRoots.{slant_root, transport_root, conjugation_root, coproduct_root}
 
 -- tests that imply each other are one
 pub same_test : (b c : Bool) → (b ≡ true → c ≡ true) → (c ≡ true → b ≡ true) → b ≡ c

@@ -1,12 +1,5 @@
 -- S is unitary.
-use Rattle.characters.proofs.Names.{◌≡◌, sym, ◌∙◌, ap, ap₂, IsTorsionFree, pick, Finite, equals, total, conj, mul_pick, total_ext}
-use Rattle.characters.specs.Setting.{Setting, Classes}
-use Rattle.characters.specs.PhaseRoots.{transport_root}
-use Rattle.characters.specs.Simples.{Simples}
-use Rattle.characters.specs.Tables.{group_order, GoodTables}
-use Rattle.characters.specs.Pairs.{inner_product, IsCovariant}
-use Rattle.characters.specs.FullCharacters.{full_character}
-use Rattle.characters.specs.SMatrix.{s_sum, pair_term}
+use Rattle.characters.proofs.Names.{◌≡◌, sym, ◌∙◌, ap, ap₂, IsTorsionFree, pick, Finite, equals, total, conj, mul_pick, total_ext, Setting, Classes, transport_root, Simples, group_order, GoodTables, inner_product, IsCovariant, full_character, s_sum, pair_term}
 use Rattle.characters.proofs.SettingLaws.{inverse_unique, transport_roots_inverse, transport_root_bar, equals_symmetric}
 use Rattle.characters.proofs.PairLaws.{pair_sum_ext, pair_sum_swap, inner_product_is}
 use Rattle.characters.proofs.CharacterLaws.{covariance}
