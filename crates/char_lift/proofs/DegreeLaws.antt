@@ -1,5 +1,5 @@
 -- What a degree is.
-use Rattle.char_lift.proofs.Names.{◌≡◌, ℕ, ◌+◌, ◌*◌, ◌%◌, ◌≤◌, true, Option, Some, None, sym, subst, arith, eqb-true, ◌==◌, IfSome, if◌then◌else◌, first, first_some, where_found, ◌&&◌, nat_le, leb-true, and_true, is_degree, least_degree}
+use Rattle.char_lift.proofs.Names.{◌≡◌, ℕ, ◌+◌, ◌*◌, ◌%◌, ◌≤◌, true, Option, Some, None, sym, subst, eqb-true, ◌==◌, IfSome, if◌then◌else◌, first_some, where_found, ◌&&◌, nat_le, leb-true, and_true, is_degree, least_degree}
 
 pub record IsDegree (q m t d : ℕ) : Type 0 where
   pub from_one : 1 ≤ d

@@ -1,5 +1,5 @@
 -- What fails first in a row, and in the rows.
-use Rattle.char_lift.proofs.Names.{◌≡◌, ℕ, ◌+◌, ◌<◌, true, false, List, Option, Some, None, refl, sym, ap, ◌∙◌, arith, ne_eqb, ◌==◌, ℤ, unwrap_or, if◌then◌else◌, first, array_of, TwistedSubgroup, size, element, ◌≢◌, eq-eqb, first_found, tabulated, degree_sum, degree_of, multiplicity_sum, lifted_value, place_fault, fault_with, row_fault, lift_fault, lifted_row, Refuses, character_ratios, LiftRefusal, NoDegree, Multiplicity, Memory}
+use Rattle.char_lift.proofs.Names.{◌≡◌, ℕ, ◌<◌, List, Option, Some, None, sym, ap, ◌∙◌, ne_eqb, unwrap_or, if◌then◌else◌, first, array_of, TwistedSubgroup, size, element, ◌≢◌, eq-eqb, first_found, tabulated, degree_sum, degree_of, multiplicity_sum, lifted_value, place_fault, fault_with, row_fault, lift_fault, lifted_row, Refuses, character_ratios, LiftRefusal, NoDegree, Multiplicity, Memory}
 
 -- what is refused at i, where nothing is found before, is refused of all
 pub refused_first : (why : LiftRefusal) (n i : ℕ) (at : ℕ → Option LiftRefusal) → i < n → first i at ≡ None → Refuses why (at i) → Refuses why (first n at)

@@ -19,7 +19,9 @@ pub use Rattle.cyclotomic.specs.CyclotomicRing.{CyclotomicValue, cyclotomic_ring
 pub use Rattle.cyclotomic.specs.Fit.{value_size}
 pub use Rattle.cyclotomic.specs.Ring.{value_sum}
 pub use Rattle.dixon_split.specs.CentralLists.{central_value}
+pub use Rattle.group_table.proofs.Numbers.{length-tabulated, tabulated-at, tabulated-more, tabulated-same}
 pub use Rattle.group_table.specs.Group.{Table, identity_of, inverse, product}
+pub use Rattle.group_table.specs.Numbers.{tabulated}
 unfoldable pub use Rattle.orders.specs.Group.{power}
 pub use Rattle.prime_field.proofs.Inverses.{residues_fit}
 unfoldable pub use Rattle.prime_field.specs.Laws.Moduli.{power_modulo}

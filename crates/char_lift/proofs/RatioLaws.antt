@@ -1,5 +1,5 @@
 -- Class numbers, class factors and character ratios.
-use Rattle.char_lift.proofs.Names.{◌≡◌, ℕ, suc, ◌*◌, ◌%◌, ◌<◌, List, length, get_or, true, false, Bool, Option, Some, None, refl, sym, ap, ◌∙◌, subst, arith, mod-lt, ◌==◌, slice_index, unwrap_or, if◌then◌else◌, first, first_some, representative_of, TwistedSubgroup, size, rank, where_found, AreBelow, tabulated, regular_number, class_factor, character_ratio, character_ratios, inverse_residue, class_size, inverse_root, carrying_phase, length-tabulated}
+use Rattle.char_lift.proofs.Names.{◌≡◌, ℕ, ◌*◌, ◌%◌, ◌<◌, List, length, true, false, Bool, Option, Some, None, refl, ap, ◌∙◌, arith, mod-lt, ◌==◌, slice_index, unwrap_or, if◌then◌else◌, first, first_some, representative_of, TwistedSubgroup, size, rank, where_found, AreBelow, regular_number, class_factor, character_ratio, character_ratios, inverse_residue, class_size, inverse_root, carrying_phase, length-tabulated}
 use Rattle.twisted.specs.Regular.{is_regular, regular_representatives}
 use Rattle.twisted.proofs.Representatives.{length-regular_representatives}
 use Rattle.char_lift.proofs.SumLaws.{tabulated-below}

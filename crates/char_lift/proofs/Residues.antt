@@ -1,7 +1,5 @@
 -- Residues: the powers of a root, inverses and products.
-use Rattle.char_lift.proofs.Names.{◌≡◌, ℕ, zero, suc, ◌+◌, ◌-◌, ◌*◌, ◌%◌, ◌<◌, ◌≤◌, List, [], ◌∷◌, ◌++◌, length, get_or, true, Option, Some, None, refl, sym, ap, ◌∙◌, inl, inr, arith, length-append, add-one, mod-mod, mod-lt, get_or-append, get_or-append_seam, cases_eq, mul-mod_first, mul-mod_second, IfSome, unwrap_or, power_modulo, modulus_positive, modulus_over_one, modulus_bound, ◌/◌, mul-div-le, mul-le-mul_right, mul-mod, ListsPowers}
-use Rattle.prime_field.specs.Moduli.{is_modulus}
-use Rattle.prime_field.specs.Inverses.{inverse_modulo}
+use Rattle.char_lift.proofs.Names.{◌≡◌, ℕ, zero, suc, ◌+◌, ◌*◌, ◌%◌, ◌<◌, ◌≤◌, List, [], ◌∷◌, ◌++◌, length, get_or, Option, Some, None, refl, sym, ap, ◌∙◌, inl, inr, arith, length-append, add-one, mod-lt, get_or-append, get_or-append_seam, cases_eq, mul-mod_first, IfSome, unwrap_or, power_modulo, ◌/◌, mul-div-le, mul-le-mul_right, ListsPowers}
 
 pub power-zero : (q z : ℕ) → power_modulo q z 0 ≡ 1 % q
 unfolding power_modulo

@@ -1,8 +1,8 @@
 -- Lifted values are sums of roots of unity.
-use Rattle.char_lift.proofs.Names.{◌≡◌, ℕ, ◌*◌, ◌<◌, ◌≤◌, true, false, List, [], length, get_or, Option, Some, None, refl, sym, ap, ◌∙◌, subst, inl, inr, arith, eqb-true, cases_eq, ne_eqb, ◌==◌, ℤ, unwrap_or, if◌then◌else◌, first, is_conductor, CyclotomicValue, cyclotomic_value, array_of, row_at, IsSumOfRoots, TwistedSubgroup, size, element, slice_index_or, first_none-at, sum_of, tabulated, character_ratios, degree_sum, degree_of, multiplicity, multiplicity_sum, with_multiplicities, lifted_value, place_fault, row_fault, lift_fault, lifted_row, lifted_rows, LiftRefusal, NoDegree, Multiplicity, length-tabulated, tabulated-at}
+use Rattle.char_lift.proofs.Names.{◌≡◌, ℕ, ◌<◌, true, List, [], length, get_or, Option, Some, None, refl, sym, ap, ◌∙◌, subst, inl, inr, cases_eq, unwrap_or, is_conductor, cyclotomic_value, array_of, row_at, IsSumOfRoots, TwistedSubgroup, size, element, slice_index_or, first_none-at, sum_of, character_ratios, degree_sum, degree_of, multiplicity, multiplicity_sum, with_multiplicities, lifted_value, place_fault, row_fault, lift_fault, lifted_row, lifted_rows, NoDegree, Multiplicity, length-tabulated, tabulated-at}
 use Rattle.qd_ring.proofs.ProductLaws.{value-array_of}
 use Rattle.char_lift.specs.Laws.{IsRowOfRoots, LiftedAreRoots, LiftedValues}
-use Rattle.char_lift.proofs.DegreeLaws.{IsDegree, degree_means}
+use Rattle.char_lift.proofs.DegreeLaws.{degree_means}
 use Rattle.char_lift.proofs.ValueLaws.{copies_are_roots, multiplicities_are}
 use Rattle.char_lift.proofs.FaultLaws.{row_without, row_with, place_fails, row_is}
 

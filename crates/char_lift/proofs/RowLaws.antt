@@ -1,5 +1,5 @@
 -- Rows that are put together value after value.
-use Rattle.char_lift.proofs.Names.{◌≡◌, ℕ, ◌+◌, ◌-◌, ◌<◌, List, [], ◌∷◌, ◌++◌, length, set, refl, ap, sym, ◌∙◌, length-append, arith, set-append_seam, row_at, with_value, tabulated, tabulated-more}
+use Rattle.char_lift.proofs.Names.{◌≡◌, ℕ, ◌+◌, ◌-◌, ◌<◌, List, [], ◌∷◌, ◌++◌, length, set, refl, ap, ◌∙◌, length-append, arith, set-append_seam, row_at, with_value, tabulated, tabulated-more}
 use Rattle.std.proofs.lemmas.List.{get_or_push}
 
 module _ {A : Type 0} (front : List (List A)) (row : List A) where

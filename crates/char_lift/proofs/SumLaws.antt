@@ -1,5 +1,5 @@
 -- Sums and lists of the values of a function.
-use Rattle.char_lift.proofs.Names.{◌≡◌, ℕ, zero, suc, ◌+◌, ◌*◌, ◌%◌, ◌<◌, ◌≤◌, List, [], ◌∷◌, ◌++◌, length, get_or, refl, sym, ap, ◌∙◌, inl, inr, arith, length-append, add-one, mod-mod, mod-lt, get_or-append, get_or-append_seam, cases_eq, mul-mod_first, ap₂, AreBelow, mod-add-mod, add-mod-mod, sum_of, tabulated, length-tabulated, tabulated-at}
+use Rattle.char_lift.proofs.Names.{◌≡◌, ℕ, zero, suc, ◌+◌, ◌%◌, ◌<◌, refl, sym, ap, ◌∙◌, arith, add-one, ap₂, AreBelow, mod-add-mod, add-mod-mod, sum_of, tabulated, length-tabulated, tabulated-at}
 
 -- ---- sums
 pub sum-zero : (f : ℕ → ℕ) → sum_of 0 f ≡ 0

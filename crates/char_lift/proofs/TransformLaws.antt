@@ -1,7 +1,7 @@
 -- The inverse transform of values that are known modulo q, and the values at powers.
-use Rattle.char_lift.proofs.Names.{◌≡◌, ℕ, suc, ◌+◌, ◌-◌, ◌*◌, ◌%◌, ◌<◌, ◌≤◌, List, length, get_or, refl, sym, ap, ◌∙◌, arith, add-one, mod-lt, mod-mod, mul-mod_first, mul-mod_second, slice_index, ap₂, power, product, identity_of, TwistedSubgroup, size, phase, place_power, power_phase, AreBelow, power_modulo, power_phase-suc, sum_of, tabulated, inverse_residue, inverse_transform, with_multiplicities, tabulated-at, tabulated-same, length-tabulated}
+use Rattle.char_lift.proofs.Names.{◌≡◌, ℕ, ◌+◌, ◌-◌, ◌*◌, ◌%◌, ◌<◌, List, length, get_or, sym, ap, ◌∙◌, add-one, mod-lt, mod-mod, mul-mod_first, mul-mod_second, slice_index, power, product, TwistedSubgroup, phase, place_power, power_phase, power_modulo, power_phase-suc, sum_of, tabulated, inverse_residue, inverse_transform, with_multiplicities, tabulated-at, tabulated-same, length-tabulated}
 use Rattle.char_lift.proofs.ValueLaws.{multiplicities_same}
-use Rattle.char_lift.proofs.SumLaws.{sum-residues, sum-same, tabulated-below}
+use Rattle.char_lift.proofs.SumLaws.{sum-residues, sum-same}
 
 module _ (q k z : ℕ) where
   -- the sum of an inverse transform may be taken modulo q

@@ -1,12 +1,12 @@
 -- Values with given multiplicities of roots of unity.
-use Rattle.char_lift.proofs.Names.{◌≡◌, ℕ, zero, suc, ◌+◌, ◌-◌, ◌*◌, ◌<◌, ◌≤◌, Bool, true, false, Option, Some, None, List, length, refl, sym, ap, ◌∙◌, inl, inr, arith, add-one, ℤ, slice_index, ap₂, multiple, sum_zero, is_conductor, value_sum, CyclotomicValue, cyclotomic_ring, cyclotomic_value, root, value_size, IsSumOfRoots, is_some, le-leb, sum_suc, multiple_zero, multiple_suc, sum_ext, sum_of, with_multiplicities}
+use Rattle.char_lift.proofs.Names.{◌≡◌, ℕ, zero, suc, ◌+◌, ◌-◌, ◌*◌, ◌<◌, ◌≤◌, Bool, true, false, Option, Some, None, refl, sym, ap, ◌∙◌, arith, add-one, ap₂, multiple, sum_zero, is_conductor, value_sum, CyclotomicValue, cyclotomic_ring, root, value_size, IsSumOfRoots, is_some, le-leb, sum_suc, multiple_zero, multiple_suc, sum_ext, sum_of, with_multiplicities}
 use Rattle.algebra.specs.Sums.{sum_below}
 use Rattle.cyclotomic.specs.Ring.{value_nought}
 use Rattle.cyclotomic.specs.Fit.{value_fits, greatest_magnitude}
 use Rattle.cyclotomic.proofs.Bounds.{root_size}
 use Rattle.qd_ring.proofs.RootSumLaws.{no_root, one_root, roots_same, roots_together, roots_copied, roots_size}
 use Rattle.qd_ring.proofs.SizeLaws.{size_sum}
-use Rattle.char_lift.proofs.SumLaws.{sum-zero, sum-suc, sum-more}
+use Rattle.char_lift.proofs.SumLaws.{sum-zero, sum-suc}
 
 -- what is there isn't none
 pub there_not_none : {A : Type 0} (o : Option A) (b : Bool) → is_some o ≡ b → b ≡ true → o ≡ None → ⊥

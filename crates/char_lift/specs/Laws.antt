@@ -7,7 +7,7 @@ use Rattle.qd_ring.specs.RootSums.{IsSumOfRoots}
 use Rattle.twisted.specs.Twist.{TwistedSubgroup, size}
 use Rattle.char_lift.specs.Ratios.{character_ratios}
 use Rattle.char_lift.specs.Candidate.{degree_of, lifted_value}
-use Rattle.char_lift.specs.Faults.{row_fault, lift_fault, lifted_rows}
+use Rattle.char_lift.specs.Faults.{lift_fault, lifted_rows}
 
 -- a row of m values of the cyclotomic ring of conductor K, each a sum of d roots of unity, with d from 1 and d d at most m
 pub record IsRowOfRoots (k m : ℕ) (row : List (List ℤ)) : Type 0 where

@@ -4,7 +4,7 @@ pub use Rattle.algebra.proofs.SumLaws.{pick_false, pick_true, power_suc, power_z
 pub use Rattle.algebra.specs.Below.{Below, below_equal}
 pub use Rattle.algebra.specs.Structures.{CommRing}
 pub use Rattle.algebra.specs.Sums.{power, sum_below}
-pub use Rattle.centre_algebra.proofs.CharacterLists.{AreNumbers, C, E, R, U, divides, fixed, image_at, lists_characters, nought_test, number_at, residue_field}
+pub use Rattle.centre_algebra.proofs.CharacterLists.{AreNumbers, C, E, R, U, divides, fixed, image_at, lists_characters, nought_test, number_at}
 pub use Rattle.centre_algebra.proofs.Numbers.{Zipped}
 pub use Rattle.centre_algebra.specs.CentralCharacters.{regular_sum}
 pub use Rattle.centre_algebra.specs.Laws.{AreCentralCharacters}
@@ -17,6 +17,7 @@ pub use Rattle.dixon_split.specs.Values.{AreValues, IsCentreOf}
 pub use Rattle.dixon_split.specs.declared.structure.Structure.{Structure}
 pub use Rattle.prime_field.proofs.ResidueRows.{column_at, length_slice, place_in, row_of, values_below}
 pub use Rattle.prime_field.proofs.ResidueSums.{at_slice, plus_product_value, residue_of_value, sum_step, tabulated_push}
+pub use Rattle.prime_field.proofs.PolynomialValues.{residue_field}
 pub use Rattle.prime_field.specs.Field.{field, field_residue}
 pub use Rattle.prime_field.specs.Laws.Moduli.{modulus_bound, modulus_over_one, modulus_positive}
 pub use Rattle.prime_field.specs.Moduli.{is_modulus}

@@ -1,4 +1,4 @@
-use Rattle.char_lift.proofs.Names.{◌≡◌, ℕ, ◌+◌, ◌<◌, length, None, sym, ap, ◌∙◌, subst, arith, lit<, err_from_is_err_and, first, first-zero, first_none-step, ModRing, modulus_positive, AreBelow, central_value, ◌^◌, character_ratios, row_fault, lifted_row, lifted_rows, Refuses, length-tabulated, tabulated-more}
+use Rattle.char_lift.proofs.Names.{◌≡◌, ◌<◌, length, None, sym, ap, ◌∙◌, subst, arith, lit<, err_from_is_err_and, first-zero, first_none-step, ModRing, modulus_positive, AreBelow, central_value, character_ratios, row_fault, lifted_row, lifted_rows, Refuses, length-tabulated, tabulated-more}
 use Rattle.char_lift.proofs.RatioLaws.{ratios_width, ratios_below}
 use Rattle.char_lift.proofs.FaultLaws.{fault_at, rows_hold, rows_refused}
 use Rattle.char_lift.proofs.lifting.lift.Goals as goal

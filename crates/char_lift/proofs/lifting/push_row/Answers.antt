@@ -1,4 +1,4 @@
-use Rattle.char_lift.proofs.Names.{◌≡◌, ℕ, ◌+◌, ◌<◌, [], ◌∷◌, ◌++◌, length, None, sym, ap, ◌∙◌, subst, arith, lit<, err_from_is_err_and, first, first-zero, first_none-step, size, array_of, tabulated, lifted_value, place_fault, length-tabulated}
+use Rattle.char_lift.proofs.Names.{◌≡◌, ℕ, ◌<◌, [], ◌∷◌, ◌++◌, length, None, ap, subst, arith, lit<, err_from_is_err_and, first, first-zero, first_none-step, size, array_of, tabulated, lifted_value, place_fault, length-tabulated}
 use Rattle.char_lift.proofs.RowLaws.{value_added, rows_added}
 use Rattle.char_lift.proofs.FaultLaws.{refused_first}
 use Rattle.char_lift.proofs.lifting.push_row.Goals as goal

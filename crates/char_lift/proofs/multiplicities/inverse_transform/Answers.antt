@@ -1,4 +1,4 @@
-use Rattle.char_lift.proofs.Names.{◌≡◌, ℕ, ◌+◌, ◌-◌, ◌*◌, ◌%◌, ◌<◌, ◌≤◌, get_or, sym, ap, ◌∙◌, subst, arith, mul-le, slice_index, ap₂, conductor_bounds, power_modulo, modulus_bound, residues_fit, sum_of}
+use Rattle.char_lift.proofs.Names.{◌≡◌, ℕ, ◌+◌, ◌-◌, ◌*◌, ◌%◌, ◌<◌, ◌≤◌, sym, ap, ◌∙◌, arith, mul-le, slice_index, ap₂, conductor_bounds, power_modulo, modulus_bound, residues_fit, sum_of}
 use Rattle.char_lift.proofs.SumLaws.{sum-zero, sum-more}
 use Rattle.char_lift.proofs.TransformLaws.{transform_of_sum}
 use Rattle.char_lift.proofs.multiplicities.inverse_transform.Goals as goal

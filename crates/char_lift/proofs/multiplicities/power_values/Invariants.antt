@@ -1,4 +1,4 @@
-use Rattle.char_lift.proofs.Names.{◌≡◌, ◌%◌, ◌<◌, ◌≤◌, length, size, place_power, power_phase, tabulated, power_value}
+use Rattle.char_lift.proofs.Names.{◌≡◌, ◌%◌, ◌<◌, ◌≤◌, size, place_power, power_phase, tabulated, power_value}
 use Rattle.char_lift.proofs.multiplicities.power_values.Given as goal
 
 -- the values at the powers with lower exponents, and the place and the phase of this power

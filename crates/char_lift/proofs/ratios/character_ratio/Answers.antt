@@ -1,4 +1,4 @@
-use Rattle.char_lift.proofs.Names.{◌≡◌, ◌*◌, ◌%◌, ◌<◌, get_or, length, sym, ap, ◌∙◌, subst, arith, ap₂, size, rank, central_value, modulus_positive, regular_number, class_factor, length-tabulated, tabulated-at}
+use Rattle.char_lift.proofs.Names.{◌≡◌, ◌*◌, ◌%◌, ◌<◌, get_or, length, sym, ap, ◌∙◌, subst, arith, ap₂, size, central_value, modulus_positive, regular_number, class_factor, length-tabulated, tabulated-at}
 use Rattle.char_lift.proofs.RatioLaws.{number_below, factor_below}
 use Rattle.char_lift.proofs.ratios.character_ratio.Goals as goal
 

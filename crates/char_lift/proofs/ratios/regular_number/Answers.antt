@@ -1,4 +1,4 @@
-use Rattle.char_lift.proofs.Names.{◌≡◌, rules, Some, None, ap, ◌∙◌, ◌==◌, slice_index, unwrap_or, if◌then◌else◌, Table, representative_of}
+use Rattle.char_lift.proofs.Names.{rules, Some, None, ap, ◌∙◌, ◌==◌, slice_index, unwrap_or, if◌then◌else◌, Table, representative_of}
 use Rattle.char_lift.proofs.RatioLaws.{number_found}
 use Rattle.char_lift.proofs.ratios.regular_number.Goals as goal
 

@@ -1,4 +1,4 @@
-use Rattle.char_lift.proofs.Names.{◌≡◌, ap, arith, ModRing, modulus_positive}
+use Rattle.char_lift.proofs.Names.{ap, arith, ModRing, modulus_positive}
 use Rattle.char_lift.proofs.Residues.{inverse_or_zero}
 use Rattle.char_lift.proofs.root_powers.RootPowers.inverse.Goals as goal
 

@@ -1,4 +1,4 @@
-use Rattle.char_lift.proofs.Names.{◌≡◌, ◌+◌, ◌*◌, ◌%◌, ◌<◌, suc, sym, ap, ◌∙◌, subst, arith, mod-lt, conductor_bounds, power_modulo, modulus_over_one, modulus_positive, residues_fit, mod-eq_of_lt, ListsPowers}
+use Rattle.char_lift.proofs.Names.{◌≡◌, ◌*◌, ◌%◌, ◌<◌, suc, sym, ap, ◌∙◌, subst, arith, mod-lt, conductor_bounds, modulus_over_one, modulus_positive, residues_fit, mod-eq_of_lt, ListsPowers}
 use Rattle.char_lift.proofs.Residues.{power-zero, power-suc, no_powers, one_power_more}
 use Rattle.char_lift.proofs.root_powers.RootPowers.of.Goals as goal
 
