@@ -20,20 +20,20 @@ module _ {A : Type 0} (R : CommRing A) where
   -- columns, with "times a"
   abbrev pub columns : ℕ → (ℕ → ℕ → A) → LinearMap R (ℕ → A)
   columns w a = record {
-    plus = λ u v i. R.add (u i) (v i);
-    none = λ i. R.nought;
+    add = λ u v i. R.add (u i) (v i);
+    nought = λ i. R.nought;
     scale = λ c v i. R.mul c (v i);
-    move = λ v i. dot R w (a i) v;
-    plus_assoc = λ u v x. fun_ext (λ i. R.add_assoc (u i) (v i) (x i));
-    plus_comm = λ u v. fun_ext (λ i. R.add_comm (u i) (v i));
-    plus_none = λ v. fun_ext (λ i. R.add_nought (v i));
-    scale_plus = λ c u v. fun_ext (λ i. R.mul_add c (u i) (v i));
-    add_scale = λ c d v. fun_ext (λ i. add_mul R c d (v i));
-    mul_scale = λ c d v. fun_ext (λ i. R.mul_assoc c d (v i));
-    one_scale = λ v. fun_ext (λ i. one_mul R (v i));
-    nought_scale = λ v. fun_ext (λ i. nought_mul R (v i));
-    move_plus = λ u v. fun_ext (λ i. dot_plus w (a i) u v);
-    move_scale = λ c v. fun_ext (λ i. dot_scale w (a i) c v);
+    map = λ v i. dot R w (a i) v;
+    add_assoc = λ u v x. fun_ext (λ i. R.add_assoc (u i) (v i) (x i));
+    add_comm = λ u v. fun_ext (λ i. R.add_comm (u i) (v i));
+    add_nought = λ v. fun_ext (λ i. R.add_nought (v i));
+    scale_add = λ c u v. fun_ext (λ i. R.mul_add c (u i) (v i));
+    scale_sum = λ c d v. fun_ext (λ i. add_mul R c d (v i));
+    scale_product = λ c d v. fun_ext (λ i. R.mul_assoc c d (v i));
+    scale_one = λ v. fun_ext (λ i. one_mul R (v i));
+    scale_zero = λ v. fun_ext (λ i. nought_mul R (v i));
+    map_add = λ u v. fun_ext (λ i. dot_plus w (a i) u v);
+    map_scale = λ c v. fun_ext (λ i. dot_scale w (a i) c v);
   }
 
   -- the columns that are nought below w

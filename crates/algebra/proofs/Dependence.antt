@@ -19,24 +19,24 @@ module _ {A : Type 0} (n : ℕ) (c : ℕ → A) (d : A) where
 module _ {A V : Type 0} {R : CommRing A} (T : LinearMap R V) where
   -- c0 x0 + c1 x1 + .., over the places below n
   unfoldable pub combination : ℕ → (ℕ → A) → (ℕ → V) → V
-  combination zero c x = T.none
-  combination (suc n) c x = T.plus (combination n c x) (T.scale (c n) (x n))
+  combination zero c x = T.nought
+  combination (suc n) c x = T.add (combination n c x) (T.scale (c n) (x n))
 
   combination_ext : (n : ℕ) (c d : ℕ → A) (x : ℕ → V) → ((i : ℕ) → i < n → c i ≡ d i) → combination n c x ≡ combination n d x
   unfolding combination
   combination_ext zero c d x h = refl
   combination_ext (suc n) c d x h =
-      ap₂ T.plus (combination_ext n c d x (λ i k. h i (omega arith))) (ap (λ z. T.scale z (x n)) (h n (omega arith)))
+      ap₂ T.add (combination_ext n c d x (λ i k. h i (omega arith))) (ap (λ z. T.scale z (x n)) (h n (omega arith)))
 
-  combination_none : (n : ℕ) (x : ℕ → V) → combination n (λ i. R.nought) x ≡ T.none
+  combination_none : (n : ℕ) (x : ℕ → V) → combination n (λ i. R.nought) x ≡ T.nought
   unfolding combination
   combination_none zero x = refl
-  combination_none (suc n) x = ap₂ T.plus (combination_none n x) (T.nought_scale (x n)) ∙ T.plus_none T.none
+  combination_none (suc n) x = ap₂ T.add (combination_none n x) (T.scale_zero (x n)) ∙ T.add_nought T.nought
 
   combination_put : (n : ℕ) (c : ℕ → A) (d : A) (x : ℕ → V)
-      → combination (suc n) (put n c d) x ≡ T.plus (combination n c x) (T.scale d (x n))
+      → combination (suc n) (put n c d) x ≡ T.add (combination n c x) (T.scale d (x n))
   unfolding combination
-  combination_put n c d x = ap₂ T.plus (combination_ext n (put n c d) c x (put_below n c d)) (ap (λ z. T.scale z (x n)) (put_here n c d))
+  combination_put n c d x = ap₂ T.add (combination_ext n (put n c d) c x (put_below n c d)) (ap (λ z. T.scale z (x n)) (put_here n c d))
 
 -- a combination of the elements x at the places up to n, with coefficients that aren't all nought, lies in the part U
 pub record HasRelation {A V : Type 0} {R : CommRing A} (T : LinearMap R V) (U : V → Type 0) (n : ℕ) (x : ℕ → V) : Type 0 where
@@ -58,7 +58,7 @@ module _ {A V : Type 0} {R : CommRing A} (F : Field R) (T : LinearMap R V) where
     place_below = omega arith;
     there = λ e. F.one_is_not_nought (sym (put_here n (λ i. R.nought) R.one) ∙ e);
     inside = subst U
-        (sym (combination_put T n (λ i. R.nought) R.one x ∙ ap₂ T.plus (combination_none T n x) (T.one_scale (x n)) ∙ none_plus T (x n))) own;
+        (sym (combination_put T n (λ i. R.nought) R.one x ∙ ap₂ T.add (combination_none T n x) (T.scale_one (x n)) ∙ none_plus T (x n))) own;
   }
 
   -- where n elements reach everything from the part, some combination of n + 1 elements lies in it

@@ -19,7 +19,7 @@ unfoldable pub use Rattle.algebra.specs.Groups.{conj}
 pub use Rattle.algebra.specs.Involutions.{Involution}
 unfoldable pub use Rattle.algebra.specs.Matrices.{dot}
 pub use Rattle.algebra.specs.Modules.{IsStable, LinearMap, act, act_monic}
-unfoldable pub use Rattle.algebra.specs.Modules.{Reaches, horner}
+unfoldable pub use Rattle.algebra.specs.Modules.{Reaches, horner, iterate}
 unfoldable pub use Rattle.algebra.specs.Polynomials.{AllNought, quotient, value}
 pub use Rattle.algebra.specs.Roots.{RootOfUnity, Roots}
 pub use Rattle.algebra.specs.Structures.{CommRing}

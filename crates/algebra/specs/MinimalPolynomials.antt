@@ -14,7 +14,7 @@ module _ {A V : Type 0} {R : CommRing A} (T : LinearMap R V) (W : V → Type 0) 
 
   -- T v - a v lies in W
   abbrev pub IsScaled : A → V → Type 0
-  IsScaled a v = W (T.plus (T.move v) (T.scale (R.neg a) v))
+  IsScaled a v = W (T.add (T.map v) (T.scale (R.neg a) v))
 
   -- only what lies in W is multiplied by a, so that no vector is an eigenvector for a
   abbrev pub HasNoEigenvector : A → Type 0

@@ -23,10 +23,10 @@ module _ {A : Type 0} (R : CommRing A) where
       let T = columns R w a in
       let v : ℕ → A = λ l. matrix_power R w a s l j in
       let next : ℕ → A = λ l. matrix_power R w a (suc s) l j in
-      let moved : T.move v ≡ next = fun_ext (λ l. sym (power_at_suc w a s l j)) in
-      let rest : T.move (act T f v) i ≡ sum_below R (length f) (λ k. R.mul (get_or f k R.nought) (matrix_power R w a (suc s + k) i j)) =
-      ap (λ u. u i) (sym (horner_move T f v T.none) ∙ ap₂ (horner T f) moved (move_none T)) ∙ act_powers w a f (suc s) j i in
-      ap (λ u. u i) (horner_cons T c f v T.none)
+      let moved : T.map v ≡ next = fun_ext (λ l. sym (power_at_suc w a s l j)) in
+      let rest : T.map (act T f v) i ≡ sum_below R (length f) (λ k. R.mul (get_or f k R.nought) (matrix_power R w a (suc s + k) i j)) =
+      ap (λ u. u i) (sym (horner_move T f v T.nought) ∙ ap₂ (horner T f) moved (move_none T)) ∙ act_powers w a f (suc s) j i in
+      ap (λ u. u i) (horner_cons T c f v T.nought)
       ∙ ap₂ R.add (ap (λ k. R.mul c (matrix_power R w a k i j)) (sym (add-zero s))) rest
       ∙ ap (R.add (R.mul c (matrix_power R w a (s + 0) i j)))
       (sum_ext R (length f) (λ k. R.mul (get_or f k R.nought) (matrix_power R w a (suc s + k) i j)) (λ k. R.mul (get_or f k R.nought) (matrix_power R w a (s + suc k) i j))
