@@ -52,9 +52,10 @@ pub fn ring_laws()
 {}
 
 /// At each conductor K: x^K - 1 is the product of the Phi_d over the divisors d of K, and Phi_K is
-/// monic, of degree phi(K), with the listed lower coefficients. So it is with x^d - 1 and Phi_d at
-/// each divisor d of a conductor. What is looked up as the least conductor that is a multiple of m
-/// is that, and where nothing is found no conductor is a multiple of m.
+/// monic, of degree phi(K), with the listed lower coefficients. At each divisor d of a conductor too
+/// x^d - 1 is the product of the Phi_e over the divisors e of d, and Phi_d is monic. What is looked
+/// up as the least conductor that is a multiple of m is that, and where nothing is found no
+/// conductor is a multiple of m.
 pub fn conductor_laws()
     ensures factors { (k : ℕ) → is_conductor k ≡ true → divisor_product k k ≡ x_to_minus_one k }
     ensures monic { (k : ℕ) → is_conductor k ≡ true → leading (cyclotomic k) ≡ pos 1 }
