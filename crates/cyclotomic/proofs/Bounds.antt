@@ -110,3 +110,6 @@ sizes_overflow-one {n} u =
   where
     not_above : (a b : ℕ) → nat_lt b a ≡ not (nat_le a b)
     not_above a b = grind (arith, nat_tests)
+
+-- what the sizes of terms together say, for `fit_laws`
+pub ruleset size_rules = (sizes_overflow-front, sizes_overflow-sum_fits, sizes_overflow-one)

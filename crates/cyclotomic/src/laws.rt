@@ -21,6 +21,7 @@ pub fn division_laws()
 
 /// Taking the remainder by m respects sums, multiples and products, and a value is its own
 /// remainder.
+#[tactic(auto, using(crate::specs::Laws::Values::value_rules))]
 pub fn remainder_laws()
     ensures sum { (m p q : List ℤ) → value_of m (plus p q)
         ≡ value_sum (value_of m p) (value_of m q) }
@@ -32,6 +33,7 @@ pub fn remainder_laws()
 {}
 
 /// The values modulo m are a commutative ring with one.
+#[tactic(auto, using(crate::specs::Laws::Values::value_rules))]
 pub fn ring_laws()
     ensures sum_associative { (m : List ℤ) (u v w : Value (degree m))
         → value_sum (value_sum u v) w ≡ value_sum u (value_sum v w) }
@@ -56,6 +58,7 @@ pub fn ring_laws()
 /// x^d - 1 is the product of the Phi_e over the divisors e of d, and Phi_d is monic. What is looked
 /// up as the least conductor that is a multiple of m is that, and where nothing is found no
 /// conductor is a multiple of m.
+#[tactic(auto, using(crate::proofs::Checks::factored, crate::proofs::Checks::divisor_factored, crate::proofs::Checks::divisor_monic, crate::proofs::Checks::cyclotomic_is, crate::proofs::Fields::cyclotomic_monic, crate::proofs::Fields::cyclotomic_degree, crate::proofs::LeastConductor::none_is_none))]
 pub fn conductor_laws()
     ensures factors { (k : ℕ) → is_conductor k ≡ true → divisor_product k k ≡ x_to_minus_one k }
     ensures monic { (k : ℕ) → is_conductor k ≡ true → leading (cyclotomic k) ≡ pos 1 }
@@ -90,6 +93,7 @@ pub fn root_laws()
 /// The image under a number t prime to K respects the ring: it is the polynomial at x^t. It depends
 /// on t modulo K alone, and the images under numbers that are inverse modulo K undo each other.
 /// Conjugation is the image under K - 1.
+#[tactic(auto, using(crate::proofs::Inverses::galois_value, crate::proofs::Inverses::galois_product, crate::proofs::Inverses::galois_one, crate::proofs::Inverses::galois_root, crate::proofs::Inverses::galois_modulo, crate::proofs::Inverses::galois_inverse, crate::proofs::Inverses::conjugate_conjugate, crate::proofs::Inverses::root_conjugate))]
 pub fn image_laws()
     ensures value { (k : ℕ) → is_conductor k ≡ true → (t : ℕ) → IsGcd t k 1 → (p : List ℤ)
         → galois_image k t (cyclotomic_value k p) ≡ cyclotomic_value k (at_power t p) }
@@ -117,6 +121,7 @@ pub fn image_laws()
 /// A product of two values that fit together fits. Where the sizes of terms don't overflow
 /// together, the terms of a front and the terms in any order don't, and their sum fits. One term
 /// alone overflows exactly where it doesn't fit.
+#[tactic(auto, using(crate::proofs::Bounds::product_that_fits, crate::proofs::Bounds::size_rules))]
 pub fn fit_laws()
     ensures product { (k : ℕ) → is_conductor k ≡ true → (u v : CyclotomicValue k)
         → product_fits u v ≡ true → value_fits (value_product (cyclotomic k) u v) ≡ true }

@@ -33,6 +33,7 @@ pub fn inverse_laws()
 
 /// The order of an element is found from 1 to the size of the group, is the least number that gives the identity, and divides
 /// exactly those that do.
+#[tactic(auto, using(crate::proofs::Exponents::order_found, crate::proofs::Exponents::order_is_least, crate::proofs::Exponents::order_unique, crate::proofs::Exponents::order_at_most_size, crate::proofs::Exponents::order_divides, crate::proofs::Exponents::powers_differ))]
 pub fn order_laws()
     ensures found { OrderFound }
     ensures least { OrderIsLeast }
@@ -43,6 +44,7 @@ pub fn order_laws()
 {}
 
 /// Lagrange's theorem for the powers of an element: its order divides the size of the group, so that power is the identity.
+#[tactic(auto, using(crate::proofs::Exponents::lagrange, crate::proofs::Exponents::power_of_size))]
 pub fn lagrange()
     ensures order_divides_size { Lagrange }
     ensures power_of_size { PowerOfSize }
@@ -50,6 +52,7 @@ pub fn lagrange()
 
 /// The exponent is found from 1 to the size of the group, is the least number that gives the identity for each element, and divides
 /// exactly those that do; it is the least common multiple of the orders.
+#[tactic(auto, using(crate::proofs::Exponents::exponent_found, crate::proofs::Exponents::exponent_is_least, crate::proofs::Exponents::exponent_unique, crate::proofs::Exponents::exponent_at_most_size, crate::proofs::Exponents::exponent_divides, crate::proofs::Exponents::exponent_divides_size, crate::proofs::Exponents::order_divides_exponent, crate::proofs::Exponents::exponent_divides_multiple))]
 pub fn exponent_laws()
     ensures found { ExponentFound }
     ensures least { ExponentIsLeast }

@@ -189,3 +189,6 @@ module _ (m : List ℤ) where
   value_of-times p q =
       value_of-act (times p q) ∙ act-times (times_x m) p q (value_one m)
       ∙ ap (act (times_x m) p) (sym (value_of-act q)) ∙ sym (product-of p (value_of m q))
+
+-- the laws of values, for `remainder_laws` and `ring_laws`
+pub ruleset value_rules = (value_of-plus, value_of-scaled, value_of-times, value_of-itself, sum_assoc, sum_comm, sum_nought, sum_negative, product_assoc, product_comm, product_one, product_sum)
