@@ -13,6 +13,7 @@ pub fn sums_exchange()
 {}
 
 /// A constant factor goes into a finite sum.
+#[tactic(auto, using(crate::proofs::SumLaws::mul_sum))]
 pub fn factors_go_in()
     ensures { FactorsGoIn }
 {}
@@ -28,11 +29,13 @@ pub fn totals_reindex()
 {}
 
 /// A congruence carries over to two numbers with the same difference.
+#[tactic(auto, using(crate::proofs::CongruenceLaws::same_lin))]
 pub fn congruences_shift()
     ensures { CongruencesShift }
 {}
 
 /// The group algebra of a finite group, twisted by a normalised 2-cocycle, is associative.
+#[tactic(auto, using(crate::proofs::ConvolutionLaws::convolution_assoc))]
 pub fn convolution_associates()
     ensures { ConvolutionAssociates }
 {}
