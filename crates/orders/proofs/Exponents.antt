@@ -1,31 +1,27 @@
 -- The order and the exponent as found, and what they divide.
 use Prim.Native.Nat.{◌∣◌}
-use Rattle.std.proofs.Common.{◌≡◌, ◌≢◌, ℕ, ◌+◌, ◌-◌, ◌<◌, ◌≤◌, true, ◌↔◌, Some, refl, sym, ap, ◌∙◌, arith, le_antisymm, eq-eqb, eqb-true}
+use Rattle.std.proofs.Common.{◌≡◌, ◌≢◌, ℕ, ◌+◌, ◌-◌, ◌<◌, ◌≤◌, true, ◌↔◌, Some, inl, inr, refl, sym, ap, ◌∙◌, arith, le_antisymm, eq-eqb, eqb-true}
 use Rattle.scan.proofs.Places.{all_below-at, all_below-all}
 use Rattle.orders.specs.Group.{IsGroupBelow, power}
 use Rattle.orders.specs.Order.{IsOrder, IsExponent, order_of, exponent_of, least_from_one, is_unit_power, are_unit_powers}
-use Rattle.orders.proofs.Least.{IsLeast, IsLeast-le, IsScanned, scanned, divides_exactly}
+use Rattle.orders.proofs.Least.{IsScanned, scanned, divides_exactly}
 use Rattle.orders.proofs.Powers.{power_modulo, power_repeats}
-use Rattle.orders.proofs.Orders.{least_exists, least_is_order, order_divides_size}
+use Rattle.orders.proofs.Orders.{order_scanned, order_divides_size}
 
 module _ (n : ℕ) (op : ℕ → ℕ → ℕ) (unit : ℕ) (G : IsGroupBelow n op unit) where
-  order_scanned : (g : ℕ) → g < n → IsScanned n (is_unit_power op unit g) (order_of n op unit g)
-  unfolding order_of
-  order_scanned g p =
-      let (k, most, least) = least_exists n op unit G g p in
-      scanned n k (is_unit_power op unit g) least.positive most least.here
-
   -- the scan from 1 to n finds the order
   pub order_found : (g : ℕ) → g < n → least_from_one n (is_unit_power op unit g) ≡ Some (order_of n op unit g)
-  order_found g p = (order_scanned g p).found
+  order_found g p = (order_scanned n op unit G g p).found
 
   -- an order is at most the size of the group
   pub order_at_most_size : (g : ℕ) → g < n → order_of n op unit g ≤ n
-  order_at_most_size g p = (order_scanned g p).at_most
+  order_at_most_size g p = (order_scanned n op unit G g p).at_most
 
   -- the order is the least number from 1 on that gives the identity
   pub order_is_least : (g : ℕ) → g < n → IsOrder op unit g (order_of n op unit g)
-  order_is_least g p = least_is_order n op unit G g (order_of n op unit g) (order_scanned g p).least
+  order_is_least g p =
+      let scan = order_scanned n op unit G g p in
+      record { positive = scan.positive; gives_unit = eqb-true _ _ scan.here; least = λ j p e. scan.least j p (eq-eqb _ _ e) }
 
   -- no other number is that
   pub order_unique : (g k : ℕ) → g < n → IsOrder op unit g k → k ≡ order_of n op unit g
@@ -65,7 +61,11 @@ module _ (n : ℕ) (op : ℕ → ℕ → ℕ) (unit : ℕ) (G : IsGroupBelow n o
 
   exponent_scanned : IsScanned n (are_unit_powers n op unit) (exponent_of n op unit)
   unfolding exponent_of
-  exponent_scanned = scanned n n (are_unit_powers n op unit) (omega (arith, G.unit_below)) (omega arith) (are_unit_from n power_of_size)
+  exponent_scanned =
+      elim (scanned n (are_unit_powers n op unit)) [
+        | inl fail ↦ absurd (let wrong = fail n (omega (arith, G.unit_below)) (omega arith) in let right = are_unit_from n power_of_size in cc)
+        | inr found ↦ found
+      ]
 
   -- the scan from 1 to n finds the exponent
   pub exponent_found : least_from_one n (are_unit_powers n op unit) ≡ Some (exponent_of n op unit)
@@ -77,13 +77,11 @@ module _ (n : ℕ) (op : ℕ → ℕ → ℕ) (unit : ℕ) (G : IsGroupBelow n o
 
   -- the exponent is the least number from 1 on that gives the identity for each element
   pub exponent_is_least : IsExponent n op unit (exponent_of n op unit)
-  exponent_is_least =
-      let least : IsLeast (are_unit_powers n op unit) (exponent_of n op unit) = exponent_scanned.least in
-      record {
-        positive = least.positive;
-        gives_unit = λ g p. eqb-true _ _ (all_below-at n g (λ g. is_unit_power op unit g (exponent_of n op unit)) least.here p);
-        least = λ j p each. IsLeast-le (are_unit_powers n op unit) (exponent_of n op unit) j least p (are_unit_from j each);
-      }
+  exponent_is_least = record {
+    positive = exponent_scanned.positive;
+    gives_unit = λ g p. eqb-true _ _ (all_below-at n g (λ g. is_unit_power op unit g (exponent_of n op unit)) exponent_scanned.here p);
+    least = λ j p each. exponent_scanned.least j p (are_unit_from j each);
+  }
 
   -- no other number is that
   pub exponent_unique : (E : ℕ) → IsExponent n op unit E → E ≡ exponent_of n op unit

@@ -1,69 +1,54 @@
--- The least number from 1 on that passes a test, and the scans that find it.
+-- The least number from 1 on that passes a test, and the scan that finds it.
 use Prim.Native.Nat.{◌∣◌}
-use Rattle.std.proofs.Common.{◌≡◌, ℕ, zero, suc, ◌+◌, ◌%◌, ◌<◌, ◌≤◌, Bool, true, false, ◌⊎◌, ◌↔◌, Some, None, if◌then◌else◌, unwrap_or, refl, ap, ◌∙◌, inl, inr, arith, add-one, mod-lt, eq-or-lt_of_le, eq-zero-or-pos}
+use Rattle.std.proofs.Common.{◌≡◌, ℕ, zero, suc, ◌+◌, ◌%◌, ◌<◌, ◌≤◌, Bool, true, false, ◌⊎◌, ◌↔◌, Option, Some, None, if◌then◌else◌, unwrap_or, refl, inl, inr, arith, add-one, mod-lt, eq-zero-or-pos}
 use Rattle.std.proofs.lemmas.Nat.Gcd.{dvd_of_mod-eq-zero, mod-eq-zero_of_dvd}
 use Rattle.std.proofs.lemmas.Bool.{cases_lt}
-use Rattle.scan.proofs.Places.{first_found, first_none}
+use Rattle.scan.proofs.Places.{first_some, first_none-at}
+use Rattle.scan.proofs.Searches.{let_through, kept_out}
 use Rattle.orders.specs.Order.{least_from_one}
 
--- k is the least number from 1 on that passes
-pub record IsLeast (passes : ℕ → Bool) (k : ℕ) : Type 0 where
-  pub positive : 1 ≤ k
-  pub here : passes k ≡ true
-  pub before : (j : ℕ) → 1 ≤ j → j < k → passes j ≡ false
-
--- no other number that passes is less
-pub IsLeast-le : (passes : ℕ → Bool) (k j : ℕ) → IsLeast passes k → 1 ≤ j → passes j ≡ true → k ≤ j
-IsLeast-le passes k j least p e =
-    elim (cases_lt j k) [ inl less ↦ let wrong = least.before j p less in cc | inr most ↦ most ]
-
--- none up to m + 1 passes
-below_or_last : (m : ℕ) (passes : ℕ → Bool) → ((j : ℕ) → 1 ≤ j → j ≤ m → passes j ≡ false) → passes (suc m) ≡ false →
-    (j : ℕ) → 1 ≤ j → j ≤ suc m → passes j ≡ false
-below_or_last m passes fail e j p q =
-    elim (eq-or-lt_of_le q) [ inl same ↦ ap passes same ∙ e | inr less ↦ fail j p (omega arith) ]
-
--- the step of the search: m + 1 passes, or none up to it
-at_last : (m : ℕ) (passes : ℕ → Bool) → ((j : ℕ) → 1 ≤ j → j ≤ m → passes j ≡ false) → (b : Bool) → passes (suc m) ≡ b →
-    ((j : ℕ) → 1 ≤ j → j ≤ suc m → passes j ≡ false) ⊎ ((k : ℕ) × (k ≤ suc m) × IsLeast passes k)
-at_last m passes fail true e =
-    inr (suc m, omega arith, record { positive = omega arith; here = e; before = λ j p q. fail j p (omega arith) })
-at_last m passes fail false e = inl (below_or_last m passes fail e)
-
--- all numbers from 1 to m fail, or one of them is the least that passes
-pub least_or_none : (m : ℕ) (passes : ℕ → Bool) →
-    ((j : ℕ) → 1 ≤ j → j ≤ m → passes j ≡ false) ⊎ ((k : ℕ) × (k ≤ m) × IsLeast passes k)
-least_or_none zero passes = inl (λ j p q. absurd (omega arith))
-least_or_none (suc m) passes =
-    elim (least_or_none m passes) [
-      | inl fail ↦ at_last m passes fail (passes (suc m)) refl
-      | inr (k, most, least) ↦ inr (k, omega arith, least)
-    ]
-
--- the scan finds the least number that passes, if it is at most n
-pub least_found : (n : ℕ) (passes : ℕ → Bool) (k : ℕ) → IsLeast passes k → k ≤ n → least_from_one n passes ≡ Some k
-least_found n passes zero least most = absurd (omega (arith, least.positive))
-least_found n passes (suc i) least most =
-    first_found n i (λ j. if passes (j + 1) then Some (j + 1) else None) (suc i) (omega arith)
-    (first_none i (λ j. if passes (j + 1) then Some (j + 1) else None)
-    (λ j p. let fails : passes (suc j) ≡ false = least.before (suc j) (omega arith) (omega arith) in rw (add-one, fails)))
-    (rw (add-one, least.here))
-
--- k is what the scan finds: it is at most n, and the least that passes
+-- k is what the scan finds: it is at most n, and the least number from 1 on that passes
 pub record IsScanned (n : ℕ) (passes : ℕ → Bool) (k : ℕ) : Type 0 where
   pub found : least_from_one n passes ≡ Some k
+  pub positive : 1 ≤ k
   pub at_most : k ≤ n
-  pub least : IsLeast passes k
+  pub here : passes k ≡ true
+  pub least : (j : ℕ) → 1 ≤ j → passes j ≡ true → k ≤ j
 
--- where a number from 1 to n passes, the scan finds the least
-pub scanned : (n j : ℕ) (passes : ℕ → Bool) → 1 ≤ j → j ≤ n → passes j ≡ true → IsScanned n passes (unwrap_or (least_from_one n passes) 0)
-scanned n j passes positive below here =
-    elim (least_or_none n passes) [
-      | inl fail ↦ absurd (let wrong = fail j positive below in cc)
-      | inr (k, most, least) ↦
-          let e = least_found n passes k least most in
-          rw e (record { found = e; at_most = most; least = least })
-    ]
+module _ (n : ℕ) (passes : ℕ → Bool) where
+  -- a number, if it passes
+  abbrev at : ℕ → Option ℕ
+  at i = if passes (i + 1) then Some (i + 1) else None
+
+  -- where nothing is found before m, no number from 1 to m passes
+  fail_to : (m : ℕ) → ((i : ℕ) → i < m → at i ≡ None) → (j : ℕ) → 1 ≤ j → j ≤ m → passes j ≡ false
+  fail_to m none zero p q = absurd (omega arith)
+  fail_to m none (suc i) p q = kept_out (passes (suc i)) (suc i) (rw add-one at (none i (omega arith)))
+
+  scan_found : (k : ℕ) → least_from_one n passes ≡ Some k → IsScanned n passes k
+  scan_found k found =
+      let f = first_some n at k found in
+      let (here, same) = let_through (passes (f.place + 1)) (f.place + 1) k f.here in
+      let below : f.place < n = f.below in
+      record {
+        found = found;
+        positive = omega arith;
+        at_most = omega arith;
+        here = rw (← same) here;
+        least = λ j p e. elim (cases_lt j k) [
+          | inl less ↦ absurd (let fails = fail_to f.place f.before j p (omega arith) in cc)
+          | inr most ↦ most
+        ];
+      }
+
+  -- all numbers from 1 to n fail, or the scan finds the least that passes
+  pub scanned : ((j : ℕ) → 1 ≤ j → j ≤ n → passes j ≡ false) ⊎ IsScanned n passes (unwrap_or (least_from_one n passes) 0)
+  scanned = by (least_from_one n passes) refl
+    where
+      by : (o : Option ℕ) → least_from_one n passes ≡ o
+          → ((j : ℕ) → 1 ≤ j → j ≤ n → passes j ≡ false) ⊎ IsScanned n passes (unwrap_or (least_from_one n passes) 0)
+      by (Some k) e = inr (rw e (scan_found k e))
+      by None e = inl (fail_to n (λ i p. first_none-at n i at e p))
 
 -- the multiples of k: a fact that holds at 0, and at a number exactly where it holds at its remainder modulo k, and at no number from 1
 -- on before k

@@ -1,13 +1,13 @@
 -- The order of an element: it exists, it divides what gives the identity, and the size of the group.
-use Rattle.std.proofs.Common.{◌≡◌, ◌≢◌, ℕ, zero, suc, ◌+◌, ◌-◌, ◌*◌, ◌%◌, ◌<◌, ◌≤◌, Bool, true, false, leb, refl, sym, ap, ◌∙◌, inl, inr, arith, mod-lt, mul-one, eq-or-lt_of_le, le_of_suc-le-suc, le_antisymm, eq-eqb, eqb-true, leb-true, le-leb}
+use Rattle.std.proofs.Common.{◌≡◌, ◌≢◌, ℕ, zero, suc, ◌+◌, ◌-◌, ◌*◌, ◌%◌, ◌<◌, ◌≤◌, Bool, true, false, leb, refl, sym, ap, ◌∙◌, inl, inr, arith, mod-lt, mul-one, eq-or-lt_of_le, le_of_suc-le-suc, le_antisymm, eq-eqb, leb-true, le-leb}
 use Prim.Native.Nat.{◌∣◌}
 use Rattle.std.proofs.lemmas.Bool.{cases_lt, cases_order}
 use Rattle.scan.specs.First.{all_below}
 use Rattle.scan.proofs.Places.{all_below-at, all_below-all}
 use Rattle.orders.specs.Group.{IsGroupBelow, power}
-use Rattle.orders.specs.Order.{IsOrder, is_unit_power}
+use Rattle.orders.specs.Order.{IsOrder, order_of, is_unit_power}
 use Rattle.orders.proofs.Sums.{total, pick, total_same, total_constant, total_exchange, total_at, total_permuted, pigeonhole}
-use Rattle.orders.proofs.Least.{IsLeast, IsLeast-le, least_or_none}
+use Rattle.orders.proofs.Least.{IsScanned, scanned}
 use Rattle.orders.proofs.Powers.{power_below, power_add, power_modulo, power_repeats, cancel_left}
 
 -- at most each value up to k
@@ -47,21 +47,14 @@ module _ (n : ℕ) (op : ℕ → ℕ → ℕ) (unit : ℕ) (G : IsGroupBelow n o
       let right : is_unit_power op unit g d ≡ true = eq-eqb _ _ gives in
       cc
 
-  -- some power from 1 to n is the identity, and a least one
-  pub least_exists : (g : ℕ) → g < n → (k : ℕ) × (k ≤ n) × IsLeast (is_unit_power op unit g) k
-  least_exists g p =
-      elim (least_or_none n (is_unit_power op unit g)) [
+  -- the scan finds a power from 1 to n that is the identity
+  pub order_scanned : (g : ℕ) → g < n → IsScanned n (is_unit_power op unit g) (order_of n op unit g)
+  unfolding order_of
+  order_scanned g p =
+      elim (scanned n (is_unit_power op unit g)) [
         | inl fail ↦ absurd (pigeonhole n (power op unit g) (λ i q. power_below n op unit G g i p) (fails_apart g p fail))
         | inr found ↦ found
       ]
-
-  -- the least number that passes the test is an order
-  pub least_is_order : (g k : ℕ) → IsLeast (is_unit_power op unit g) k → IsOrder op unit g k
-  least_is_order g k least = record {
-    positive = least.positive;
-    gives_unit = eqb-true _ _ least.here;
-    least = λ j p e. IsLeast-le (is_unit_power op unit g) k j least p (eq-eqb _ _ e);
-  }
 
   module _ (g k : ℕ) (below : g < n) (order : IsOrder op unit g k) where
     -- x times the i-th power

@@ -1,5 +1,6 @@
 -- Sums over the numbers below a bound, and what a double count gives.
-use Rattle.std.proofs.Common.{◌≡◌, ◌≢◌, ℕ, zero, suc, ◌+◌, ◌*◌, ◌<◌, ◌≤◌, Bool, true, false, cond, eqb, ◌⊎◌, refl, sym, ap, ap₂, ◌∙◌, inl, inr, arith, eq-eqb, ne_eqb, eqb-true, eq-or-lt_of_le}
+use Rattle.std.proofs.Common.{◌≡◌, ◌≢◌, ℕ, zero, suc, ◌+◌, ◌*◌, ◌<◌, Bool, cond, eqb, ◌⊎◌, refl, sym, ap, ap₂, ◌∙◌, inl, inr, arith, eq-eqb, ne_eqb, eq-or-lt_of_le}
+use Rattle.std.proofs.lemmas.Bool.Decides.{nat_tests}
 
 -- f 0 + .. + f (n - 1)
 unfoldable pub total : ℕ → (ℕ → ℕ) → ℕ
@@ -36,15 +37,6 @@ pub total_constant : (n c : ℕ) → total n (λ i. c) ≡ n * c
 unfolding total
 total_constant zero c = omega arith
 total_constant (suc n) c = let before = total_constant n c in omega arith
-
--- terms that are at most others have a sum that is at most theirs
-pub total_le : (n : ℕ) (f g : ℕ → ℕ) → ((i : ℕ) → i < n → f i ≤ g i) → total n f ≤ total n g
-unfolding total
-total_le zero f g h = omega arith
-total_le (suc n) f g h =
-    let before : total n f ≤ total n g = total_le n f g (λ i p. h i (omega arith)) in
-    let here : f n ≤ g n = h n (omega arith) in
-    omega arith
 
 -- the rows' sums and the columns' sums add up to the same
 pub total_exchange : (n m : ℕ) (f : ℕ → ℕ → ℕ) → total n (λ i. total m (f i)) ≡ total m (λ j. total n (λ i. f i j))
@@ -99,27 +91,13 @@ total_permuted n f to from to_below from_below back forth =
         (λ x q d. pick_other y (to x) (f y) (λ e. d (sym (back x q) ∙ ap from (sym e))))
         ∙ pick_same y (to (from y)) (f y) (sym (forth y p))
 
--- one more place, where the places before it count at most 1, and nothing if it counts
-one_more : {before : ℕ} (b : Bool) → (b ≡ true → before ≡ 0) → before ≤ 1 → before + pick b 1 ≤ 1
-one_more true none most = rw (none refl) (omega arith)
-one_more false none most = omega arith
-
--- at most one of m numbers that differ is y
-at_most_one : (m : ℕ) (f : ℕ → ℕ) (y : ℕ) → ((i j : ℕ) → i < j → j < m → f i ≢ f j) → total m (λ i. pick (eqb y (f i)) 1) ≤ 1
-unfolding total
-at_most_one zero f y differ = omega arith
-at_most_one (suc m) f y differ =
-    one_more (eqb y (f m))
-    (λ e. total_nought m (λ i. pick (eqb y (f i)) 1)
-    (λ i p. pick_other y (f i) 1 (λ s. differ i m p (omega arith) (sym s ∙ eqb-true y (f m) e))))
-    (at_most_one m f y (λ i j p q. differ i j p (omega arith)))
-
 -- of n + 1 numbers below n two are the same
 pub pigeonhole : (n : ℕ) (f : ℕ → ℕ) → ((i : ℕ) → i < suc n → f i < n) → ((i j : ℕ) → i < j → j < suc n → f i ≢ f j) → ⊥
-pigeonhole n f below differ =
-    let rows : suc n * 1 ≡ total (suc n) (λ i. total n (λ y. pick (eqb y (f i)) 1)) =
-    sym (total_constant (suc n) 1)
-    ∙ total_same (suc n) (λ i. 1) (λ i. total n (λ y. pick (eqb y (f i)) 1)) (λ i p. sym (total_pick n (λ y. 1) (f i) (below i p))) in
-    let columns : total n (λ y. total (suc n) (λ i. pick (eqb y (f i)) 1)) ≤ total n (λ y. 1) =
-    total_le n (λ y. total (suc n) (λ i. pick (eqb y (f i)) 1)) (λ y. 1) (λ y p. at_most_one (suc n) f y differ) in
-    omega (arith, rows, columns, total_exchange (suc n) n (λ i y. pick (eqb y (f i)) 1), total_constant n 1)
+pigeonhole zero f below differ = absurd (omega (arith, below 0 (omega arith)))
+pigeonhole (suc n) f below differ =
+    -- the last number stands where n stood
+    let moved : ℕ → ℕ = λ i. cond (eqb (f i) n) (f (suc n)) (f i) in
+    pigeonhole n moved
+    (λ i p. grind (arith, nat_tests, below i (omega arith), below (suc n) (omega arith), differ i (suc n) (omega arith) (omega arith)))
+    (λ i j p q e. grind
+    (arith, nat_tests, e, differ i j p (omega arith), differ i (suc n) (omega arith) (omega arith), differ j (suc n) (omega arith) (omega arith)))
