@@ -1,7 +1,7 @@
 -- The order of an element: it exists, it divides what gives the identity, and the size of the group.
-use Rattle.std.proofs.Common.{◌≡◌, ◌≢◌, ℕ, zero, suc, ◌+◌, ◌-◌, ◌*◌, ◌%◌, ◌<◌, ◌≤◌, Bool, true, false, leb, refl, sym, ap, ◌∙◌, inl, inr, arith, mod-lt, mul-one, eq-or-lt_of_le, le_of_suc-le-suc, le_antisymm, eq-eqb, leb-true, le-leb}
+use Rattle.std.proofs.Common.{◌≡◌, ◌≢◌, ℕ, zero, suc, ◌+◌, ◌-◌, ◌*◌, ◌%◌, ◌<◌, ◌≤◌, Bool, true, false, leb, refl, sym, ap, ◌∙◌, inl, inr, arith, mod-lt, mul-one, le_antisymm, eq-eqb, leb-true, le-leb}
 use Prim.Native.Nat.{◌∣◌}
-use Rattle.std.proofs.lemmas.Bool.{cases_lt, cases_order}
+use Rattle.std.proofs.lemmas.Bool.{cases_eq, cases_lt, cases_order}
 use Rattle.scan.specs.First.{all_below}
 use Rattle.scan.proofs.Places.{all_below-at, all_below-all}
 use Rattle.orders.specs.Group.{IsGroupBelow, power}
@@ -10,19 +10,14 @@ use Rattle.orders.proofs.Sums.{total, pick, total_same, total_constant, total_ex
 use Rattle.orders.proofs.Least.{IsScanned, scanned}
 use Rattle.orders.proofs.Powers.{power_below, power_add, power_modulo, power_repeats, cancel_left}
 
--- at most each value up to k
-below_or_last : (k : ℕ) (f : ℕ → ℕ) (v : ℕ) → v ≤ f k → ((j : ℕ) → j < k → v ≤ f j) → (j : ℕ) → j < suc k → v ≤ f j
-below_or_last k f v here before j p =
-    elim (eq-or-lt_of_le (le_of_suc-le-suc p)) [ inl same ↦ rw same here | inr less ↦ before j less ]
-
 -- the least value of f at the numbers up to k
 least_up_to : (k : ℕ) (f : ℕ → ℕ) → (i : ℕ) × (i < suc k) × ((j : ℕ) → j < suc k → f i ≤ f j)
 least_up_to zero f = (0, omega arith, λ j p. let e : j ≡ 0 = omega arith in rw e (omega arith))
 least_up_to (suc k) f =
     let (i, below, least) = least_up_to k f in
     elim (cases_lt (f (suc k)) (f i)) [
-      | inl less ↦ (suc k, omega arith, below_or_last (suc k) f (f (suc k)) (omega arith) (λ j p. omega (arith, least j p)))
-      | inr most ↦ (i, omega arith, below_or_last (suc k) f (f i) most least)
+      | inl less ↦ (suc k, omega arith, λ j p. elim (cases_eq j (suc k)) [ inl e ↦ rw e (omega arith) | inr d ↦ omega (arith, least j (omega arith)) ])
+      | inr most ↦ (i, omega arith, λ j p. elim (cases_eq j (suc k)) [ inl e ↦ rw e most | inr d ↦ least j (omega arith) ])
     ]
 
 -- the least value of f below k
@@ -40,11 +35,10 @@ module _ (n : ℕ) (op : ℕ → ℕ → ℕ) (unit : ℕ) (G : IsGroupBelow n o
   fails_apart : (g : ℕ) → g < n → ((j : ℕ) → 1 ≤ j → j ≤ n → is_unit_power op unit g j ≡ false) →
       (i j : ℕ) → i < j → j < suc n → power op unit g i ≢ power op unit g j
   fails_apart g p fail i j less most e =
-      let d : ℕ = j - i in
-      let whole : j ≡ i + d = omega arith in
-      let gives : power op unit g d ≡ unit = power_repeats n op unit G g i d p (e ∙ ap (power op unit g) whole) in
-      let wrong : is_unit_power op unit g d ≡ false = fail d (omega arith) (omega arith) in
-      let right : is_unit_power op unit g d ≡ true = eq-eqb _ _ gives in
+      let whole : j ≡ i + (j - i) = omega arith in
+      let gives = power_repeats n op unit G g i (j - i) p (e ∙ ap (power op unit g) whole) in
+      let right = eq-eqb _ _ gives in
+      let wrong = fail (j - i) (omega arith) (omega arith) in
       cc
 
   -- the scan finds a power from 1 to n that is the identity
@@ -87,13 +81,10 @@ module _ (n : ℕ) (op : ℕ → ℕ → ℕ) (unit : ℕ) (G : IsGroupBelow n o
     walks_differ : (x i j : ℕ) → x < n → i < j → j < k → walk x i ≢ walk x j
     unfolding walk
     walks_differ x i j p less last e =
-        let d : ℕ = j - i in
-        let whole : j ≡ i + d = omega arith in
+        let whole : j ≡ i + (j - i) = omega arith in
         let same : power op unit g i ≡ power op unit g j =
         cancel_left n op unit G _ _ x (power_below n op unit G g i below) (power_below n op unit G g j below) p e in
-        let gives : power op unit g d ≡ unit = power_repeats n op unit G g i d below (same ∙ ap (power op unit g) whole) in
-        let most : k ≤ d = order.least d (omega arith) gives in
-        omega arith
+        omega (arith, order.least (j - i) (omega arith) (power_repeats n op unit G g i (j - i) below (same ∙ ap (power op unit g) whole)))
 
     -- from x no number is reached by two steps below the order
     walk_once : (x i j : ℕ) → x < n → i < k → j < k → walk x i ≡ walk x j → i ≡ j
@@ -112,10 +103,7 @@ module _ (n : ℕ) (op : ℕ → ℕ → ℕ) (unit : ℕ) (G : IsGroupBelow n o
     is_first_le : (x : ℕ) → is_first x ≡ true → (j : ℕ) → x ≤ walk x j
     unfolding is_first
     is_first_le x e j =
-        let positive : 0 < k = order.positive in
-        let near : x ≤ walk x (j % k) =
-        leb-true _ _ (all_below-at k (j % k) (λ i. leb x (walk x i)) e (mod-lt j positive)) in
-        rw (walk_modulo x j) at near
+        rw (walk_modulo x j) at (leb-true _ _ (all_below-at k (j % k) (λ i. leb x (walk x i)) e (mod-lt j order.positive)))
 
     -- and when it holds
     is_first_from : (x : ℕ) → ((j : ℕ) → x ≤ walk x j) → is_first x ≡ true
@@ -125,9 +113,8 @@ module _ (n : ℕ) (op : ℕ → ℕ → ℕ) (unit : ℕ) (G : IsGroupBelow n o
     -- the step that leads to the least number reached from x
     least_step : (x : ℕ) → x < n → (i : ℕ) × (i < k) × ((j : ℕ) → walk x i ≤ walk x j)
     least_step x p =
-        let positive : 0 < k = order.positive in
-        let (i, q, least) = least_value k (walk x) positive in
-        (i, q, λ j. rw (walk_modulo x j) at (least (j % k) (mod-lt j positive)))
+        let (i, q, least) = least_value k (walk x) order.positive in
+        (i, q, λ j. rw (walk_modulo x j) at (least (j % k) (mod-lt j order.positive)))
 
     -- a step that leads to a least number is the step to the least number reached from x
     same_step : (x i j : ℕ) → x < n → i < k → j < k → ((h : ℕ) → walk x i ≤ walk x h) → is_first (walk x j) ≡ true → j ≡ i

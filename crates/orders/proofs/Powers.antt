@@ -43,9 +43,7 @@ module _ (n : ℕ) (op : ℕ → ℕ → ℕ) (unit : ℕ) (G : IsGroupBelow n o
   -- an inverse on the right is an inverse on the left
   pub right_inverse_left : (g h : ℕ) → g < n → h < n → op g h ≡ unit → op h g ≡ unit
   right_inverse_left g h p q e =
-      let k = (G.right_inverse h q).0 in
-      let r : k < n = (G.right_inverse h q).1 in
-      let d : op h k ≡ unit = (G.right_inverse h q).2 in
+      let (k, r, d) = G.right_inverse h q in
       sym (undo_right (op h g) h k (G.closed h g q p) q r d)
       ∙ ap (λ x. op x k) (G.associative h g h q p q ∙ ap (λ x. op h x) e ∙ G.unit_right h q)
       ∙ d
@@ -53,9 +51,7 @@ module _ (n : ℕ) (op : ℕ → ℕ → ℕ) (unit : ℕ) (G : IsGroupBelow n o
   -- a factor on the right cancels
   pub cancel_right : (x y g : ℕ) → x < n → y < n → g < n → op x g ≡ op y g → x ≡ y
   cancel_right x y g p q r e =
-      let h = (G.right_inverse g r).0 in
-      let s : h < n = (G.right_inverse g r).1 in
-      let d : op g h ≡ unit = (G.right_inverse g r).2 in
+      let (h, s, d) = G.right_inverse g r in
       sym (undo_right x g h p r s d) ∙ ap (λ z. op z h) e ∙ undo_right y g h q r s d
 
   -- h undoes g from the left
@@ -65,10 +61,9 @@ module _ (n : ℕ) (op : ℕ → ℕ → ℕ) (unit : ℕ) (G : IsGroupBelow n o
   -- a factor on the left cancels
   pub cancel_left : (x y g : ℕ) → x < n → y < n → g < n → op g x ≡ op g y → x ≡ y
   cancel_left x y g p q r e =
-      let h = (G.right_inverse g r).0 in
-      let s : h < n = (G.right_inverse g r).1 in
-      let d : op h g ≡ unit = right_inverse_left g h r s (G.right_inverse g r).2 in
-      sym (undo_left x g h p r s d) ∙ ap (λ z. op h z) e ∙ undo_left y g h q r s d
+      let (h, s, d) = G.right_inverse g r in
+      let left = right_inverse_left g h r s d in
+      sym (undo_left x g h p r s left) ∙ ap (op h) e ∙ undo_left y g h q r s left
 
   -- an element has one inverse
   pub inverse_unique : (g h k : ℕ) → g < n → h < n → k < n → op g h ≡ unit → op g k ≡ unit → h ≡ k

@@ -1,5 +1,6 @@
 -- Sums over the numbers below a bound, and what a double count gives.
-use Rattle.std.proofs.Common.{◌≡◌, ◌≢◌, ℕ, zero, suc, ◌+◌, ◌*◌, ◌<◌, Bool, cond, eqb, ◌⊎◌, refl, sym, ap, ap₂, ◌∙◌, inl, inr, arith, eq-eqb, ne_eqb, eq-or-lt_of_le}
+use Rattle.std.proofs.Common.{◌≡◌, ◌≢◌, ℕ, zero, suc, ◌+◌, ◌*◌, ◌<◌, Bool, cond, eqb, refl, sym, ap, ap₂, ◌∙◌, inl, inr, arith, eq-eqb, ne_eqb}
+use Rattle.std.proofs.lemmas.Bool.{cases_eq}
 use Rattle.std.proofs.lemmas.Bool.Decides.{nat_tests}
 
 -- f 0 + .. + f (n - 1)
@@ -21,22 +22,19 @@ total_same (suc n) f g h = ap₂ (λ a b. a + b) (total_same n f g (λ i p. h i 
 pub total_nought : (n : ℕ) (f : ℕ → ℕ) → ((i : ℕ) → i < n → f i ≡ 0) → total n f ≡ 0
 unfolding total
 total_nought zero f h = refl
-total_nought (suc n) f h =
-    let before : total n f ≡ 0 = total_nought n f (λ i p. h i (omega arith)) in
-    let here : f n ≡ 0 = h n (omega arith) in
-    omega arith
+total_nought (suc n) f h = omega (arith, total_nought n f (λ i p. h i (omega arith)), h n (omega arith))
 
 -- the sum of sums, term by term
 pub total_add : (n : ℕ) (f g : ℕ → ℕ) → total n (λ i. f i + g i) ≡ total n f + total n g
 unfolding total
 total_add zero f g = refl
-total_add (suc n) f g = let before = total_add n f g in omega arith
+total_add (suc n) f g = omega (arith, total_add n f g)
 
 -- n terms c
 pub total_constant : (n c : ℕ) → total n (λ i. c) ≡ n * c
 unfolding total
 total_constant zero c = omega arith
-total_constant (suc n) c = let before = total_constant n c in omega arith
+total_constant (suc n) c = omega (arith, total_constant n c)
 
 -- the rows' sums and the columns' sums add up to the same
 pub total_exchange : (n m : ℕ) (f : ℕ → ℕ → ℕ) → total n (λ i. total m (f i)) ≡ total m (λ j. total n (λ i. f i j))
@@ -50,19 +48,10 @@ pub total_at : (n : ℕ) (f : ℕ → ℕ) (p : ℕ) → p < n → ((i : ℕ) �
 unfolding total
 total_at zero f p lt others = absurd (omega arith)
 total_at (suc n) f p lt others =
-    elim (place p n lt) [
-      | inl same ↦
-          let before : total n f ≡ 0 = total_nought n f (λ i q. others i (omega arith) (λ e. omega arith)) in
-          let here : f p ≡ f n = ap f same in
-          omega arith
-      | inr less ↦
-          let before : total n f ≡ f p = total_at n f p less (λ i q d. others i (omega arith) d) in
-          let here : f n ≡ 0 = others n (omega arith) (λ e. omega arith) in
-          omega arith
+    elim (cases_eq p n) [
+      | inl same ↦ omega (arith, total_nought n f (λ i q. others i (omega arith) (λ e. omega arith)), ap f same)
+      | inr apart ↦ omega (arith, total_at n f p (omega arith) (λ i q d. others i (omega arith) d), others n (omega arith) (λ e. omega arith))
     ]
-  where
-    place : (p n : ℕ) → p < suc n → (p ≡ n) ⊎ (p < n)
-    place p n lt = eq-or-lt_of_le (omega arith)
 
 -- the value is picked where the numbers agree
 pick_same : (x y v : ℕ) → x ≡ y → pick (eqb x y) v ≡ v

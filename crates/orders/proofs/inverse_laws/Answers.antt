@@ -1,4 +1,3 @@
--- The laws of inverses, each by its lemma.
 use Rattle.orders.proofs.Powers.{right_inverse_left, inverse_unique, cancel_left, cancel_right}
 use Rattle.orders.proofs.inverse_laws.Goals as goal
 

@@ -1,4 +1,3 @@
--- The laws of powers, each by its lemma.
 use Rattle.orders.proofs.Powers.{power_below, power_one, power_add, power_product, power_unit, power_modulo}
 use Rattle.orders.proofs.power_laws.Goals as goal
 
