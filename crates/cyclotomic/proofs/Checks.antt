@@ -1,8 +1,10 @@
 -- Facts about each entry of the table of conductors, by tests that are computed.
 use Rattle.cyclotomic.proofs.Names.{size_of, nat_le, ◌≡◌, ℕ, suc, ◌*◌, ◌%◌, ◌/◌, ◌<◌, List, [], ◌∷◌, ◌++◌, length, Bool, true, refl, sym, ap, ◌∙◌, replicate, eqb-true, eq-eqb, ◌≢◌, ne_eqb, cases_lt, arith, not, ◌||◌, inl, inr, ltb-true, ℤ, pos, ◌==◌, nat_lt, list_all, list_any, mod_self, mod-eq_of_lt, all_below, zeros, plus, scaled, times, x_to, at_power, leading, lower, cancelled, division, quotient, remainder, divided_by_divisors, next_cyclotomic, cyclotomics, cyclotomic, divisor_product, x_to_minus_one, conductors, reductions, reduction_of, is_conductor, phi_of}
+use Rattle.std.specs.Cmp.{signed_Decides}
+use Rattle.std.specs.Ordering.{int_eq}
 use Rattle.cyclotomic.proofs.Gcd.{euclid}
 use Rattle.cyclotomic.proofs.Rows.{rows_from, power_rows, sum_of_rows}
-use Rattle.cyclotomic.proofs.Tests.{same_number, same_number_means, same_list, same_list_means, all_entries, at_each_conductor, any_below, any_below_means, all_below_means}
+use Rattle.cyclotomic.proofs.Tests.{same_list, same_list_means, all_entries, at_each_conductor, any_below, any_below_means, all_below_means}
 
 -- Phi_K, as it is listed
 abbrev pub listed : ℕ → List ℤ
@@ -15,7 +17,7 @@ same_at_each left right all k entry = same_list_means (left k) (right k) (at_eac
 
 -- the listed reductions are Phi_K,
 all_listed : list_all (λ (entry : ℕ × ℕ). same_list (cyclotomic entry.0) (listed entry.0)) conductors ≡ true
-unfolding same_list same_number plus scaled times leading lower x_to cancelled division quotient remainder divided_by_divisors next_cyclotomic cyclotomics cyclotomic conductors reductions reduction_of
+unfolding plus scaled times leading lower x_to cancelled division quotient remainder divided_by_divisors next_cyclotomic cyclotomics cyclotomic conductors reductions reduction_of
 all_listed = refl
 
 pub cyclotomic_is : (k : ℕ) → is_conductor k ≡ true → cyclotomic k ≡ listed k
@@ -23,7 +25,7 @@ cyclotomic_is = same_at_each cyclotomic listed all_listed
 
 -- and x^K is 1
 all_periods : list_all (λ (entry : ℕ × ℕ). same_list (remainder (listed entry.0) (x_to entry.0)) (remainder (listed entry.0) (pos 1 ∷ []))) conductors ≡ true
-unfolding same_list same_number plus scaled leading lower x_to cancelled division remainder conductors reductions reduction_of
+unfolding plus scaled leading lower x_to cancelled division remainder conductors reductions reduction_of
 all_periods = refl
 
 pub listed_period : (k : ℕ) → is_conductor k ≡ true → remainder (listed k) (x_to k) ≡ remainder (listed k) (pos 1 ∷ [])
@@ -49,14 +51,14 @@ unfoldable pub head_of : List ℤ → ℤ
 head_of [] = pos 0
 head_of (a ∷ p) = a
 
-all_ones : list_all (λ (entry : ℕ × ℕ). same_number (head_of (remainder (listed entry.0) (pos 1 ∷ []))) (pos 1)) conductors ≡ true
-unfolding head_of same_number plus scaled leading lower cancelled division remainder conductors reductions reduction_of
+all_ones : list_all (λ (entry : ℕ × ℕ). int_eq (head_of (remainder (listed entry.0) (pos 1 ∷ []))) (pos 1)) conductors ≡ true
+unfolding head_of plus scaled leading lower cancelled division remainder conductors reductions reduction_of
 all_ones = refl
 
 pub one_is_one : (k : ℕ) → is_conductor k ≡ true → head_of (remainder (listed k) (pos 1 ∷ [])) ≡ pos 1
 one_is_one k entry =
-    same_number_means (head_of (remainder (listed k) (pos 1 ∷ []))) (pos 1)
-    (at_each_conductor (λ j. same_number (head_of (remainder (listed j) (pos 1 ∷ []))) (pos 1)) all_ones k entry)
+    (signed_Decides (head_of (remainder (listed k) (pos 1 ∷ []))) (pos 1)).0
+    (at_each_conductor (λ j. int_eq (head_of (remainder (listed j) (pos 1 ∷ []))) (pos 1)) all_ones k entry)
 
 -- ---- reduced powers of x have coefficients -1, 0, 1
 abbrev pub is_ternary : List ℤ → Bool
@@ -87,7 +89,7 @@ vanishes_at : ℕ → ℕ → Bool
 vanishes_at k g = not (k % g == 0) || same_list (remainder (listed k) (powers_of_multiples k g)) (zeros (length (reduction_of k)))
 
 all_vanish : list_all (λ (entry : ℕ × ℕ). all_below entry.0 (vanishes_at entry.0)) conductors ≡ true
-unfolding vanishes_at powers_of_multiples all_below same_list same_number plus scaled leading lower at_power cancelled division remainder conductors reductions reduction_of
+unfolding vanishes_at powers_of_multiples all_below plus scaled leading lower at_power cancelled division remainder conductors reductions reduction_of
 all_vanish = refl
 
 -- each number that K doesn't divide has a multiple that is a divisor of K, modulo K
@@ -104,7 +106,7 @@ divides_at k rows t =
     not (euclid k k t == 1) || same_list (sum_of_rows (length (reduction_of k)) rows k t 0 (listed k)) (zeros (length (reduction_of k)))
 
 all_divide : list_all (λ (entry : ℕ × ℕ). all_below entry.0 (divides_at entry.0 (power_rows (listed entry.0) entry.0))) conductors ≡ true
-unfolding divides_at euclid power_rows rows_from sum_of_rows all_below same_list same_number plus scaled leading lower cancelled division remainder conductors reductions reduction_of
+unfolding divides_at euclid power_rows rows_from sum_of_rows all_below plus scaled leading lower cancelled division remainder conductors reductions reduction_of
 all_divide = refl
 
 module _ (k : ℕ) (entry : is_conductor k ≡ true) where
@@ -139,12 +141,12 @@ all_divisors_listed : list_all (λ (entry : ℕ × ℕ). all_below (suc entry.0)
 unfolding divides_only_if_listed divisors conductors all_below
 all_divisors_listed = refl
 
-all_monic : list_all (λ (entry : ℕ × ℕ). same_number (leading (cyclotomic entry.0)) (pos 1)) divisors ≡ true
-unfolding divisors same_number plus scaled times leading lower x_to cancelled division quotient remainder divided_by_divisors next_cyclotomic cyclotomics cyclotomic conductors
+all_monic : list_all (λ (entry : ℕ × ℕ). int_eq (leading (cyclotomic entry.0)) (pos 1)) divisors ≡ true
+unfolding divisors plus scaled times leading lower x_to cancelled division quotient remainder divided_by_divisors next_cyclotomic cyclotomics cyclotomic conductors
 all_monic = refl
 
 all_factored : list_all (λ (entry : ℕ × ℕ). same_list (divisor_product entry.0 entry.0) (x_to_minus_one entry.0)) divisors ≡ true
-unfolding divisors same_list same_number plus scaled times leading lower x_to cancelled division quotient remainder divided_by_divisors next_cyclotomic cyclotomics cyclotomic divisor_product conductors
+unfolding divisors plus scaled times leading lower x_to cancelled division quotient remainder divided_by_divisors next_cyclotomic cyclotomics cyclotomic divisor_product conductors
 all_factored = refl
 
 divisor_below : (k d : ℕ) → 0 < k → k % d ≡ 0 → d < suc k
@@ -170,7 +172,7 @@ module _ (k : ℕ) (entry : is_conductor k ≡ true) where
 
   pub divisor_monic : (d : ℕ) → k % d ≡ 0 → leading (cyclotomic d) ≡ pos 1
   divisor_monic d divides =
-      same_number_means (leading (cyclotomic d)) (pos 1) (at_divisor (λ e. same_number (leading (cyclotomic e)) (pos 1)) all_monic d divides)
+      (signed_Decides (leading (cyclotomic d)) (pos 1)).0 (at_divisor (λ e. int_eq (leading (cyclotomic e)) (pos 1)) all_monic d divides)
 
   pub factored : divisor_product k k ≡ x_to_minus_one k
   factored = divisor_factored k (mod_self k)

@@ -1,4 +1,7 @@
 -- Tests that compute over the table of conductors, and what they mean.
+use Rattle.std.specs.Cmp.Rules.{signed_items}
+use Rattle.std.specs.Ordering.{int_eq}
+use lib.Pointwise.{pointwise}
 use Rattle.scan.proofs.Places.{all_below-at}
 use Rattle.cyclotomic.proofs.Names.{◌≡◌, ℕ, zero, suc, ◌<◌, List, [], ◌∷◌, Bool, true, false, refl, sym, ap, ◌∙◌, inl, inr, eqb-true, cases_eq, ne_eqb, ℤ, pos, negsuc, ◌==◌, ◌&&◌, ◌||◌, list_all, list_any, ap₂, all_below, conductors, is_conductor}
 
@@ -12,34 +15,11 @@ and_right true b e = e
 and_right false b e = cc
 
 -- ---- equal lists of whole numbers
-unfoldable pub same_number : ℤ → ℤ → Bool
-same_number (pos a) (pos b) = a == b
-same_number (pos a) (negsuc b) = false
-same_number (negsuc a) (pos b) = false
-same_number (negsuc a) (negsuc b) = a == b
-
-unfoldable pub same_list : List ℤ → List ℤ → Bool
-same_list [] [] = true
-same_list [] (b ∷ q) = false
-same_list (a ∷ p) [] = false
-same_list (a ∷ p) (b ∷ q) = same_number a b && same_list p q
-
-pub same_number_means : (a b : ℤ) → same_number a b ≡ true → a ≡ b
-unfolding same_number
-same_number_means (pos a) (pos b) e = ap pos (eqb-true a b e)
-same_number_means (pos a) (negsuc b) e = cc
-same_number_means (negsuc a) (pos b) e = cc
-same_number_means (negsuc a) (negsuc b) e = ap negsuc (eqb-true a b e)
+abbrev pub same_list : List ℤ → List ℤ → Bool
+same_list = pointwise int_eq
 
 pub same_list_means : (p q : List ℤ) → same_list p q ≡ true → p ≡ q
-unfolding same_list
-same_list_means [] [] e = refl
-same_list_means [] (b ∷ q) e = cc
-same_list_means (a ∷ p) [] e = cc
-same_list_means (a ∷ p) (b ∷ q) e =
-    ap₂ (λ x y. x ∷ y)
-    (same_number_means a b (and_left (same_number a b) (same_list p q) e))
-    (same_list_means p q (and_right (same_number a b) (same_list p q) e))
+same_list_means p q = (signed_items p q).0
 
 -- ---- each number below a bound
 pub all_below_means : (n : ℕ) (test : ℕ → Bool) → all_below n test ≡ true → (i : ℕ) → i < n → test i ≡ true
