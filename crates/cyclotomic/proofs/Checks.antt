@@ -1,10 +1,13 @@
 -- Facts about each entry of the table of conductors, by tests that are computed.
 use Rattle.cyclotomic.proofs.Names.{size_of, nat_le, ◌≡◌, ℕ, suc, ◌*◌, ◌%◌, ◌/◌, ◌<◌, List, [], ◌∷◌, ◌++◌, length, Bool, true, refl, sym, ap, ◌∙◌, replicate, eqb-true, eq-eqb, ◌≢◌, ne_eqb, cases_lt, arith, not, ◌||◌, inl, inr, ltb-true, ℤ, pos, ◌==◌, nat_lt, list_all, list_any, mod_self, mod-eq_of_lt, all_below, zeros, plus, scaled, times, x_to, at_power, leading, lower, cancelled, division, quotient, remainder, divided_by_divisors, next_cyclotomic, cyclotomics, cyclotomic, divisor_product, x_to_minus_one, conductors, reductions, reduction_of, is_conductor, phi_of}
 use Rattle.std.specs.Cmp.{signed_Decides}
+use Rattle.std.specs.Prelude.{is_some}
+use Rattle.scan.specs.First.{first}
+use Rattle.scan.proofs.Searches.{place_if, least_passing, some_of}
 use Rattle.std.specs.Ordering.{int_eq}
 use Rattle.cyclotomic.proofs.Gcd.{euclid}
 use Rattle.cyclotomic.proofs.Rows.{rows_from, power_rows, sum_of_rows}
-use Rattle.cyclotomic.proofs.Tests.{same_list, same_list_means, all_entries, at_each_conductor, any_below, any_below_means, all_below_means}
+use Rattle.cyclotomic.proofs.Tests.{same_list, same_list_means, all_entries, at_each_conductor, all_below_means}
 
 -- Phi_K, as it is listed
 abbrev pub listed : ℕ → List ℤ
@@ -94,10 +97,10 @@ all_vanish = refl
 
 -- each number that K doesn't divide has a multiple that is a divisor of K, modulo K
 reaches_divisor : ℕ → ℕ → Bool
-reaches_divisor k e = (e == 0) || any_below k (λ a. k % ((a * e) % k) == 0)
+reaches_divisor k e = (e == 0) || is_some (first k (place_if (λ a. k % ((a * e) % k) == 0)))
 
 all_reach : list_all (λ (entry : ℕ × ℕ). all_below entry.0 (reaches_divisor entry.0)) conductors ≡ true
-unfolding reaches_divisor any_below all_below conductors
+unfolding reaches_divisor first all_below conductors
 all_reach = refl
 
 -- Phi_K divides Phi_K at x^t, for t prime to K
@@ -119,9 +122,10 @@ module _ (k : ℕ) (entry : is_conductor k ≡ true) where
   pub some_divisor : (e : ℕ) → e < k → e ≢ 0 → (a : ℕ) × (k % ((a * e) % k) ≡ 0)
   unfolding reaches_divisor
   some_divisor e small apart =
-      let found = any_below_means k (λ a. k % ((a * e) % k) == 0)
-      (sym (ap (λ b. b || any_below k (λ a. k % ((a * e) % k) == 0)) (ne_eqb e 0 apart)) ∙ below_each reaches_divisor all_reach k entry e small) in
-      (found.0, eqb-true (k % ((found.0 * e) % k)) 0 found.1)
+      let test : ℕ → Bool = λ a. k % ((a * e) % k) == 0 in
+      let reached = below_each reaches_divisor all_reach k entry e small in
+      let (a, found) = some_of (first k (place_if test)) (sym (ap (λ b. b || is_some (first k (place_if test))) (ne_eqb e 0 apart)) ∙ reached) in
+      (a, eqb-true (k % ((a * e) % k)) 0 (least_passing k test a found).passes)
 
   pub listed_divides : (t : ℕ) → t < k → euclid k k t ≡ 1 → sum_of_rows (length (reduction_of k)) (power_rows (listed k) k) k t 0 (listed k) ≡ zeros (length (reduction_of k))
   unfolding divides_at

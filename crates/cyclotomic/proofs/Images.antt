@@ -1,5 +1,5 @@
 -- Powers of x modulo a monic polynomial m, and the images under which x goes to x^t.
-use Rattle.cyclotomic.proofs.Names.{◌≡◌, ℕ, zero, suc, ◌+◌, ◌*◌, ◌%◌, ◌/◌, ◌<◌, List, [], ◌∷◌, refl, sym, ap, ◌∙◌, arith, ℤ, pos, ap₂, times, x_to, at_power, leading, degree, Value, value_sum, value_multiple, value_nought, value_of, value_one, value_product, value_root, value_image, map_power, iterate, act, act-nil, act-cons, act-plus, act-times, act_comm, act-x_to, act-remainder, act-at_power, act-same_map, act-power_power, act-nought, act-one, act-iterate, iterate-sum, iterate-power, iterate-zero, value_shift, times_x, value_of-act, act-itself, product-of}
+use Rattle.cyclotomic.proofs.Names.{◌≡◌, ℕ, zero, suc, ◌+◌, ◌*◌, ◌%◌, ◌/◌, ◌<◌, List, [], ◌∷◌, refl, sym, ap, ◌∙◌, arith, ℤ, pos, ap₂, times, x_to, at_power, leading, degree, Value, value_sum, value_nought, value_of, value_one, value_product, value_root, value_image, map_power, iterate, act, act-nil, act-cons, act-plus, act-times, act-x_to, act-remainder, act-at_power, act-same_map, act-power_power, act-one, act-iterate, iterate-sum, iterate-power, iterate-zero, value_shift, times_x, value_of-act, act-itself, product-of}
 
 module _ (m : List ℤ) where
   -- x^v, as the steps "times x" from 1
@@ -47,21 +47,19 @@ module _ (m : List ℤ) where
     root-mod h v =
         root_steps v ∙ steps-mod h v (value_one m) ∙ sym (root_steps (v % k))
 
-    -- images under numbers that are the same modulo k are the same
-    pub image-mod : 0 < k → (t : ℕ) (u : Value (degree m)) → value_image m t u ≡ value_image m (t % k) u
-    unfolding value_image
-    image-mod h t u =
-        let M = times_x m in
-        value_of-act m (at_power t u.coefficients) ∙ act-at_power M t u.coefficients (value_one m)
-        ∙ act-same_map M t (t % k) (steps-mod h t) u.coefficients (value_one m)
-        ∙ sym (act-at_power M (t % k) u.coefficients (value_one m))
-        ∙ sym (value_of-act m (at_power (t % k) u.coefficients))
-
   -- ---- images
-  pub image-act : (t : ℕ) (u : Value (degree m)) → value_image m t u ≡ act (map_power (times_x m) t) u.coefficients (value_one m)
+  -- p at x^t is p of the steps by x^t, at 1
+  at_power-act : (t : ℕ) (p : List ℤ) → value_of m (at_power t p) ≡ act (map_power (times_x m) t) p (value_one m)
+  at_power-act t p = value_of-act m (at_power t p) ∙ act-at_power (times_x m) t p (value_one m)
+
+  image-act : (t : ℕ) (u : Value (degree m)) → value_image m t u ≡ act (map_power (times_x m) t) u.coefficients (value_one m)
   unfolding value_image
-  image-act t u =
-      value_of-act m (at_power t u.coefficients) ∙ act-at_power (times_x m) t u.coefficients (value_one m)
+  image-act t u = at_power-act t u.coefficients
+
+  -- images under numbers that are the same modulo k are the same, where x^k is 1
+  pub image-mod : (k : ℕ) → value_root m k ≡ value_one m → 0 < k → (t : ℕ) (u : Value (degree m)) → value_image m t u ≡ value_image m (t % k) u
+  image-mod k periodic h t u =
+      image-act t u ∙ act-same_map (times_x m) t (t % k) (steps-mod k periodic h t) u.coefficients (value_one m) ∙ sym (image-act (t % k) u)
 
   pub image-sum : (t : ℕ) (u v : Value (degree m)) → value_image m t (value_sum u v) ≡ value_sum (value_image m t u) (value_image m t v)
   unfolding value_sum
@@ -74,70 +72,44 @@ module _ (m : List ℤ) where
   image-one_power u = image-act 1 u ∙ one_step u.coefficients ∙ act-itself m u
     where
       one_step : (p : List ℤ) → act (map_power (times_x m) 1) p (value_one m) ≡ act (times_x m) p (value_one m)
-      one_step [] = act-nil (map_power (times_x m) 1) (value_one m) ∙ sym (act-nil (times_x m) (value_one m))
-      one_step (a ∷ p) =
-          act-cons (map_power (times_x m) 1) a p (value_one m)
-          ∙ ap (λ z. value_sum (value_multiple a (value_one m)) (value_shift m z)) (one_step p)
-          ∙ sym (act-cons (times_x m) a p (value_one m))
+      one_step [] = simp act-nil
+      one_step (a ∷ p) = simp (act-cons, one_step p)
 
   -- t is such that m divides m at x^t
   module _ (monic : leading m ≡ pos 1) (t : ℕ) (divides : value_of m (at_power t m) ≡ value_nought) where
-    vanishes_at_power : (u : Value (degree m)) → act (map_power (times_x m) t) m u ≡ value_nought
-    vanishes_at_power u =
-        let M = times_x m in
-        sym (act-at_power M t m u)
-        ∙ ap (act M (at_power t m)) (sym (act-itself m u))
-        ∙ act_comm M (at_power t m) u.coefficients (value_one m)
-        ∙ ap (act M u.coefficients) (sym (value_of-act m (at_power t m)) ∙ divides)
-        ∙ act-nought M u.coefficients
-
     -- the image of a polynomial's value is the polynomial at x^t
     pub image-of : (p : List ℤ) → value_image m t (value_of m p) ≡ value_of m (at_power t p)
     unfolding value_of
     image-of p =
         image-act t (value_of m p)
-        ∙ act-remainder (map_power (times_x m) t) m p (value_one m) monic (vanishes_at_power (value_one m))
-        ∙ sym (act-at_power (times_x m) t p (value_one m))
-        ∙ sym (value_of-act m (at_power t p))
+        ∙ act-remainder (map_power (times_x m) t) m p (value_one m) monic (sym (at_power-act t m) ∙ divides)
+        ∙ sym (at_power-act t p)
 
     pub image-one : value_image m t (value_one m) ≡ value_one m
-    image-one =
-        image-of (pos 1 ∷ []) ∙ value_of-act m (at_power t (pos 1 ∷ []))
-        ∙ act-at_power (times_x m) t (pos 1 ∷ []) (value_one m)
-        ∙ act-one (map_power (times_x m) t) (value_one m)
+    image-one = image-of (pos 1 ∷ []) ∙ at_power-act t (pos 1 ∷ []) ∙ act-one (map_power (times_x m) t) (value_one m)
 
     pub image-product : (u v : Value (degree m)) → value_image m t (value_product m u v) ≡ value_product m (value_image m t u) (value_image m t v)
     unfolding value_product value_image
     image-product u v =
         let M = times_x m in
-        let Mt = map_power M t in
         let p = u.coefficients in
         let q = v.coefficients in
-        image-of (times p q)
-        ∙ value_of-act m (at_power t (times p q))
-        ∙ act-at_power M t (times p q) (value_one m)
-        ∙ act-times Mt p q (value_one m)
-        ∙ sym (act-at_power M t p (act Mt q (value_one m)))
+        image-of (times p q) ∙ at_power-act t (times p q) ∙ act-times (map_power M t) p q (value_one m)
+        ∙ sym (act-at_power M t p (act (map_power M t) q (value_one m)))
         ∙ ap (act M (at_power t p)) (sym (image-act t v))
         ∙ sym (product-of m (at_power t p) (value_image m t v))
 
     pub image-root : (v : ℕ) → value_image m t (value_root m v) ≡ value_root m (t * v)
     image-root v =
-        let M = times_x m in
-        image-of (x_to v) ∙ value_of-act m (at_power t (x_to v))
-        ∙ act-at_power M t (x_to v) (value_one m)
-        ∙ act-x_to (map_power M t) v (value_one m)
-        ∙ iterate-power M t v (value_one m)
-        ∙ sym (root_steps (t * v))
+        image-of (x_to v) ∙ at_power-act t (x_to v) ∙ act-x_to (map_power (times_x m) t) v (value_one m)
+        ∙ iterate-power (times_x m) t v (value_one m) ∙ sym (root_steps (t * v))
 
     -- the image under t of the image under s is the image under t s
     pub image-image : (s : ℕ) (u : Value (degree m)) → value_image m t (value_image m s u) ≡ value_image m (t * s) u
     unfolding value_image
     image-image s u =
         let M = times_x m in
-        image-of (at_power s u.coefficients)
-        ∙ value_of-act m (at_power t (at_power s u.coefficients))
-        ∙ act-at_power M t (at_power s u.coefficients) (value_one m)
+        image-of (at_power s u.coefficients) ∙ at_power-act t (at_power s u.coefficients)
         ∙ act-at_power (map_power M t) s u.coefficients (value_one m)
         ∙ act-power_power M t s u.coefficients (value_one m)
         ∙ sym (image-act (t * s) u)

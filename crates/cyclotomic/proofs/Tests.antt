@@ -3,7 +3,7 @@ use Rattle.std.specs.Cmp.Rules.{signed_items}
 use Rattle.std.specs.Ordering.{int_eq}
 use lib.Pointwise.{pointwise}
 use Rattle.scan.proofs.Places.{all_below-at}
-use Rattle.cyclotomic.proofs.Names.{◌≡◌, ℕ, zero, suc, ◌<◌, List, [], ◌∷◌, Bool, true, false, refl, sym, ap, ◌∙◌, inl, inr, eqb-true, cases_eq, ne_eqb, ℤ, pos, negsuc, ◌==◌, ◌&&◌, ◌||◌, list_all, list_any, ap₂, all_below, conductors, is_conductor}
+use Rattle.cyclotomic.proofs.Names.{◌≡◌, ℕ, ◌<◌, List, [], ◌∷◌, Bool, true, false, refl, sym, ap, ◌∙◌, inl, inr, cases_eq, ne_eqb, ℤ, ◌==◌, ◌&&◌, ◌||◌, list_all, list_any, all_below, conductors, is_conductor}
 
 -- ---- conjunctions
 pub and_left : (a b : Bool) → (a && b) ≡ true → a ≡ true
@@ -24,20 +24,6 @@ same_list_means p q = (signed_items p q).0
 -- ---- each number below a bound
 pub all_below_means : (n : ℕ) (test : ℕ → Bool) → all_below n test ≡ true → (i : ℕ) → i < n → test i ≡ true
 all_below_means n test e i h = all_below-at n i test e h
-
--- some number below a bound passes
-unfoldable pub any_below : ℕ → (ℕ → Bool) → Bool
-any_below zero test = false
-any_below (suc n) test = any_below n test || test n
-
-pub any_below_means : (n : ℕ) (test : ℕ → Bool) → any_below n test ≡ true → (i : ℕ) × (test i ≡ true)
-unfolding any_below
-any_below_means zero test e = cc
-any_below_means (suc n) test e = from (any_below n test) (any_below_means n test) e
-  where
-    from : (b : Bool) → (b ≡ true → (i : ℕ) × (test i ≡ true)) → (b || test n) ≡ true → (i : ℕ) × (test i ≡ true)
-    from true found h = found refl
-    from false found h = (n, h)
 
 -- ---- each entry of the table
 pub all_entries : (test : ℕ → Bool) (k : ℕ) (entries : List (ℕ × ℕ)) → list_all (λ (entry : ℕ × ℕ). test entry.0) entries ≡ true → list_any (λ (entry : ℕ × ℕ). entry.0 == k) entries ≡ true → test k ≡ true

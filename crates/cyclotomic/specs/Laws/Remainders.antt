@@ -6,7 +6,7 @@ use borrow.Author.Differences.{up}
 use Rattle.cyclotomic.specs.Polynomial.{zeros, plus, scaled, leading, lower}
 use Rattle.cyclotomic.specs.Division.{degree, cancelled, division, remainder}
 use Rattle.cyclotomic.specs.Laws.Integers as Z
-use Rattle.cyclotomic.specs.Laws.Polynomials.{plus_assoc, plus_left_comm, scaled-plus, scaled-sum, scaled-product, length-plus, length-scaled, length-lower, length-zeros, leading-plus, lower-plus, leading-scaled, lower-scaled, plus-zeros, plus-opposite, scaled-zero, leading-padded, lower-padded, leading-nil}
+use Rattle.cyclotomic.specs.Laws.Polynomials.{plus_assoc, plus_left_comm, scaled-plus, scaled-sum, scaled-product, length-plus, length-scaled, length-lower, length-zeros, leading-plus, lower-plus, leading-scaled, lower-scaled, plus-zeros, scaled-zero, leading-padded, lower-padded}
 
 pub zero_not_one : pos 0 ≡ pos 1 → ⊥
 zero_not_one e = let f : 0 ≡ 1 = ap up e in absurd (omega (arith, f))
@@ -71,13 +71,3 @@ remainder-short m (a ∷ p) k e =
 
 pub remainder-itself : (m p : List ℤ) → length p ≡ degree m → remainder m p ≡ p
 remainder-itself m p e = remainder-short m p 0 (add-zero (length p) ∙ e) ∙ append-nil p
-
--- a monic polynomial has the remainder 0 by itself
-pub remainder-divisor : (m : List ℤ) → leading m ≡ pos 1 → remainder m m ≡ zeros (degree m)
-unfolding cancelled
-remainder-divisor [] monic = absurd (zero_not_one (sym leading-nil ∙ monic))
-remainder-divisor (b ∷ m) monic =
-    remainder-cons (b ∷ m) b m
-    ∙ ap (λ z. cancelled (b ∷ m) (b ∷ z)) (remainder-itself (b ∷ m) m (sym (length-lower b m)))
-    ∙ ap (λ z. plus (lower (b ∷ m)) (scaled (neg_ℤ z) (lower (b ∷ m)))) monic
-    ∙ plus-opposite (lower (b ∷ m))
