@@ -1,7 +1,28 @@
--- Columns over a commutative ring, as a module with the linear map "times a".
+-- Sequences of elements of a commutative ring as a module with a linear map, among them columns with "times a".
 use Rattle.algebra.proofs.Names.{◌≡◌, inl, inr, ℕ, zero, suc, ◌<◌, ◌≤◌, List, [], ◌∷◌, length, refl, sym, ◌∙◌, ap, arith, nat_eq, cases_eq, eq-eqb, ne_eqb, ap₂, fun_ext, CommRing, sum_below, pick, dot, LinearMap, IsStable, Reaches}
 use Rattle.algebra.proofs.RingLaws.{mul_nought, nought_mul, one_mul, add_mul, mul_left_comm}
 use Rattle.algebra.proofs.SumLaws.{sum_ext, sum_nought, sum_add, mul_sum, pick_of, pick_off}
+
+-- sequences of elements, with a linear map of them
+abbrev pub sequences : {A : Type 0} (R : CommRing A) (move : (ℕ → A) → ℕ → A)
+    → ((u v : ℕ → A) (i : ℕ) → move (λ j. R.add (u j) (v j)) i ≡ R.add (move u i) (move v i))
+    → ((c : A) (v : ℕ → A) (i : ℕ) → move (λ j. R.mul c (v j)) i ≡ R.mul c (move v i)) → LinearMap R (ℕ → A)
+sequences R move respects_sums respects_multiples = record {
+  add = λ u v i. R.add (u i) (v i);
+  nought = λ i. R.nought;
+  scale = λ c v i. R.mul c (v i);
+  map = move;
+  add_assoc = λ u v x. fun_ext (λ i. R.add_assoc (u i) (v i) (x i));
+  add_comm = λ u v. fun_ext (λ i. R.add_comm (u i) (v i));
+  add_nought = λ v. fun_ext (λ i. R.add_nought (v i));
+  scale_add = λ c u v. fun_ext (λ i. R.mul_add c (u i) (v i));
+  scale_sum = λ c d v. fun_ext (λ i. add_mul R c d (v i));
+  scale_product = λ c d v. fun_ext (λ i. R.mul_assoc c d (v i));
+  scale_one = λ v. fun_ext (λ i. one_mul R (v i));
+  scale_zero = λ v. fun_ext (λ i. nought_mul R (v i));
+  map_add = λ u v. fun_ext (respects_sums u v);
+  map_scale = λ c v. fun_ext (respects_multiples c v);
+}
 
 module _ {A : Type 0} (R : CommRing A) where
   pub dot_is : (w : ℕ) (x y : ℕ → A) → dot R w x y ≡ sum_below R w (λ j. R.mul (x j) (y j))
@@ -19,22 +40,7 @@ module _ {A : Type 0} (R : CommRing A) where
 
   -- columns, with "times a"
   abbrev pub columns : ℕ → (ℕ → ℕ → A) → LinearMap R (ℕ → A)
-  columns w a = record {
-    add = λ u v i. R.add (u i) (v i);
-    nought = λ i. R.nought;
-    scale = λ c v i. R.mul c (v i);
-    map = λ v i. dot R w (a i) v;
-    add_assoc = λ u v x. fun_ext (λ i. R.add_assoc (u i) (v i) (x i));
-    add_comm = λ u v. fun_ext (λ i. R.add_comm (u i) (v i));
-    add_nought = λ v. fun_ext (λ i. R.add_nought (v i));
-    scale_add = λ c u v. fun_ext (λ i. R.mul_add c (u i) (v i));
-    scale_sum = λ c d v. fun_ext (λ i. add_mul R c d (v i));
-    scale_product = λ c d v. fun_ext (λ i. R.mul_assoc c d (v i));
-    scale_one = λ v. fun_ext (λ i. one_mul R (v i));
-    scale_zero = λ v. fun_ext (λ i. nought_mul R (v i));
-    map_add = λ u v. fun_ext (λ i. dot_plus w (a i) u v);
-    map_scale = λ c v. fun_ext (λ i. dot_scale w (a i) c v);
-  }
+  columns w a = sequences R (λ v i. dot R w (a i) v) (λ u v i. dot_plus w (a i) u v) (λ c v i. dot_scale w (a i) c v)
 
   -- the columns that are nought below w
   abbrev pub IsNoughtBelow : ℕ → (ℕ → A) → Type 0

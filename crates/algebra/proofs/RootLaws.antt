@@ -18,16 +18,16 @@ module _ {A : Type 0} (R : CommRing A) (z : A) (n : ℕ) (cycle : power R z n �
   abbrev pub roots_of_power : Roots R n
   roots_of_power = record { root = λ v. power R z v; root_zero = power_zero R z; root_add = power_add R z; root_same = power_same }
 
+-- what z^e leaves as it is, each power of z^e leaves as it is
+pub fixed_again : {A : Type 0} (R : CommRing A) (z : A) (e : ℕ) (x : A) → R.mul (power R z e) x ≡ x → (j : ℕ) → R.mul (power R z (j * e)) x ≡ x
+fixed_again R z e x fixed zero = simp (zero-mul, power_zero, one_mul)
+fixed_again R z e x fixed (suc j) = simp (suc-mul, power_add, R.mul_assoc, fixed, fixed_again R z e x fixed j)
+
 -- what a power of z other than 1 leaves as it is, is nought
 module _ {A : Type 0} (R : CommRing A) {n : ℕ} (u : RootOfUnity R n) (e : ℕ) (apart : e % n ≢ 0) (x : A) (fixed : R.mul (power R u.root e) x ≡ x) where
-  fixed_again : (j : ℕ) → R.mul (power R u.root (j * e)) x ≡ x
-  fixed_again zero = ap (λ i. R.mul (power R u.root i) x) (zero-mul e) ∙ ap (λ a. R.mul a x) (power_zero R u.root) ∙ one_mul R x
-  fixed_again (suc j) =
-      ap (λ i. R.mul (power R u.root i) x) (suc-mul j e) ∙ ap (λ a. R.mul a x) (power_add R u.root (j * e) e)
-      ∙ R.mul_assoc (power R u.root (j * e)) (power R u.root e) x ∙ ap (λ a. R.mul (power R u.root (j * e)) a) fixed ∙ fixed_again j
-
   pub fixed_is_nought : x ≡ R.nought
   fixed_is_nought =
       u.cancel x
-      (sym (sum_constant R n x) ∙ sum_ext R n (λ j. x) (λ j. R.mul (power R u.root (j * e)) x) (λ j h. sym (fixed_again j))
+      (sym (sum_constant R n x)
+      ∙ sum_ext R n (λ j. x) (λ j. R.mul (power R u.root (j * e)) x) (λ j h. sym (fixed_again R u.root e x fixed j))
       ∙ sym (sum_mul R n (λ j. power R u.root (j * e)) x) ∙ ap (λ a. R.mul a x) (u.sum_vanishes e apart) ∙ nought_mul R x)

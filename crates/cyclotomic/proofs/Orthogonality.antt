@@ -4,8 +4,8 @@ use Rattle.cyclotomic.proofs.Names.{◌≡◌, ℕ, zero, suc, ◌+◌, ◌*◌,
 use Rattle.std.proofs.lemmas.Nat.{mul-mod_second}
 use Rattle.algebra.specs.Structures.{CommRing}
 use Rattle.algebra.specs.Roots.{RootOfUnity}
-use Rattle.algebra.proofs.RingLaws.{one_mul, add_cancel, nought_mul}
-use Rattle.algebra.proofs.RootLaws.{power_mod}
+use Rattle.algebra.proofs.RingLaws.{add_cancel, nought_mul, product_rules}
+use Rattle.algebra.proofs.RootLaws.{power_mod, fixed_again}
 use Rattle.cyclotomic.proofs.Images.{root-zero, root-sum, root-mod, product-root}
 use Rattle.cyclotomic.proofs.Checks.{head_of, one_is_one, powers_of_multiples, conductor_positive, some_divisor}
 use Rattle.cyclotomic.proofs.Fields.{from_listed, cyclotomic_period, cyclotomic_sums}
@@ -85,26 +85,15 @@ module _ {A : Type 0} (R : CommRing A) (z : A) (n e : ℕ) (cycle : power R z n 
       let last : f n ≡ R.one = power_mul R z n e ∙ ap (λ y. power R y e) cycle ∙ one_power R e in
       let first : f 0 ≡ R.one = ap (power R z) (zero-mul e) ∙ power_zero R z in
       let moved : R.mul (power R z e) (sum_below R n f) ≡ sum_below R n (λ j. f (suc j)) =
-      mul_sum R n (power R z e) f
-      ∙ sum_ext R n (λ j. R.mul (power R z e) (f j)) (λ j. f (suc j))
-      (λ j h. R.mul_comm (power R z e) (f j) ∙ sym (power_add R z (j * e) e) ∙ ap (power R z) (sym (suc-mul j e))) in
+      simp (mul_sum, suc-mul, power_add, product_rules, R) in
       let both : R.add R.one (sum_below R n (λ j. f (suc j))) ≡ R.add R.one (sum_below R n f) =
       ap (λ y. R.add y (sum_below R n (λ j. f (suc j)))) (sym first) ∙ sym (sum_first R n f)
       ∙ sum_suc R n f ∙ ap (R.add (sum_below R n f)) last ∙ R.add_comm (sum_below R n f) R.one in
       moved ∙ add_cancel R R.one (sum_below R n (λ j. f (suc j))) (sum_below R n f) both
 
-  sum_is_fixed_by_powers : (a : ℕ) → R.mul (power R z (a * e)) power_sum ≡ power_sum
-  sum_is_fixed_by_powers zero = ap (λ y. R.mul y power_sum) (ap (power R z) (zero-mul e) ∙ power_zero R z) ∙ one_mul R power_sum
-  sum_is_fixed_by_powers (suc a) =
-      ap (λ y. R.mul y power_sum) (ap (power R z) (suc-mul a e) ∙ power_add R z (a * e) e)
-      ∙ R.mul_assoc (power R z (a * e)) (power R z e) power_sum
-      ∙ ap (R.mul (power R z (a * e))) sum_is_fixed
-      ∙ sum_is_fixed_by_powers a
-
   pub sum_is_fixed_modulo : (a : ℕ) → R.mul (power R z ((a * e) % n)) (sum_below R n (λ j. power R z (j * e))) ≡ sum_below R n (λ j. power R z (j * e))
   unfolding power_sum
-  sum_is_fixed_modulo a =
-      ap (λ y. R.mul y power_sum) (sym (power_mod R z n cycle (a * e))) ∙ sum_is_fixed_by_powers a
+  sum_is_fixed_modulo a = ap (λ y. R.mul y power_sum) (sym (power_mod R z n cycle (a * e))) ∙ fixed_again R z e power_sum sum_is_fixed a
 
 positive_quotient : (k g d : ℕ) → 0 < k → g * d ≡ k → 0 < d
 positive_quotient k g zero h e = absurd (omega (arith, e))
