@@ -1,7 +1,9 @@
 -- Lists of coefficients, written and read.
-use Rattle.qd_ring.proofs.Names.{◌≡◌, ℕ, zero, suc, ◌+◌, ◌<◌, ◌≤◌, min, Bool, true, false, ◌&&◌, List, [], ◌∷◌, ◌++◌, length, drop, map, refl, ap, sym, subst, ◌∙◌, inl, inr, arith, eqb, cond, replicate, length-append, zero-add, Option, Some, None, add-zero, suc-add, ℤ, pos, negsuc, nat_abs, option_and_then, option_map, cases_Bool, eqb-true, eqb-false, eq-eqb, ne_eqb, true≢false, Term, term_text, terms_text, term_after_sign, term_of, term_here, coefficients_of}
+use Rattle.qd_ring.proofs.Names.{◌≡◌, ℕ, zero, suc, ◌+◌, ◌<◌, ◌≤◌, min, Bool, true, false, ◌&&◌, List, [], ◌∷◌, ◌++◌, length, drop, map, refl, ap, sym, subst, ◌∙◌, inl, inr, arith, eqb, cond, replicate, length-append, zero-add, Option, Some, None, add-zero, suc-add, ℤ, pos, negsuc, nat_abs, option_and_then, option_map, ap₂, and_parts, cases_Bool, eqb-true, eqb-false, eq-eqb, ne_eqb, true≢false, Term, term_text, terms_text, term_after_sign, term_of, term_here, coefficients_of}
 use Rattle.std.proofs.Math.Seq.{drop-append_seam}
-use Rattle.qd_ring.proofs.ValueTextLaws.{number_nought, empty_list, terms_nil, terms_nought, terms_term, term_nonempty}
+use Rattle.std.proofs.lemmas.List.{nil_from_length}
+use Rattle.std.proofs.lemmas.Option.{cond_some}
+use Rattle.qd_ring.proofs.ValueTextLaws.{number_nought, terms_nil, terms_nought, terms_term, term_nonempty}
 use Rattle.qd_ring.proofs.TermLaws.{capped, EndsTerm, TermRead, term_written, term_read}
 
 -- ---- one power after another
@@ -14,35 +16,30 @@ none_left : (p : ℕ) (later : Bool) (text : List ℕ) → coefficients_of zero 
 unfolding coefficients_of
 none_left p later text = refl
 
-by_here : (n p : ℕ) (later : Bool) (text : List ℕ) (o : Option Term) → term_here p later text ≡ o
-    → coefficients_of (suc n) p later text ≡ elim o [ Some term ↦ option_map (λ cs. term.coefficient ∷ cs) (coefficients_of n (suc p) true (drop term.len text)) | None ↦ skipped (coefficients_of n (suc p) later text) ]
-unfolding coefficients_of
-by_here n p later text o e = ap (λ (h : Option Term). elim h [ Some term ↦ option_map (λ cs. term.coefficient ∷ cs) (coefficients_of n (suc p) true (drop term.len text)) | None ↦ skipped (coefficients_of n (suc p) later text) ]) e
+module _ (n p : ℕ) (later : Bool) (text : List ℕ) where
+  here : (term : Term) → term_of later text ≡ Some term → term.power ≡ p
+      → coefficients_of (suc n) p later text ≡ option_map (λ cs. term.coefficient ∷ cs) (coefficients_of n (suc p) true (drop term.len text))
+  unfolding coefficients_of
+  here term h e = rw (h, eq-eqb term.power p e, coefficients_of)
 
-power_test : ℕ → Term → Option Term
-power_test p term = cond (eqb term.power p) (Some term) None
+  other : (term : Term) → term_of later text ≡ Some term → (term.power ≡ p → ⊥)
+      → coefficients_of (suc n) p later text ≡ skipped (coefficients_of n (suc p) later text)
+  unfolding coefficients_of
+  other term h e = rw (h, ne_eqb term.power p e, coefficients_of)
 
-here : (n p : ℕ) (later : Bool) (text : List ℕ) (term : Term) → term_of later text ≡ Some term → term.power ≡ p
-    → coefficients_of (suc n) p later text ≡ option_map (λ cs. term.coefficient ∷ cs) (coefficients_of n (suc p) true (drop term.len text))
-unfolding power_test
-here n p later text term h e = by_here n p later text (Some term) (ap (option_and_then (power_test p)) h ∙ ap (λ b. cond b (Some term) None) (eq-eqb term.power p e))
-
-other : (n p : ℕ) (later : Bool) (text : List ℕ) (term : Term) → term_of later text ≡ Some term → (term.power ≡ p → ⊥)
-    → coefficients_of (suc n) p later text ≡ skipped (coefficients_of n (suc p) later text)
-unfolding power_test
-other n p later text term h e = by_here n p later text None (ap (option_and_then (power_test p)) h ∙ ap (λ b. cond b (Some term) None) (ne_eqb term.power p e))
-
-nothing : (n p : ℕ) (later : Bool) (text : List ℕ) → term_of later text ≡ None → coefficients_of (suc n) p later text ≡ skipped (coefficients_of n (suc p) later text)
-unfolding power_test
-nothing n p later text h = by_here n p later text None (ap (option_and_then (power_test p)) h)
+  nothing : term_of later text ≡ None → coefficients_of (suc n) p later text ≡ skipped (coefficients_of n (suc p) later text)
+  unfolding coefficients_of
+  nothing h = rw (h, coefficients_of)
 
 -- ---- steps of the reader
 
 -- a term is no empty text
-pub term_filled : (later : Bool) (text : List ℕ) (term : Term) → term_of later text ≡ Some term → 0 < length text
-term_filled later text term h =
-    let r = term_read later text term h in
+filled : (later : Bool) (text : List ℕ) (term : Term) → TermRead later text term → 0 < length text
+filled later text term r =
     omega (arith, length-append (term_text later r.power r.coefficient) (drop term.len text), ap length r.written, term_nonempty later r.power r.coefficient r.some)
+
+term_filled : (later : Bool) (text : List ℕ) (term : Term) → term_of later text ≡ Some term → 0 < length text
+term_filled later text term h = filled later text term (term_read later text term h)
 
 -- up to the power of the next term all coefficients are 0
 pub skipped_to_term : (k n p : ℕ) (later : Bool) (text : List ℕ) (term : Term) → term_of later text ≡ Some term → term.power ≡ p + k
@@ -62,15 +59,14 @@ skipped_to_term (suc k) n p later text term h e =
 
 -- a term of another power is in no place
 pub term_missed : (n p : ℕ) (later : Bool) (text : List ℕ) (term : Term) → term_of later text ≡ Some term → ((i : ℕ) → p ≤ i → i < p + n → term.power ≡ i → ⊥) → coefficients_of n p later text ≡ None
-term_missed zero p later text term h apart =
-    none_left p later text ∙ ap (λ b. cond (b && later) (Some []) None) (ne_eqb (length text) 0 (λ z. omega (arith, term_filled later text term h)))
+term_missed zero p later text term h apart = simp (none_left, ne_eqb (length text) 0 (λ z. omega (arith, term_filled later text term h)))
 term_missed (suc n) p later text term h apart =
     other n p later text term h (λ e. apart p (omega arith) (omega arith) e)
     ∙ ap skipped (term_missed n (suc p) later text term h (λ i low high e. apart i (omega arith) (omega arith) e))
 
 -- what is no term is in no place
 pub no_term_missed : (n p : ℕ) (later : Bool) (text : List ℕ) → term_of later text ≡ None → 0 < length text → coefficients_of n p later text ≡ None
-no_term_missed zero p later text h filled = none_left p later text ∙ ap (λ b. cond (b && later) (Some []) None) (ne_eqb (length text) 0 (λ z. omega arith))
+no_term_missed zero p later text h filled = simp (none_left, ne_eqb (length text) 0 (λ z. omega arith))
 no_term_missed (suc n) p later text h filled = nothing n p later text h ∙ ap skipped (no_term_missed n (suc p) later text h filled)
 
 no_term_in_nothing : (later : Bool) → term_of later [] ≡ None
@@ -81,7 +77,7 @@ no_term_in_nothing false = refl
 -- at the end of the text all further coefficients are 0
 pub ended : (n p : ℕ) → coefficients_of n p true [] ≡ Some (replicate n (pos 0))
 ended zero p = none_left p true []
-ended (suc n) p = nothing n p true [] (no_term_in_nothing true) ∙ ap skipped (ended n (suc p))
+ended (suc n) p = simp (nothing n p true [] (no_term_in_nothing true), ended n (suc p))
 
 pub not_begun : (n p : ℕ) → coefficients_of n p false [] ≡ None
 not_begun zero p = none_left p false []
@@ -102,54 +98,51 @@ mapped f None y h = absurd (cc h)
 mapped f (Some x) y h = (x, refl, cc h)
 
 -- one 0 before coefficients that are read
-read_nought : (n p : ℕ) (later : Bool) (text : List ℕ) (cut : List ℤ) → CoefficientsRead n (suc p) later text cut → CoefficientsRead (suc n) p later text (pos 0 ∷ cut)
-read_nought n p later text cut r = record {
-  coefficients = pos 0 ∷ r.coefficients;
-  written = terms_nought later p (pos 0) r.coefficients refl ∙ r.written;
-  count = ap suc r.count;
-  cut_is = ap (λ cs. pos 0 ∷ cs) r.cut_is;
-  begun = r.begun;
-}
+read_nought : (n p : ℕ) (later : Bool) (text : List ℕ) (cut : List ℤ)
+    → ((ds : List ℤ) → coefficients_of n (suc p) later text ≡ Some ds → CoefficientsRead n (suc p) later text ds)
+    → skipped (coefficients_of n (suc p) later text) ≡ Some cut → CoefficientsRead (suc n) p later text cut
+read_nought n p later text cut rest h =
+    let m = mapped (λ cs. pos 0 ∷ cs) (coefficients_of n (suc p) later text) cut h in
+    let r = rest m.0 m.1 in
+    subst (CoefficientsRead (suc n) p later text) m.2 (record {
+      coefficients = pos 0 ∷ r.coefficients;
+      written = terms_nought later p (pos 0) r.coefficients refl ∙ r.written;
+      count = ap suc r.count;
+      cut_is = ap (λ cs. pos 0 ∷ cs) r.cut_is;
+      begun = r.begun;
+    })
 
 -- a term before coefficients that are read
 read_more : (n p : ℕ) (later : Bool) (text : List ℕ) (term : Term) (cut : List ℤ) → p < 42 → TermRead later text term → term.power ≡ p
     → CoefficientsRead n (suc p) true (drop term.len text) cut → CoefficientsRead (suc n) p later text (term.coefficient ∷ cut)
-read_more n p later text term cut small t e r =
-    let place : t.power ≡ p = omega (arith, t.power_is) in
-    record {
-      coefficients = t.coefficient ∷ r.coefficients;
-      written = terms_term later p t.coefficient r.coefficients (ne_eqb (nat_abs t.coefficient) 0 (λ z. omega (arith, t.some)))
-          ∙ ap (λ w. term_text later p t.coefficient ++ w) r.written ∙ ap (λ q. term_text later q t.coefficient ++ drop term.len text) (sym place) ∙ sym t.written;
-      count = ap suc r.count;
-      cut_is = ap (λ cs. capped t.coefficient ∷ cs) r.cut_is ∙ ap (λ c. c ∷ cut) (sym t.coefficient_is);
-      begun = λ l. omega (arith, length-append (term_text later t.power t.coefficient) (drop term.len text), ap length t.written, term_nonempty later t.power t.coefficient t.some);
-    }
+read_more n p later text term cut small t e r = record {
+  coefficients = t.coefficient ∷ r.coefficients;
+  written = terms_term later p t.coefficient r.coefficients (ne_eqb (nat_abs t.coefficient) 0 (λ z. omega (arith, t.some)))
+      ∙ ap₂ (λ q w. term_text later q t.coefficient ++ w) (omega (arith, t.power_is)) r.written ∙ sym t.written;
+  count = ap suc r.count;
+  cut_is = ap₂ (λ c cs. c ∷ cs) (sym t.coefficient_is) r.cut_is;
+  begun = λ l. filled later text term t;
+}
 
 pub coefficients_read : (n p : ℕ) (later : Bool) (text : List ℕ) (cut : List ℤ) → p + n ≤ 42 → coefficients_of n p later text ≡ Some cut → CoefficientsRead n p later text cut
-coefficients_read zero p later text cut small h = by later (eqb (length text) 0) refl (sym (none_left p later text) ∙ h)
-  where
-    by : (l b : Bool) → eqb (length text) 0 ≡ b → cond (b && l) (Some []) None ≡ Some cut → CoefficientsRead zero p l text cut
-    by true true e k =
-        let none : text ≡ [] = empty_list text (eqb-true (length text) 0 e) in
-        let cut_none : [] ≡ cut = cc k in
-        record { coefficients = []; written = terms_nil true p ∙ sym none; count = refl; cut_is = cut_none; begun = λ l. absurd (true≢false l) }
-    by false true e k = absurd (cc k)
-    by l false e k = absurd (cc k)
+coefficients_read zero p later text cut small h =
+    let found = cond_some (eqb (length text) 0 && later) [] cut (sym (none_left p later text) ∙ h) in
+    let parts = and_parts (eqb (length text) 0) later found.0 in
+    let none : text ≡ [] = nil_from_length text (eqb-true (length text) 0 parts.0) in
+    record { coefficients = []; written = terms_nil later p ∙ sym none; count = refl; cut_is = found.1; begun = λ l. absurd (true≢false (sym parts.1 ∙ l)) }
 coefficients_read (suc n) p later text cut small h =
-    by (term_of later text) refl (λ ds later' text' k. coefficients_read n (suc p) later' text' ds (omega arith) k)
+    by (term_of later text) refl (λ later' text' ds k. coefficients_read n (suc p) later' text' ds (omega arith) k)
   where
-    by : (o : Option Term) → term_of later text ≡ o → ((ds : List ℤ) (later' : Bool) (text' : List ℕ) → coefficients_of n (suc p) later' text' ≡ Some ds → CoefficientsRead n (suc p) later' text' ds) → CoefficientsRead (suc n) p later text cut
-    by None e rest =
-        let m = mapped (λ cs. pos 0 ∷ cs) (coefficients_of n (suc p) later text) cut (sym (nothing n p later text e) ∙ h) in
-        subst (CoefficientsRead (suc n) p later text) m.2 (read_nought n p later text m.0 (rest m.0 later text m.1))
+    by : (o : Option Term) → term_of later text ≡ o
+        → ((later' : Bool) (text' : List ℕ) (ds : List ℤ) → coefficients_of n (suc p) later' text' ≡ Some ds → CoefficientsRead n (suc p) later' text' ds)
+        → CoefficientsRead (suc n) p later text cut
+    by None e rest = read_nought n p later text cut (rest later text) (sym (nothing n p later text e) ∙ h)
     by (Some term) e rest = elim (cases_Bool (eqb term.power p)) [
       | inl same ↦
           let place : term.power ≡ p = eqb-true term.power p same in
           let m = mapped (λ cs. term.coefficient ∷ cs) (coefficients_of n (suc p) true (drop term.len text)) cut (sym (here n p later text term e place) ∙ h) in
-          subst (CoefficientsRead (suc n) p later text) m.2 (read_more n p later text term m.0 (omega arith) (term_read later text term e) place (rest m.0 true (drop term.len text) m.1))
-      | inr apart ↦
-          let m = mapped (λ cs. pos 0 ∷ cs) (coefficients_of n (suc p) later text) cut (sym (other n p later text term e (eqb-false term.power p apart)) ∙ h) in
-          subst (CoefficientsRead (suc n) p later text) m.2 (read_nought n p later text m.0 (rest m.0 later text m.1))
+          subst (CoefficientsRead (suc n) p later text) m.2 (read_more n p later text term m.0 (omega arith) (term_read later text term e) place (rest true (drop term.len text) m.0 m.1))
+      | inr apart ↦ read_nought n p later text cut (rest later text) (sym (other n p later text term e (eqb-false term.power p apart)) ∙ h)
     ]
 
 -- ---- coefficients are read as they were written
@@ -187,28 +180,20 @@ skips : (n p : ℕ) (later : Bool) (text : List ℕ) (o : Option Term) → term_
 skips n p later text None e low = nothing n p later text e
 skips n p later text (Some term) e low = other n p later text term e (λ z. omega (arith, low term e))
 
-pub coefficients_written : (n p : ℕ) (later : Bool) (cs : List ℤ) → length cs ≡ n → p + n ≤ 42 → (later ≡ false → 0 < length (terms_text later p cs)) → coefficients_of n p later (terms_text later p cs) ≡ Some (map capped cs)
-coefficients_written n p later [] count small begun =
-    ap (λ k. coefficients_of k p later (terms_text later p [])) (sym count) ∙ ap (coefficients_of zero p later) (terms_nil later p) ∙ by later begun
-  where
-    by : (l : Bool) → (l ≡ false → 0 < length (terms_text l p [])) → coefficients_of zero p l [] ≡ Some []
-    by true b = none_left p true []
-    by false b = absurd (omega (arith, ap length (terms_nil false p), b refl))
-coefficients_written n p later (c ∷ cs) count small begun = elim (cases_Bool (eqb (nat_abs c) 0)) [
+pub coefficients_written : (p : ℕ) (later : Bool) (cs : List ℤ) → p + length cs ≤ 42 → (later ≡ false → 0 < length (terms_text later p cs))
+    → coefficients_of (length cs) p later (terms_text later p cs) ≡ Some (map capped cs)
+coefficients_written p true [] small begun = simp (terms_nil, none_left)
+coefficients_written p false [] small begun = absurd (omega (arith, ap length (terms_nil false p), begun refl))
+coefficients_written p later (c ∷ cs) small begun = elim (cases_Bool (eqb (nat_abs c) 0)) [
   | inl e ↦
-      let text = terms_text later (suc p) cs in
       let same = terms_nought later p c cs e in
-      let rest = coefficients_written (length cs) (suc p) later cs refl (omega arith) (λ l. omega (arith, begun l, ap length same)) in
-      ap (λ k. coefficients_of k p later (terms_text later p (c ∷ cs))) (sym count) ∙ ap (coefficients_of (suc (length cs)) p later) same
-      ∙ skips (length cs) p later text (term_of later text) refl (λ term h. no_lower later (suc p) cs term (omega arith) h)
-      ∙ ap skipped rest ∙ ap (λ d. Some (capped d ∷ map capped cs)) (sym (number_nought c e))
+      let rest = coefficients_written (suc p) later cs (omega arith) (λ l. omega (arith, begun l, ap length same)) in
+      let low = λ (term : Term) (h : term_of later (terms_text later (suc p) cs) ≡ Some term). no_lower later (suc p) cs term (omega arith) h in
+      rw (same, skips (length cs) p later (terms_text later (suc p) cs) (term_of later (terms_text later (suc p) cs)) refl low, rest)
+      (ap (λ d. Some (capped d ∷ map capped cs)) (sym (number_nought c e)))
   | inr e ↦
       let tail = terms_text true (suc p) cs in
-      let same = terms_term later p c cs e in
       let written = term_written later p c tail (is_some c e) (ends_terms (suc p) cs) in
-      let rest = coefficients_written (length cs) (suc p) true cs refl (omega arith) (λ l. absurd (true≢false l)) in
-      ap (λ k. coefficients_of k p later (terms_text later p (c ∷ cs))) (sym count) ∙ ap (coefficients_of (suc (length cs)) p later) same
-      ∙ here (length cs) p later (term_text later p c ++ tail) (record { coefficient = capped c; power = min p 42; len = length (term_text later p c) }) written (omega arith)
-      ∙ ap (λ t. option_map (λ ds. capped c ∷ ds) (coefficients_of (length cs) (suc p) true t)) (drop-append_seam (term_text later p c) tail)
-      ∙ ap (option_map (λ ds. capped c ∷ ds)) rest
+      let rest = coefficients_written (suc p) true cs (omega arith) (λ l. absurd (true≢false l)) in
+      rw (terms_term later p c cs e, here (length cs) p later (term_text later p c ++ tail) _ written (omega arith), drop-append_seam, rest)
 ]

@@ -23,8 +23,7 @@ module _ (phi : ℕ) (text : List ℕ) (next at : ℕ) (cs : List ℤ) (small : 
   front low high =
       let place : next + (term.power - next) ≡ term.power = omega arith in
       ap (λ n. take n cs) (sym place) ∙ take-add next (term.power - next) cs
-      ∙ ap (λ xs. take next cs ++ take (term.power - next) xs) r.zeros
-      ∙ ap (λ xs. take next cs ++ xs) (take-replicate (term.power - next) (42 - next) (pos 0) (omega arith))
+      ∙ ap (λ xs. take next cs ++ xs) (ap (take (term.power - next)) r.zeros ∙ take-replicate (term.power - next) (42 - next) (pos 0) (omega arith))
 
   -- one more term
   pub read_term_more : next ≤ term.power → term.power < phi → at + term.len ≤ length text → ReadSoFar phi text (term.power + 1) (at + term.len) (set cs term.power term.coefficient)
@@ -34,7 +33,6 @@ module _ (phi : ℕ) (text : List ℕ) (next at : ℕ) (cs : List ℤ) (small : 
       let place : next + k ≡ term.power = omega arith in
       let count : phi - next ≡ k + suc n = omega arith in
       let p : suc (next + k) ≡ term.power + 1 = omega arith in
-      let later : true ≡ ltb 0 (at + term.len) = sym (lt-ltb 0 (at + term.len) (omega (arith, term_longer))) in
       let inside : term.power < length cs = omega (arith, r.count) in
       let list : (ds : List ℤ) → take next cs ++ (replicate k (pos 0) ++ (term.coefficient ∷ ds)) ≡ take (term.power + 1) (set cs term.power term.coefficient) ++ ds =
       λ ds. sym (append_assoc (take next cs) (replicate k (pos 0)) (term.coefficient ∷ ds)) ∙ ap (λ xs. xs ++ (term.coefficient ∷ ds)) (sym (front low (omega arith)))
@@ -45,13 +43,9 @@ module _ (phi : ℕ) (text : List ℕ) (next at : ℕ) (cs : List ℤ) (small : 
         count = length-set cs term.power term.coefficient ∙ r.count;
         zeros = drop-set-lt (term.power + 1) cs term.power term.coefficient (omega arith) ∙ ap (λ m. drop m cs) (omega arith)
             ∙ sym (drop-drop (k + 1) next cs) ∙ ap (drop (k + 1)) r.zeros ∙ drop-replicate (k + 1) (42 - next) (pos 0) ∙ ap (λ m. replicate m (pos 0)) (omega arith);
-        reads = r.reads
-            ∙ ap (λ m. option_map (λ ds. take next cs ++ ds) (coefficients_of m next (ltb 0 at) (drop at text))) count
-            ∙ ap (option_map (λ ds. take next cs ++ ds)) (skipped_to_term k n next (ltb 0 at) (drop at text) term found (sym place))
-            ∙ joined (coefficients_of n (suc (next + k)) true (drop term.len (drop at text))) list
-            ∙ ap (λ q. option_map (λ ds. take (term.power + 1) (set cs term.power term.coefficient) ++ ds) (coefficients_of n q true (drop term.len (drop at text)))) p
-            ∙ ap (λ t. option_map (λ ds. take (term.power + 1) (set cs term.power term.coefficient) ++ ds) (coefficients_of n (term.power + 1) true t)) (drop-drop term.len at text)
-            ∙ ap (λ l. option_map (λ ds. take (term.power + 1) (set cs term.power term.coefficient) ++ ds) (coefficients_of n (term.power + 1) l (drop (at + term.len) text))) later;
+        reads = rw (lt-ltb 0 (at + term.len) (omega (arith, term_longer)))
+            (rw (count, skipped_to_term k n next (ltb 0 at) (drop at text) term found (sym place), p, drop-drop) at r.reads
+            ∙ joined (coefficients_of n (term.power + 1) true (drop (at + term.len) text)) list);
       }
     where
       joined : (o : Option (List ℤ)) → ((ds : List ℤ) → take next cs ++ (replicate (term.power - next) (pos 0) ++ (term.coefficient ∷ ds)) ≡ take (term.power + 1) (set cs term.power term.coefficient) ++ ds)
@@ -77,19 +71,13 @@ module _ (phi : ℕ) (text : List ℕ) (next at : ℕ) (cs : List ℤ) (small : 
   pub read_all : 0 < at → length text ≤ at → coefficients_of phi 0 false text ≡ Some (take phi cs)
   read_all begun done =
       let place : next + (phi - next) ≡ phi = omega (arith, r.next_within) in
-      r.reads
-      ∙ ap (λ l. option_map (λ ds. take next cs ++ ds) (coefficients_of (phi - next) next l (drop at text))) (lt-ltb 0 at begun)
-      ∙ ap (λ t. option_map (λ ds. take next cs ++ ds) (coefficients_of (phi - next) next true t)) (drop_all at text done)
-      ∙ ap (option_map (λ ds. take next cs ++ ds)) (ended (phi - next) next)
-      ∙ ap (λ xs. Some (take next cs ++ xs)) (sym (ap (take (phi - next)) r.zeros ∙ take-replicate (phi - next) (42 - next) (pos 0) (omega (arith, r.next_within))))
-      ∙ ap (λ xs. Some xs) (sym (take-add next (phi - next) cs)) ∙ ap (λ n. Some (take n cs)) place
+      let front : take phi cs ≡ take next cs ++ replicate (phi - next) (pos 0) =
+      ap (λ n. take n cs) (sym place) ∙ take-add next (phi - next) cs
+      ∙ ap (λ xs. take next cs ++ xs) (ap (take (phi - next)) r.zeros ∙ take-replicate (phi - next) (42 - next) (pos 0) (omega (arith, r.next_within))) in
+      rw front (rw (lt-ltb 0 at begun, drop_all at text done, ended (phi - next) next) at r.reads)
 
   pub read_empty : at ≡ 0 → length text ≤ at → coefficients_of phi 0 false text ≡ None
-  read_empty none done =
-      r.reads
-      ∙ ap (λ l. option_map (λ ds. take next cs ++ ds) (coefficients_of (phi - next) next l (drop at text))) (le-ltb 0 at (omega arith))
-      ∙ ap (λ t. option_map (λ ds. take next cs ++ ds) (coefficients_of (phi - next) next false t)) (drop_all at text done)
-      ∙ ap (option_map (λ ds. take next cs ++ ds)) (not_begun (phi - next) next)
+  read_empty none done = rw (le-ltb 0 at (omega arith), drop_all at text done, not_begun (phi - next) next) at r.reads
 
   -- from phi on there are zeros
   pub read_zeros : drop phi cs ≡ replicate (42 - phi) (pos 0)

@@ -1,7 +1,8 @@
 -- Texts of values: which text is that of which coefficients.
 use Rattle.qd_ring.proofs.Names.{◌≡◌, ℕ, zero, suc, ◌-◌, ◌<◌, ◌≤◌, ◌^◌, min, Bool, true, false, ◌&&◌, List, [], ◌∷◌, ◌++◌, length, take, drop, map, get_or, refl, ap, sym, subst, ◌∙◌, inl, inr, arith, eqb, ltb, replicate, length-append, take-append-drop, Some, None, ℤ, pos, negsuc, neg_ℤ, nat_abs, list_all, cases_Bool, cases_lt, eqb-false, and_parts, lt-ltb, le-ltb, le-leb, lt-leb, ltb-true, map-append, drop-replicate, length-replicate, min-eq_left, length-take, ap₂, size_of, is_small, term_text, terms_text, value_text, or_nought, Spells, coefficients_of, term_of, term_after_sign}
 use Rattle.std.proofs.Math.Seq.{drop-append_seam}
-use Rattle.qd_ring.proofs.ValueTextLaws.{number_nought, empty_list, or_nought_filled, terms_nil, terms_nought, terms_term, term_nonempty}
+use Rattle.std.proofs.lemmas.List.{nil_from_length}
+use Rattle.qd_ring.proofs.ValueTextLaws.{number_nought, or_nought_filled, terms_nil, terms_nought, terms_term, term_nonempty}
 use Rattle.qd_ring.proofs.TermLaws.{capped}
 use Rattle.qd_ring.proofs.CoefficientLaws.{coefficients_read, coefficients_written, no_term_missed}
 
@@ -110,13 +111,13 @@ module _ (text : List ℕ) (phi : ℕ) (small : phi ≤ 42) (cs : List ℤ) (s :
   read_some h =
       let filled : or_nought (terms_text false 0 cs) ≡ terms_text false 0 cs = or_nought_filled (terms_text false 0 cs) h in
       ap (coefficients_of phi 0 false) (sym s.spelled ∙ filled ∙ sym front_terms)
-      ∙ coefficients_written phi 0 false (take phi cs) front_count (omega arith) (λ l. omega (arith, h, ap length front_terms))
+      ∙ rw front_count at (coefficients_written 0 false (take phi cs) (omega (arith, front_count)) (λ l. omega (arith, h, ap length front_terms)))
 
   -- a text with none is `0`
   none_some : length (terms_text false 0 cs) ≡ 0 → (text ≡ 48 ∷ []) × (cs ≡ replicate 42 (pos 0))
   unfolding value_text
   none_some h =
-      let none : terms_text false 0 cs ≡ [] = empty_list (terms_text false 0 cs) h in
+      let none : terms_text false 0 cs ≡ [] = nil_from_length (terms_text false 0 cs) h in
       (sym s.spelled ∙ ap or_nought none, all_nought false 0 cs none ∙ ap (λ n. replicate n (pos 0)) s.count)
 
 -- the capped coefficients of a text are determined

@@ -3,6 +3,7 @@ use Rattle.qd_ring.proofs.Names.{◌≡◌, ℕ, zero, suc, ◌+◌, Bool, true,
 use Rattle.std.proofs.Common.{to_z, of_z}
 use Rattle.std.specs.Int.{w128}
 use Rattle.std.proofs.Math.Bool.{or-true}
+use Rattle.std.proofs.lemmas.List.{nil_from_length}
 use Rattle.std.proofs.lemmas.Bool.{eqb-true}
 use Rattle.qd_ring.proofs.Fronts.{numeral_step}
 
@@ -27,10 +28,6 @@ terms_term later p c cs h = ap (λ b. elim b [ true ↦ terms_text later (suc p)
 pub number_nought : (c : ℤ) → eqb (nat_abs c) 0 ≡ true → c ≡ pos 0
 number_nought (pos n) e = ap pos (eqb-true n 0 e)
 number_nought (negsuc n) e = absurd (omega (arith, eqb-true (suc n) 0 e))
-
-pub empty_list : (xs : List ℕ) → length xs ≡ 0 → xs ≡ []
-empty_list [] h = refl
-empty_list (x ∷ xs) h = absurd (omega arith)
 
 pub or_nought_filled : (xs : List ℕ) → 0 < length xs → or_nought xs ≡ xs
 or_nought_filled [] h = absurd (omega arith)
@@ -110,7 +107,7 @@ terms_more old out cs i c h e some written =
 pub value_of_none : (old out : List ℕ) (cs : List ℤ) → out ≡ old ++ terms_text false 0 cs → length out ≡ length old → out ++ 48 ∷ [] ≡ old ++ value_text cs
 unfolding value_text
 value_of_none old out cs written same =
-    let nothing : terms_text false 0 cs ≡ [] = empty_list (terms_text false 0 cs) (omega (arith, simp length-append at (ap length written))) in
+    let nothing : terms_text false 0 cs ≡ [] = nil_from_length (terms_text false 0 cs) (omega (arith, simp length-append at (ap length written))) in
     ap (λ o. o ++ 48 ∷ []) written ∙ ap (λ t. (old ++ t) ++ 48 ∷ []) nothing ∙ ap (λ o. o ++ 48 ∷ []) (append-nil old) ∙ ap (λ t. old ++ or_nought t) (sym nothing)
 
 pub value_of_some : (old out : List ℕ) (cs : List ℤ) → out ≡ old ++ terms_text false 0 cs → (length out ≡ length old → ⊥) → out ≡ old ++ value_text cs
