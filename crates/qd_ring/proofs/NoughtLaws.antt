@@ -17,10 +17,6 @@ nought_fits : {n : ℕ} (u : Value n) → u ≡ value_nought → value_fits u �
 unfolding value_fits
 nought_fits u none = le-leb (value_size u) greatest_magnitude (omega (arith, nought_size u none))
 
-left_fits : {n : ℕ} (u v : Value n) → u ≡ value_nought → product_fits u v ≡ true
-unfolding product_fits
-left_fits u v none = lt-ltb (value_size u * value_size v) (2 ^ 108) (omega (arith, ap (λ a. a * value_size v) (nought_size u none)))
-
 module _ (k : ℕ) where
   conjugate_nought : conjugate k value_nought ≡ value_nought
   conjugate_nought = nought_map (cyclotomic_ring k) (cyclotomic_ring k) (conjugate k) (image-sum (cyclotomic k) (k - 1))
@@ -38,18 +34,6 @@ module _ (k : ℕ) where
       let same : conjugate k u.value ≡ value_nought = ap (conjugate k) none.nought ∙ conjugate_nought in
       record { fits = ap₂ (λ a b. a && b) none.fits (nought_fits (conjugate k u.value) same); nought = same }
 
-  pub nought_times : (u v : Formed k) → IsNought u → v.fits ≡ true → IsNought (multiplied k u v)
-  nought_times u v none fit = record {
-    fits = ap₂ (λ a b. a && b) (ap₂ (λ a b. a && b) none.fits fit) (left_fits u.value v.value none.nought);
-    nought = ap (λ a. value_product (cyclotomic k) a v.value) none.nought ∙ product_comm (cyclotomic k) value_nought v.value ∙ product-nought (cyclotomic k) v.value;
-  }
-
--- what m steps keep
-step_by_step : (P : ℕ → Type 0) (i m : ℕ) → P i → ((j : ℕ) → j < m → P (i + j) → P (i + j + 1)) → P (i + m)
-step_by_step P i zero here step = subst P (omega arith) here
-step_by_step P i (suc m) here step =
-    subst P (omega arith) (step m (omega arith) (step_by_step P i m here (λ j inside. step j (omega (arith, inside)))))
-
 module _ {k : ℕ} (term : ℕ → Formed k) where
   -- a term that is 0 adds nothing
   pub total_nought : (i : ℕ) (sum : CyclotomicValue k) (sizes : ℕ) → IsTotal term i sum sizes → IsNought (term i) → IsTotal term (i + 1) sum sizes
@@ -58,23 +42,3 @@ module _ {k : ℕ} (term : ℕ → Formed k) where
       let more = total_more term i sum sizes (term i).value t none.fits refl (omega (arith, size, t.small)) in
       subst (λ a. IsTotal term (i + 1) a sizes) (ap (value_sum sum) none.nought ∙ sum_nought (cyclotomic k) sum)
       (subst (λ m. IsTotal term (i + 1) (value_sum sum (term i).value) m) (omega (arith, size)) more)
-
-  -- nor do many
-  pub total_noughts : (i m : ℕ) (sum : CyclotomicValue k) (sizes : ℕ) → IsTotal term i sum sizes → ((j : ℕ) → j < m → IsNought (term (i + j))) → IsTotal term (i + m) sum sizes
-  total_noughts i m sum sizes t none = step_by_step (λ p. IsTotal term p sum sizes) i m t (λ j inside before. total_nought (i + j) sum sizes before (none j inside))
-
-  -- the same of a sum that is folded
-  pub folded_nought : (i : ℕ) (sum : CyclotomicValue k) (bound : ℕ) → IsFolded k term i sum bound → IsNought (term i) → IsFolded k term (i + 1) sum bound
-  folded_nought i sum bound folded none =
-      let size = nought_size (term i).value none.nought in
-      record {
-        fit = all_below-step i (λ j. (term j).fits) folded.fit none.fits;
-        adds = sym (ap (value_sum sum) none.nought ∙ sum_nought (cyclotomic k) sum)
-            ∙ sum_below_more (cyclotomic_ring k) (λ j. (term j).value) i sum (term i).value folded.adds refl;
-        within = omega
-            (arith, folded.within, size, sum_by-map-range_with_len_more (λ v. value_size v) (λ j. (term j).value) 0 i i (zero-add i));
-      }
-
-  pub folded_noughts : (i m : ℕ) (sum : CyclotomicValue k) (bound : ℕ) → IsFolded k term i sum bound → ((j : ℕ) → j < m → IsNought (term (i + j))) → IsFolded k term (i + m) sum bound
-  folded_noughts i m sum bound folded none =
-      step_by_step (λ p. IsFolded k term p sum bound) i m folded (λ j inside before. folded_nought (i + j) sum bound before (none j inside))

@@ -1,20 +1,12 @@
 -- Sums of roots of unity: what is made of them, and how great they are.
 use Rattle.qd_ring.proofs.Names.{◌≡◌, ℕ, zero, suc, ◌+◌, ◌-◌, ◌*◌, ◌^◌, ◌<◌, ◌≤◌, true, List, [], ◌∷◌, ◌++◌, length, map, refl, sym, ap, ◌∙◌, arith, length-append, sum_by, add-one, zero-add, pos, range_with_len, mul-le-mul, map-append, length-map, sum_by-cons, sum_by-map-range_with_len_more, le-leb, lt-ltb, ap₂, sum_list, sum_below, multiple, nought_mul, add_mul, mul_nought, mul_add, sum_list_nil, sum_list_cons, sum_list_append, sum_list_single, sum_zero, sum_suc, multiple_zero, multiple_suc, nought_map, is_conductor, cyclotomic, plus, x_to, degree, value_of-plus, value_sum, value_nought, value_product, CyclotomicValue, cyclotomic_ring, cyclotomic_value, root, conjugate, galois_image, value_size, value_fits, product_fits, greatest_magnitude, root-sum, image-sum, galois_root, conjugation_prime, size-plus, size-zeros, root_size, value_of-zeros}
 use Rattle.std.specs.Int.{IsGcd}
+use Rattle.std.proofs.lemmas.List.{map-id}
 use Rattle.qd_ring.specs.RootSums.{sum_of_roots, IsSumOfRoots}
 
 -- one more number in a sum of numbers
-counts_listed : (count : ℕ → ℕ) (xs : List ℕ) → sum_by (λ c. c) (map count xs) ≡ sum_by count xs
-counts_listed count [] = refl
-counts_listed count (x ∷ xs) =
-    sum_by-cons (λ c. c) (count x) (map count xs) ∙ ap (λ c. count x + c) (counts_listed count xs) ∙ sym (sum_by-cons count x xs)
-
 counts_more : (n : ℕ) (count : ℕ → ℕ) → sum_by count (range_with_len 0 n) + count n ≡ sum_by count (range_with_len 0 (suc n))
-counts_more n count =
-    ap (λ c. c + count n) (sym (counts_listed count (range_with_len 0 n)))
-    ∙ sym (sum_by-map-range_with_len_more (λ c. c) count 0 n n (zero-add n))
-    ∙ counts_listed count (range_with_len 0 (n + 1))
-    ∙ ap (λ j. sum_by count (range_with_len 0 j)) (add-one n)
+counts_more n count = sym (rw (map-id, map-id, add-one) at (sum_by-map-range_with_len_more count (λ i. i) 0 n n (zero-add n)))
 
 module _ (k : ℕ) where
   no_roots : sum_of_roots k [] ≡ value_nought
@@ -27,19 +19,13 @@ module _ (k : ℕ) where
 
   roots-append : (es fs : List ℕ) → sum_of_roots k (es ++ fs) ≡ value_sum (sum_of_roots k es) (sum_of_roots k fs)
   unfolding sum_of_roots
-  roots-append es fs =
-      ap (sum_list (cyclotomic_ring k)) (map-append (λ v. root k v) es fs)
-      ∙ sum_list_append (cyclotomic_ring k) (map (λ v. root k v) es) (map (λ v. root k v) fs)
+  roots-append es fs = simp (map-append, sum_list_append)
 
   -- a root times a sum of roots
   roots-turned : (e : ℕ) (es : List ℕ) → value_product (cyclotomic k) (root k e) (sum_of_roots k es) ≡ sum_of_roots k (map (λ v. e + v) es)
-  roots-turned e [] =
-      ap (value_product (cyclotomic k) (root k e)) no_roots ∙ mul_nought (cyclotomic_ring k) (root k e) ∙ sym no_roots
+  roots-turned e [] = simp (no_roots, mul_nought (cyclotomic_ring k))
   roots-turned e (v ∷ es) =
-      ap (value_product (cyclotomic k) (root k e)) (more_roots v es)
-      ∙ mul_add (cyclotomic_ring k) (root k e) (root k v) (sum_of_roots k es)
-      ∙ ap₂ value_sum (sym (root-sum (cyclotomic k) e v)) (roots-turned e es)
-      ∙ sym (more_roots (e + v) (map (λ w. e + w) es))
+      simp (more_roots, mul_add (cyclotomic_ring k), root-sum (cyclotomic k), roots-turned e es)
 
   -- the exponents of a product
   abbrev pub exponent_sums : List ℕ → List ℕ → List ℕ
@@ -47,14 +33,9 @@ module _ (k : ℕ) where
   exponent_sums (e ∷ es) fs = map (λ v. e + v) fs ++ exponent_sums es fs
 
   roots-product : (es fs : List ℕ) → value_product (cyclotomic k) (sum_of_roots k es) (sum_of_roots k fs) ≡ sum_of_roots k (exponent_sums es fs)
-  roots-product [] fs =
-      ap (λ u. value_product (cyclotomic k) u (sum_of_roots k fs)) no_roots
-      ∙ nought_mul (cyclotomic_ring k) (sum_of_roots k fs) ∙ sym no_roots
+  roots-product [] fs = simp (no_roots, nought_mul (cyclotomic_ring k))
   roots-product (e ∷ es) fs =
-      ap (λ u. value_product (cyclotomic k) u (sum_of_roots k fs)) (more_roots e es)
-      ∙ add_mul (cyclotomic_ring k) (root k e) (sum_of_roots k es) (sum_of_roots k fs)
-      ∙ ap₂ value_sum (roots-turned e fs) (roots-product es fs)
-      ∙ sym (roots-append (map (λ v. e + v) fs) (exponent_sums es fs))
+      simp (more_roots, roots-append, add_mul (cyclotomic_ring k), roots-turned e fs, roots-product es fs)
 
   length-exponent_sums : (es fs : List ℕ) → length (exponent_sums es fs) ≡ length es * length fs
   length-exponent_sums [] fs = omega arith
@@ -99,24 +80,16 @@ module _ (k : ℕ) where
   }
 
   pub roots_copied : (n r : ℕ) (u : CyclotomicValue k) → IsSumOfRoots k r u → IsSumOfRoots k (n * r) (multiple (cyclotomic_ring k) n u)
-  roots_copied zero r u of_u =
-      roots_same 0 (0 * r) value_nought (multiple (cyclotomic_ring k) zero u) (omega arith) (sym (multiple_zero (cyclotomic_ring k) u)) no_root
+  roots_copied zero r u of_u = roots_same 0 (0 * r) value_nought _ (omega arith) (sym (multiple_zero (cyclotomic_ring k) u)) no_root
   roots_copied (suc n) r u of_u =
-      roots_same (n * r + r) (suc n * r) (value_sum (multiple (cyclotomic_ring k) n u) u) (multiple (cyclotomic_ring k) (suc n) u) (omega arith)
-      (sym (multiple_suc (cyclotomic_ring k) n u))
-      (roots_together (n * r) r (multiple (cyclotomic_ring k) n u) u (roots_copied n r u of_u) of_u)
+      roots_same (n * r + r) (suc n * r) _ _ (omega arith) (sym (multiple_suc (cyclotomic_ring k) n u)) (roots_together _ _ _ u (roots_copied n r u of_u) of_u)
 
   pub roots_below : (n : ℕ) (count : ℕ → ℕ) (value : ℕ → CyclotomicValue k) → ((i : ℕ) → i < n → IsSumOfRoots k (count i) (value i))
       → IsSumOfRoots k (sum_by count (range_with_len 0 n)) (sum_below (cyclotomic_ring k) n value)
-  roots_below zero count value of_each =
-      roots_same 0 (sum_by count (range_with_len 0 zero)) value_nought (sum_below (cyclotomic_ring k) zero value) refl
-      (sym (sum_zero (cyclotomic_ring k) value)) no_root
+  roots_below zero count value of_each = roots_same 0 _ value_nought _ refl (sym (sum_zero (cyclotomic_ring k) value)) no_root
   roots_below (suc n) count value of_each =
-      roots_same (sum_by count (range_with_len 0 n) + count n) (sum_by count (range_with_len 0 (suc n)))
-      (value_sum (sum_below (cyclotomic_ring k) n value) (value n)) (sum_below (cyclotomic_ring k) (suc n) value) (counts_more n count)
-      (sym (sum_suc (cyclotomic_ring k) n value))
-      (roots_together (sum_by count (range_with_len 0 n)) (count n) (sum_below (cyclotomic_ring k) n value) (value n)
-      (roots_below n count value (λ i h. of_each i (omega arith))) (of_each n (omega arith)))
+      roots_same _ _ _ _ (counts_more n count) (sym (sum_suc (cyclotomic_ring k) n value))
+      (roots_together _ _ _ (value n) (roots_below n count value (λ i h. of_each i (omega arith))) (of_each n (omega arith)))
 
 -- a whole number is that many times the root 1
 whole_more : (k n : ℕ) → value_sum (cyclotomic_value k (pos n ∷ [])) (root k 0) ≡ cyclotomic_value k (pos (suc n) ∷ [])
@@ -125,22 +98,13 @@ whole_more k n =
     sym (value_of-plus (cyclotomic k) (pos n ∷ []) (x_to 0)) ∙ ap (λ c. cyclotomic_value k (pos c ∷ [])) (add-one n)
 
 pub roots_whole : (k n : ℕ) → IsSumOfRoots k n (cyclotomic_value k (pos n ∷ []))
-roots_whole k zero = roots_same k 0 0 value_nought (cyclotomic_value k (pos 0 ∷ [])) refl (sym (value_of-zeros (cyclotomic k) 1)) (no_root k)
-roots_whole k (suc n) =
-    roots_same k (n + 1) (suc n) (value_sum (cyclotomic_value k (pos n ∷ [])) (root k 0)) (cyclotomic_value k (pos (suc n) ∷ [])) (omega arith)
-    (whole_more k n) (roots_together k n 1 (cyclotomic_value k (pos n ∷ [])) (root k 0) (roots_whole k n) (one_root k 0))
+roots_whole k zero = roots_same k 0 0 value_nought _ refl (sym (value_of-zeros (cyclotomic k) 1)) (no_root k)
+roots_whole k (suc n) = roots_same k (n + 1) (suc n) _ _ (omega arith) (whole_more k n) (roots_together k n 1 _ _ (roots_whole k n) (one_root k 0))
 
 module _ (k : ℕ) (entry : is_conductor k ≡ true) where
   roots-image : (t : ℕ) → IsGcd t k 1 → (es : List ℕ) → galois_image k t (sum_of_roots k es) ≡ sum_of_roots k (map (λ e. t * e) es)
-  roots-image t prime [] =
-      ap (galois_image k t) (no_roots k)
-      ∙ nought_map (cyclotomic_ring k) (cyclotomic_ring k) (galois_image k t) (image-sum (cyclotomic k) t)
-      ∙ sym (no_roots k)
-  roots-image t prime (e ∷ es) =
-      ap (galois_image k t) (more_roots k e es)
-      ∙ image-sum (cyclotomic k) t (root k e) (sum_of_roots k es)
-      ∙ ap₂ value_sum (galois_root k entry t prime e) (roots-image t prime es)
-      ∙ sym (more_roots k (t * e) (map (λ v. t * v) es))
+  roots-image t prime [] = simp no_roots (nought_map (cyclotomic_ring k) (cyclotomic_ring k) (galois_image k t) (image-sum (cyclotomic k) t))
+  roots-image t prime (e ∷ es) = simp (more_roots, image-sum, galois_root k entry t prime, roots-image t prime es)
 
   pub roots_imaged : (t : ℕ) → IsGcd t k 1 → (r : ℕ) (u : CyclotomicValue k) → IsSumOfRoots k r u → IsSumOfRoots k r (galois_image k t u)
   roots_imaged t prime r u of_u = record {
@@ -156,8 +120,7 @@ module _ (k : ℕ) (entry : is_conductor k ≡ true) where
   unfolding value_sum value_nought
   size-roots [] = omega (arith, ap (λ u. value_size u) (no_roots k), size-zeros (degree (cyclotomic k)))
   size-roots (e ∷ es) =
-      omega
-      (arith, ap (λ u. value_size u) (more_roots k e es), size-plus (root k e).coefficients (sum_of_roots k es).coefficients, root_size k entry e, size-roots es)
+      simp more_roots (omega (arith, size-plus (root k e).coefficients (sum_of_roots k es).coefficients, root_size k entry e, size-roots es))
 
   pub roots_size : (r : ℕ) (u : CyclotomicValue k) → IsSumOfRoots k r u → value_size u ≤ r
   roots_size r u of_u = omega (arith, ap (λ v. value_size v) of_u.adds, size-roots of_u.exponents, of_u.count)

@@ -1,12 +1,17 @@
 -- One more number.
-use Rattle.qd_ring.proofs.Names.{get_or, sym, pos, rules, w128, SFits, size-nil}
-use Rattle.qd_ring.proofs.BufferLaws.{size_step}
+use Rattle.qd_ring.proofs.Names.{◌≡◌, ◌∙◌, ◌+◌, ap, arith, add-one, drop, drop-cons, drop_all, get_or, max, nat_abs, pos, rules, to_z-of_z, w128, SFits, size-cons, size-nil, size_of}
 use Rattle.qd_ring.proofs.cyc_buffer.size.Goals as goal
-
-pub loop-a-init : goal.loop-a-init
-loop-a-init c = sym size-nil
 
 pub loop-a-preserved : goal.loop-a-preserved
 loop-a-preserved c =
-    let fits : SFits w128 (get_or c.args.coefficients.now c.loop-a.a-index (pos 0)) = search rules in
-    size_step c.args.coefficients.now c.loop-a.a-index c.max-largest.result c.unsigned_abs.result c.loop-a.largest c.loop-a-test.true c.unsigned_abs.ensures.value fits c.max-largest.ensures c.loop-a.invariant
+    let xs = c.args.coefficients.now in
+    let i = c.loop-a.a-index in
+    let fits : SFits w128 (get_or xs i (pos 0)) = search rules in
+    let rest : size_of (drop i xs) ≡ max (nat_abs (get_or xs i (pos 0))) (size_of (drop (i + 1) xs)) =
+    rw (drop-cons xs i (pos 0) c.loop-a-test.true, add-one) (size-cons _ _) in
+    omega (arith, rest, ap nat_abs (to_z-of_z w128 (get_or xs i (pos 0)) fits))
+
+pub returns : goal.returns
+returns c =
+    let rest = ap size_of (drop_all c.loop-a.a-index c.args.coefficients.now (omega arith)) in
+    omega (arith, c.loop-a.invariant, rest, size-nil)
