@@ -1,20 +1,19 @@
 -- Sparse values: lists of coefficients, each at a power of x.
-use Rattle.std.specs.Prelude.{◌≡◌, ◌<◌, ◌≤◌, ◌+◌, ◌*◌, ℕ, nat_abs, true, List, [], ◌∷◌, All}
+use Rattle.std.specs.Prelude.{◌≡◌, ◌<◌, ◌≤◌, ◌*◌, ℕ, nat_abs, true, List, map, sum_by, All}
+use Rattle.algebra.specs.Sums.{sum_list}
 use Rattle.cyclotomic.specs.Conductors.{is_conductor}
-use Rattle.cyclotomic.specs.Ring.{value_sum, value_multiple, value_nought}
-use Rattle.cyclotomic.specs.CyclotomicRing.{CyclotomicValue, root}
+use Rattle.cyclotomic.specs.Ring.{value_multiple}
+use Rattle.cyclotomic.specs.CyclotomicRing.{CyclotomicValue, cyclotomic_ring, root}
 use Rattle.cyclotomic.specs.Fit.{value_size, greatest_magnitude}
 use Rattle.qd_ring.specs.declared.monomial.Monomial.{Monomial}
 
 -- the value of a list of terms: the sum of the c x^p
 unfoldable pub value_of_terms : (k : ℕ) → List Monomial → CyclotomicValue k
-value_of_terms k [] = value_nought
-value_of_terms k (term ∷ terms) = value_sum (value_multiple term.coefficient (root k term.power)) (value_of_terms k terms)
+value_of_terms k terms = sum_list (cyclotomic_ring k) (map (λ term. value_multiple term.coefficient (root k term.power)) terms)
 
 -- the sum of the magnitudes of the coefficients
 unfoldable pub total_of_terms : List Monomial → ℕ
-total_of_terms [] = 0
-total_of_terms (term ∷ terms) = nat_abs term.coefficient + total_of_terms terms
+total_of_terms terms = sum_by (λ term. nat_abs term.coefficient) terms
 
 -- the terms of a value that fits, with its size and their total
 pub record IsSparse (k : ℕ) (terms : List Monomial) (size total : ℕ) : Type 0 where
