@@ -1,6 +1,6 @@
 -- Sizes of arrays and of the values that they stand for, and the special images.
-use Rattle.qd_ring.proofs.Names.{array_length, size-padded, ◌≡◌, ℕ, ◌-◌, ◌*◌, ◌^◌, ◌%◌, ◌≤◌, ◌<◌, true, false, List, length, sym, ap, ◌∙◌, subst, arith, nat_le, ℤ, leb-true, le-leb, lt-leb, lt-ltb, le-ltb, ap₂, cyclotomic, is_conductor, size_of, value_size, value_fits, product_fits, greatest_magnitude, Value, value_product, CyclotomicValue, galois_image, root, remainder_ring, one_mul, root-zero, image-one_power, galois_modulo, total_of, total-size, product_that_fits, array_of, is_array, is_small}
-use Rattle.qd_ring.proofs.ProductLaws.{is_array-of}
+use Rattle.qd_ring.proofs.Names.{cyclotomic_value, root_size, array_length, size-padded, ◌≡◌, ℕ, ◌-◌, ◌*◌, ◌^◌, ◌%◌, ◌≤◌, ◌<◌, true, false, List, length, sym, ap, ◌∙◌, subst, arith, nat_le, ℤ, leb-true, le-leb, lt-leb, lt-ltb, le-ltb, ap₂, cyclotomic, is_conductor, size_of, value_size, value_fits, product_fits, greatest_magnitude, Value, value_product, CyclotomicValue, galois_image, root, remainder_ring, one_mul, root-zero, image-one_power, galois_modulo, total_of, total-size, product_that_fits, array_of, is_array, is_small}
+use Rattle.qd_ring.specs.ArrayLaws.{value_fits-small}
 
 pub small_means : (xs : List ℤ) → is_small xs ≡ true → size_of xs ≤ greatest_magnitude
 unfolding is_small
@@ -41,11 +41,14 @@ pub is_small_no : (xs : List ℤ) (s : ℕ) → s ≡ size_of xs → greatest_ma
 unfolding is_small
 is_small_no xs s e h = lt-leb (size_of xs) greatest_magnitude (omega (arith, e, h))
 
-pub array-is : (k : ℕ) → is_conductor k ≡ true → (u : CyclotomicValue k) (xs : List ℤ) → xs ≡ array_of u → is_array k xs ≡ true
-array-is k entry u xs e = ap (is_array k) e ∙ is_array-of k entry u
+module _ (k : ℕ) (entry : is_conductor k ≡ true) where
+  -- the array of a value that fits is small
+  pub small_value : (xs : List ℤ) → is_array k xs ≡ true → (u : CyclotomicValue k) → cyclotomic_value k xs ≡ u → value_fits u ≡ true → is_small xs ≡ true
+  small_value xs array u e fits = sym (value_fits-small k entry xs array) ∙ ap value_fits e ∙ fits
 
-pub fits-product : (k : ℕ) → is_conductor k ≡ true → (u v : CyclotomicValue k) (xs : List ℤ) → xs ≡ array_of (value_product (cyclotomic k) u v) → product_fits u v ≡ true → is_small xs ≡ true
-fits-product k entry u v xs e fits = ap is_small e ∙ small-array_of (value_product (cyclotomic k) u v) ∙ product_that_fits k entry u v fits
+  pub root_fits : (e : ℕ) → value_fits (root k e) ≡ true
+  unfolding value_fits
+  root_fits e = le-leb (value_size (root k e)) greatest_magnitude (omega (arith, root_size k entry e))
 
 -- ---- the test of a product
 module _ (k : ℕ) (u v : CyclotomicValue k) (s t : ℕ) (s_is : s ≡ value_size u) (t_is : t ≡ value_size v) where

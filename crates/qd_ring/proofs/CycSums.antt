@@ -1,9 +1,10 @@
 -- Sums, differences and constants as arrays.
-use Rattle.qd_ring.proofs.Names.{all_noughts, array_length, array_parts, size-value, value_of-padded, value_of-zeros, zeros_noughts, ◌≡◌, ℕ, zero, suc, pred, ◌-◌, ◌%◌, ◌≤◌, ◌<◌, true, false, List, [], ◌∷◌, ◌++◌, length, take, drop, refl, sym, ap, ◌∙◌, arith, ◌&&◌, eq-eqb, length-drop, get_or, take-length, drop-replicate, ℤ, pos, negsuc, ◌+ℤ◌, ◌*ℤ◌, nat_abs, list_all, ap₂, zeros, plus, scaled, coefficient, cyclotomic, is_conductor, phi_of, size_of, value_size, value_fits, greatest_magnitude, le-leb, value_sum, value_multiple, value_negative, value_nought, value_product, CyclotomicValue, cyclotomic_ring, cyclotomic_value, root, power, root_modulo, length-zeros, length-scaled, length-plus, scaled-one, scaled-zeros, plus-zeros, size-scaled, size-zeros, size-cons, root_size, array_of, is_array, is_nought, is_small, conductor_bounds}
+use Rattle.qd_ring.proofs.Names.{value_of-plus, all_noughts, array_length, array_parts, size-value, value_of-padded, value_of-zeros, zeros_noughts, ◌≡◌, ℕ, zero, suc, pred, ◌-◌, ◌%◌, ◌≤◌, ◌<◌, true, false, List, [], ◌∷◌, ◌++◌, length, take, drop, refl, sym, ap, ◌∙◌, arith, ◌&&◌, eq-eqb, length-drop, get_or, take-length, drop-replicate, ℤ, pos, negsuc, ◌+ℤ◌, ◌*ℤ◌, nat_abs, list_all, ap₂, zeros, plus, scaled, coefficient, cyclotomic, is_conductor, phi_of, size_of, value_size, value_fits, greatest_magnitude, le-leb, value_sum, value_multiple, value_negative, value_nought, value_product, CyclotomicValue, cyclotomic_ring, cyclotomic_value, root, power, root_modulo, length-zeros, length-scaled, length-plus, scaled-one, scaled-zeros, plus-zeros, size-scaled, size-zeros, size-cons, root_size, array_of, is_array, is_nought, is_small, conductor_bounds}
 use Rattle.qd_ring.specs.ArrayLaws.{coefficients_of}
 use Rattle.cyclotomic.proofs.Orthogonality.{power-root}
-use Rattle.qd_ring.proofs.ProductLaws.{length-value}
-use Rattle.qd_ring.proofs.CycLaws.{small_means, size-array_of, is_small_yes}
+use Rattle.cyclotomic.specs.Laws.Values.{value_of-scaled}
+use Rattle.qd_ring.proofs.ProductLaws.{length-value, is_array-of}
+use Rattle.qd_ring.proofs.CycLaws.{small_means, is_small_yes}
 
 plus-padded : (p q : List ℤ) (j : ℕ) → length p ≡ length q → plus (p ++ zeros j) (q ++ zeros j) ≡ plus p q ++ zeros j
 unfolding plus
@@ -42,17 +43,11 @@ module _ (k : ℕ) (entry : is_conductor k ≡ true) where
       ∙ ap (λ j. scaled c u.coefficients ++ zeros (42 - j)) (sym (length-scaled c u.coefficients))
 
   module _ (xs ys : List ℤ) (a : is_array k xs ≡ true) (b : is_array k ys ≡ true) where
-    pub sum_array : plus xs (scaled (pos 1) ys) ≡ array_of (value_sum (cyclotomic_value k xs) (cyclotomic_value k ys))
-    sum_array =
-        ap (plus xs) (scaled-one ys)
-        ∙ ap₂ plus (array-of_value xs a) (array-of_value ys b)
-        ∙ array_of-sum (cyclotomic_value k xs) (cyclotomic_value k ys)
-
-    pub difference_array : plus xs (scaled (negsuc 0) ys) ≡ array_of (value_sum (cyclotomic_value k xs) (value_negative (cyclotomic_value k ys)))
-    difference_array =
-        ap₂ (λ x y. plus x (scaled (negsuc 0) y)) (array-of_value xs a) (array-of_value ys b)
-        ∙ ap (plus (array_of (cyclotomic_value k xs))) (array_of-multiple (negsuc 0) (cyclotomic_value k ys))
-        ∙ array_of-sum (cyclotomic_value k xs) (value_negative (cyclotomic_value k ys))
+    pub combined_array : (c : ℤ) → is_array k (plus xs (scaled c ys)) ≡ true
+    combined_array c =
+        ap (is_array k) (ap₂ (λ x y. plus x (scaled c y)) (array-of_value xs a) (array-of_value ys b)
+        ∙ ap (plus _) (array_of-multiple c (cyclotomic_value k ys)) ∙ array_of-sum (cyclotomic_value k xs) (value_multiple c (cyclotomic_value k ys)))
+        ∙ is_array-of k entry _
 
   -- ---- constants
   pub constant_array : (v : ℤ) → is_array k (v ∷ zeros 41) ≡ true
@@ -73,10 +68,12 @@ module _ (k : ℕ) (entry : is_conductor k ≡ true) where
   pub zero_value : cyclotomic_value k (zeros 42) ≡ value_nought
   zero_value = value_of-zeros (cyclotomic k) 42
 
-  -- ---- roots
-  pub root_array_small : (e : ℕ) (xs : List ℤ) → xs ≡ array_of (root k e) → is_small xs ≡ true
-  root_array_small e xs is =
-      is_small_yes xs (size_of xs) refl (omega (arith, ap size_of is, size-array_of (root k e), root_size k entry e))
+module _ (k : ℕ) (xs ys : List ℤ) where
+  pub difference_value : cyclotomic_value k (plus xs (scaled (negsuc 0) ys)) ≡ value_sum (cyclotomic_value k xs) (value_negative (cyclotomic_value k ys))
+  difference_value = value_of-plus (cyclotomic k) xs _ ∙ ap (value_sum _) (value_of-scaled (cyclotomic k) (negsuc 0) ys)
+
+  pub sum_value : cyclotomic_value k (plus xs (scaled (pos 1) ys)) ≡ value_sum (cyclotomic_value k xs) (cyclotomic_value k ys)
+  sum_value = ap (λ z. cyclotomic_value k (plus xs z)) (scaled-one ys) ∙ value_of-plus (cyclotomic k) xs ys
 
 -- ---- whole numbers and single coefficients
 coefficient_padded : (p : List ℤ) (j i : ℕ) → coefficient (p ++ zeros j) i ≡ coefficient p i

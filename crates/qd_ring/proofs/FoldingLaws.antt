@@ -1,6 +1,5 @@
 -- Steps of adding up products in one buffer.
 use Rattle.qd_ring.proofs.Names.{◌≡◌, ◌+◌, ◌*◌, ◌^◌, ◌<◌, ◌≤◌, ℕ, true, not, ◌||◌, ◌&&◌, Some, List, ◌++◌, length, take, map, refl, sym, ◌∙◌, ap, subst, arith, zero-add, sum_by, ℤ, range_with_len, mul-le-mul, le-ltb, sum_by-map-range_with_len_more, le-leb, lt-ltb, ap₂, all_below-zero, all_below-step, one_mul, sum_zero, is_conductor, cyclotomic, value_sum, value_nought, value_product, CyclotomicValue, cyclotomic_ring, cyclotomic_value, value_size, value_fits, product_fits, greatest_magnitude, sizes_overflow, root-zero, total_of, Cyc, Monomial, sum_overflows, Formed, Forms, listed, multiplied, turned, value_of_terms, total_of_terms, turned_product, IsSparseOf, IsTurnedProduct, IsFolded, take-append_seam, length-take-le, value_of, size_of, array_of, is_small, conductor_bounds}
-use Rattle.qd_ring.proofs.CycLaws.{is_small_yes, size-array_of}
 use Rattle.qd_ring.proofs.ReduceLaws.{remainder_size}
 use Rattle.qd_ring.proofs.ListedSums.{sum_below_more}
 use Rattle.qd_ring.proofs.SparseLaws.{size-turned, size-turned_product}
@@ -70,12 +69,10 @@ module _ (k : ℕ) (entry : is_conductor k ≡ true) where
   pub buffer_front : (xs : List ℤ) → length xs ≡ 120 → length (take k xs) ≡ k
   buffer_front xs size = length-take-le k xs (omega (arith, size, (conductor_bounds k entry).0))
 
-  -- the array of a buffer's value is small where the total is
-  pub reduced_small : (xs ys : List ℤ) → ys ≡ array_of (cyclotomic_value k xs) → total_of xs < 2 ^ 108 → is_small ys ≡ true
-  unfolding value_of
-  reduced_small xs ys is small =
-      is_small_yes ys (size_of ys) refl
-      (omega (arith, ap size_of is, size-array_of (cyclotomic_value k xs), remainder_size k entry xs, small))
+  -- the value of a buffer fits where the total is small
+  pub buffer_fits : (xs : List ℤ) → total_of xs < 2 ^ 108 → value_fits (cyclotomic_value k xs) ≡ true
+  unfolding value_of value_fits
+  buffer_fits xs small = le-leb (value_size (cyclotomic_value k xs)) greatest_magnitude (omega (arith, remainder_size k entry xs, small))
 
 -- ---- products of values that are kept sparse
 module _ (k : ℕ) (f h : Formed k) (a b : List Monomial) (of_a : IsSparseOf k f a) (of_b : IsSparseOf k h b) where

@@ -1,5 +1,5 @@
 -- Products term by term, arrays of values, and what a zero buffer stands for.
-use Rattle.qd_ring.proofs.Names.{value_of-padded, zeros_noughts, ◌≡◌, ℕ, zero, suc, ◌-◌, true, List, ◌++◌, length, take, drop, refl, sym, ap, ◌∙◌, arith, length-append, eq-eqb, ◌&&◌, drop-append_seam, take-replicate, ℤ, pos, list_all, ap₂, zeros, at_power, degree, remainder, cyclotomic, is_conductor, phi_of, Value, value_sum, value_multiple, value_nought, value_of, value_product, value_image, CyclotomicValue, cyclotomic_value, galois_image, length-zeros, value_of-itself, product_comm, sum_nought, sum_comm, cyclotomic_degree, total_of, array_of, is_array, is_nought, conductor_bounds}
+use Rattle.qd_ring.proofs.Names.{value_of-padded, value_of-zeros, zeros_noughts, ◌≡◌, ℕ, zero, suc, ◌-◌, true, List, ◌++◌, length, take, drop, refl, sym, ap, ◌∙◌, arith, length-append, eq-eqb, ◌&&◌, drop-append_seam, take-replicate, ℤ, pos, list_all, ap₂, zeros, at_power, degree, remainder, cyclotomic, is_conductor, phi_of, Value, value_sum, value_multiple, value_nought, value_of, value_product, value_image, CyclotomicValue, cyclotomic_value, galois_image, length-zeros, value_of-itself, product_comm, sum_nought, sum_comm, cyclotomic_degree, total_of, array_of, is_array, is_nought, conductor_bounds}
 use Rattle.qd_ring.specs.ArrayLaws.{coefficients_of}
 use Rattle.qd_ring.proofs.SpreadLaws.{product-multiple}
 
@@ -59,6 +59,11 @@ empty_length k entry = sym (ap length (empty_front k entry) ∙ length-zeros k)
 -- an empty buffer has k places, and their magnitudes are 0
 pub empty_size : (k : ℕ) (xs : List ℤ) → xs ≡ zeros k → length xs ≡ k
 empty_size k xs e = ap length e ∙ length-zeros k
+
+-- what is added to it is its value
+pub added_to_empty : (k : ℕ) (xs : List ℤ) → xs ≡ zeros k → (u : CyclotomicValue k) → value_sum (cyclotomic_value k xs) u ≡ u
+added_to_empty k xs e u =
+    ap (λ z. value_sum z u) (ap (cyclotomic_value k) e ∙ value_of-zeros (cyclotomic k) k) ∙ nought_sum (cyclotomic k) u
 
 pub empty_total : (k : ℕ) (xs : List ℤ) → xs ≡ zeros k → total_of xs ≡ 0
 empty_total k xs e = ap total_of e ∙ total-zeros k

@@ -6,9 +6,9 @@ ghost use Rattle.cyclotomic.specs.Polynomial.{coefficient};
 ghost use Rattle.cyclotomic.specs.Cyclotomic.{cyclotomic};
 ghost use Rattle.cyclotomic.specs.Conductors.{is_conductor};
 ghost use Rattle.cyclotomic.specs.Ring.{value_sum, value_multiple, value_negative, value_nought, value_one, value_product};
-ghost use Rattle.cyclotomic.specs.CyclotomicRing.{CyclotomicValue, cyclotomic_value, conjugate, galois_image, root};
+ghost use Rattle.cyclotomic.specs.CyclotomicRing.{cyclotomic_value, conjugate, galois_image, root};
 ghost use Rattle.cyclotomic.specs.Fit.{value_size, value_fits, product_fits, greatest_magnitude};
-ghost use Rattle.qd_ring.specs.CycArrays.{array_of, is_array, is_small};
+ghost use Rattle.qd_ring.specs.CycArrays.{is_array, is_small};
 
 use crate::cyc_buffer::{all_zero, combine, image, is_padded, size};
 use crate::plain::Plain;
@@ -136,10 +136,9 @@ impl<const K: u32> Cyc<K> {
         requires array { is_array K coefficients ≡ true }
         ensures small { is_some result ≡ is_small coefficients }
         ensures same { IfSome result (λ value. value.coefficients ≡ coefficients) }
-        ensures fits { (u : CyclotomicValue K) → coefficients ≡ array_of u
-            → is_some result ≡ value_fits u }
-        ensures value { (u : CyclotomicValue K) → coefficients ≡ array_of u
-            → IfSome result (λ value. cyclotomic_value K value.coefficients ≡ u) }
+        ensures fits { is_some result ≡ value_fits (cyclotomic_value K coefficients) }
+        ensures value { IfSome result (λ value. cyclotomic_value K value.coefficients
+            ≡ cyclotomic_value K coefficients) }
     {
         if size(&coefficients) <= GREATEST {
             Some(Cyc { coefficients })

@@ -10,7 +10,7 @@ ghost use Rattle.cyclotomic.specs.Fit.{size_of};
 ghost use Rattle.cyclotomic.specs.Ring.{value_of, value_sum, value_multiple, value_product, value_root};
 ghost use Rattle.cyclotomic.specs.CyclotomicRing.{cyclotomic_value, galois_image, root};
 ghost use Rattle.cyclotomic.proofs.Sizes.{total_of};
-ghost use Rattle.qd_ring.specs.CycArrays.{array_of, is_array, is_nought};
+ghost use Rattle.qd_ring.specs.CycArrays.{is_array, is_nought};
 ghost use Rattle.std.specs.List.{list_all};
 
 use crate::reduction::reduction;
@@ -125,7 +125,8 @@ pub(crate) fn reduced(k: u32, buffer: &mut [i128]) -> [i128; 42]
     requires conductor { is_conductor k ≡ true }
     requires size { length buffer.old ≡ k }
     requires room { total_of buffer.old < 2 ^ 126 }
-    ensures { result ≡ array_of (cyclotomic_value k buffer.old) }
+    ensures array { is_array k result ≡ true }
+    ensures value { cyclotomic_value k result ≡ cyclotomic_value k buffer.old }
 {
     reduce(k, buffer);
     first_places(buffer, reduction(k).len())
@@ -139,8 +140,9 @@ fn reduced_image(k: u32, buffer: &mut [i128], a: &[i128], start: u32, stride: u3
     requires start { start < k }
     requires stride { stride < k }
     requires room { total_of a.now < 2 ^ 126 }
-    ensures { result ≡ array_of (value_product (cyclotomic k) (root k start)
-        (cyclotomic_value k (at_power stride a.now))) }
+    ensures array { is_array k result ≡ true }
+    ensures value { cyclotomic_value k result ≡ value_product (cyclotomic k) (root k start)
+        (cyclotomic_value k (at_power stride a.now)) }
 {
     spread(k, buffer, a, start, stride);
     reduced(k, buffer)
@@ -154,8 +156,9 @@ pub(crate) fn image(k: u32, a: &[i128; 42], start: u32, stride: u32) -> [i128; 4
     requires start { start < k }
     requires stride { stride < k }
     requires room { total_of a.now < 2 ^ 126 }
-    ensures { result ≡ array_of (value_product (cyclotomic k) (root k start)
-        (galois_image k stride (cyclotomic_value k a.now))) }
+    ensures array { is_array k result ≡ true }
+    ensures value { cyclotomic_value k result ≡ value_product (cyclotomic k) (root k start)
+        (galois_image k stride (cyclotomic_value k a.now)) }
 {
     let phi = reduction(k).len();
     let mut buffer = [0i128; 120];

@@ -7,7 +7,7 @@ ghost use Rattle.cyclotomic.specs.Ring.{value_sum, value_multiple, value_product
 ghost use Rattle.cyclotomic.specs.CyclotomicRing.{cyclotomic_value, root};
 ghost use Rattle.cyclotomic.specs.Polynomial.{zeros};
 ghost use Rattle.cyclotomic.proofs.Sizes.{total_of};
-ghost use Rattle.qd_ring.specs.CycArrays.{array_of};
+ghost use Rattle.qd_ring.specs.CycArrays.{is_array};
 ghost use Rattle.qd_ring.specs.SparseValues.{value_of_terms, total_of_terms};
 
 use crate::cyc_buffer::{add_at, reduced};
@@ -87,8 +87,9 @@ fn reduced_product(k: u32, buffer: &mut [i128], a: &[Monomial], b: &[Monomial]) 
     requires a_powers { All (λ term. term.power < k) a.now }
     requires b_powers { All (λ term. term.power < k) b.now }
     requires room { total_of_terms a.now * total_of_terms b.now < 2 ^ 126 }
-    ensures { result ≡ array_of (value_product (cyclotomic k) (value_of_terms k a.now)
-        (value_of_terms k b.now)) }
+    ensures array { is_array k result ≡ true }
+    ensures value { cyclotomic_value k result ≡ value_product (cyclotomic k) (value_of_terms k a.now)
+        (value_of_terms k b.now) }
 {
     add_product(k, buffer, a, b, 0);
     reduced(k, buffer)
@@ -101,8 +102,9 @@ pub(crate) fn product(k: u32, a: &[Monomial], b: &[Monomial]) -> [i128; 42]
     requires a_powers { All (λ term. term.power < k) a.now }
     requires b_powers { All (λ term. term.power < k) b.now }
     requires room { total_of_terms a.now * total_of_terms b.now < 2 ^ 126 }
-    ensures { result ≡ array_of (value_product (cyclotomic k) (value_of_terms k a.now)
-        (value_of_terms k b.now)) }
+    ensures array { is_array k result ≡ true }
+    ensures value { cyclotomic_value k result ≡ value_product (cyclotomic k) (value_of_terms k a.now)
+        (value_of_terms k b.now) }
 {
     let mut buffer = [0i128; 120];
     reduced_product(k, &mut buffer[..k as usize], a, b)

@@ -1,8 +1,6 @@
 -- The multiple of 1 by the root.
-use Rattle.qd_ring.proofs.Names.{ap, ◌∙◌, arith, cyclotomic, value_product, cyclotomic_value, root, product_one, array_of, conductor_bounds}
-use Rattle.qd_ring.proofs.ProductLaws.{value-array_of}
-use Rattle.qd_ring.proofs.CycLaws.{array-is, times_alone}
-use Rattle.qd_ring.proofs.CycSums.{root_array_small}
+use Rattle.qd_ring.proofs.Names.{ap, ◌∙◌, arith, cyclotomic, value_product, root, product_one, conductor_bounds}
+use Rattle.qd_ring.proofs.CycLaws.{times_alone, small_value, root_fits}
 use Rattle.qd_ring.proofs.cyc.Cyc.from_root.Goals as goal
 
 pub image-requires-clause-stride : goal.image-requires-clause-stride
@@ -13,26 +11,18 @@ image-requires-clause-stride g c =
 pub invariant_of-result : goal.invariant_of-result
 invariant_of-result g c =
     let k = g.row.K in
+    let entry = c.args.r.conductor in
     let e = c.exponent.result in
-    let u = cyclotomic_value k c.one-one.result.coefficients in
-    let is = c.image.ensures ∙ ap array_of
-    (times_alone k c.args.r.conductor e u
-    ∙ ap (value_product (cyclotomic k) (root k e)) c.one-one.ensures
-    ∙ product_one (cyclotomic k) (root k e)) in
+    let is = c.image.ensures.value ∙ times_alone k entry e _ ∙ ap (value_product (cyclotomic k) (root k e)) c.one-one.ensures ∙ product_one (cyclotomic k) (root k e) in
     record {
-      conductor = c.args.r.conductor;
-      array = array-is k c.args.r.conductor (root k e) c.image.result is;
-      small = root_array_small k c.args.r.conductor e c.image.result is;
+      conductor = entry;
+      array = c.image.ensures.array;
+      small = small_value k entry c.image.result c.image.ensures.array (root k e) is (root_fits k entry e);
     }
 
 pub returns : goal.returns
 returns g c =
     let k = g.row.K in
     let e = c.exponent.result in
-    let u = cyclotomic_value k c.one-one.result.coefficients in
-    ap (cyclotomic_value k) (c.image.ensures ∙ ap array_of
-    (times_alone k c.args.r.conductor e u
-    ∙ ap (value_product (cyclotomic k) (root k e)) c.one-one.ensures
-    ∙ product_one (cyclotomic k) (root k e)))
-    ∙ value-array_of k c.args.r.conductor (root k e)
-    ∙ ap (root k) c.exponent.ensures.exponent
+    c.image.ensures.value ∙ times_alone k c.args.r.conductor e _ ∙ ap (value_product (cyclotomic k) (root k e)) c.one-one.ensures
+    ∙ product_one (cyclotomic k) (root k e) ∙ ap (root k) c.exponent.ensures.exponent

@@ -1,18 +1,15 @@
 -- The array is that of the value, and fits where its size does.
-use Rattle.qd_ring.proofs.Names.{◌∙◌, lit<}
-use Rattle.qd_ring.proofs.CycLaws.{array-is}
-use Rattle.qd_ring.proofs.CycSums.{sum_array}
+use Rattle.qd_ring.proofs.Names.{ap, lit<, ◌∙◌, pos, cyclotomic_value, is_array, value_fits}
+use Rattle.qd_ring.proofs.CycSums.{combined_array, sum_value}
 use Rattle.qd_ring.proofs.cyc.Cyc.try_add.Goals as goal
 
 pub fitted-requires : goal.fitted-requires
 fitted-requires g c =
     let a = c.args.self.now in
     let b = c.args.b.now in
-    (lit< tt, (a.conductor, array-is g.row.K a.conductor _ c.combine.new.a (c.combine.ensures ∙ sum_array g.row.K a.conductor a.coefficients b.coefficients a.array b.array)))
+    (lit< tt, (a.conductor, ap (is_array g.row.K) c.combine.ensures ∙ combined_array g.row.K a.conductor a.coefficients b.coefficients a.array b.array (pos 1)))
 
 pub returns : goal.returns
 returns g c =
-    let a = c.args.self.now in
-    let b = c.args.b.now in
-    let is = c.combine.ensures ∙ sum_array g.row.K a.conductor a.coefficients b.coefficients a.array b.array in
-    record { fits = c.fitted.ensures.fits _ is; value = c.fitted.ensures.value _ is }
+    let is = ap (cyclotomic_value g.row.K) c.combine.ensures ∙ sum_value g.row.K c.args.self.now.coefficients c.args.b.now.coefficients in
+    record { fits = c.fitted.ensures.fits ∙ ap value_fits is; value = rw is at c.fitted.ensures.value }

@@ -1,15 +1,10 @@
 -- The image is formed, and fits where its size does.
-use Rattle.qd_ring.proofs.Names.{◌-◌, ap, ◌∙◌, lit<, cyclotomic_value, array_of}
-use Rattle.qd_ring.proofs.CycLaws.{array-is, image_alone}
+use Rattle.qd_ring.proofs.Names.{◌-◌, ap, ◌∙◌, cyclotomic_value, value_fits}
+use Rattle.qd_ring.proofs.CycLaws.{image_alone}
 use Rattle.qd_ring.proofs.cyc.Cyc.try_conj.Goals as goal
-
-pub fitted-requires : goal.fitted-requires
-fitted-requires g c =
-    let a = c.args.self.now in
-    (lit< tt, (a.conductor, array-is g.row.K a.conductor _ c.image.result c.image.ensures))
 
 pub returns : goal.returns
 returns g c =
     let a = c.args.self.now in
-    let is = c.image.ensures ∙ ap array_of (image_alone g.row.K a.conductor (g.row.K - 1) (cyclotomic_value g.row.K a.coefficients)) in
-    record { fits = c.fitted.ensures.fits _ is; value = c.fitted.ensures.value _ is }
+    let is = c.image.ensures.value ∙ image_alone g.row.K a.conductor (g.row.K - 1) (cyclotomic_value g.row.K a.coefficients) in
+    record { fits = c.fitted.ensures.fits ∙ ap value_fits is; value = rw is at c.fitted.ensures.value }

@@ -1,8 +1,7 @@
 -- The remainder of the buffer, which is within the bound.
 use Rattle.qd_ring.proofs.Names.{ap, ◌∙◌, ◌<◌, ◌^◌, subst, sym, arith, take, cyclotomic_value, conductor_bounds}
-use Rattle.qd_ring.proofs.ProductLaws.{value-array_of}
-use Rattle.qd_ring.proofs.CycLaws.{array-is}
-use Rattle.qd_ring.proofs.FoldingLaws.{folded_all, buffer_front, reduced_small}
+use Rattle.qd_ring.proofs.CycLaws.{small_value}
+use Rattle.qd_ring.proofs.FoldingLaws.{folded_all, buffer_front, buffer_fits}
 use Rattle.qd_ring.proofs.folded.Folded.finish.Goals as goal
 
 pub slice_bounds-coefficients-end : goal.slice_bounds-coefficients-end
@@ -15,22 +14,17 @@ pub reduced-requires-clause-size : goal.reduced-requires-clause-size
 reduced-requires-clause-size g c = buffer_front g.row.K c.self.invariant.conductor c.self.inside.coefficients c.self.invariant.size
 
 pub invariant_of-result : goal.invariant_of-result
-invariant_of-result g c =
-    let k = g.row.K in
-    let entry = c.self.invariant.conductor in
-    let u = cyclotomic_value k (take k c.self.inside.coefficients) in
-    record {
-      conductor = entry;
-      array = array-is k entry u c.reduced.result c.reduced.ensures;
-      small = reduced_small k entry (take k c.self.inside.coefficients) c.reduced.result c.reduced.ensures (omega (arith, c.self.invariant.within, c.self.invariant.small));
-    }
+invariant_of-result g c = record {
+  conductor = c.self.invariant.conductor;
+  array = c.reduced.ensures.array;
+  small = small_value g.row.K c.self.invariant.conductor c.reduced.result c.reduced.ensures.array _ c.reduced.ensures.value
+      (buffer_fits g.row.K c.self.invariant.conductor _ (omega (arith, c.self.invariant.within, c.self.invariant.small)));
+}
 
 pub returns : goal.returns
 returns g c =
     let k = g.row.K in
-    let value = ap (cyclotomic_value k) c.reduced.ensures
-    ∙ value-array_of k c.self.invariant.conductor (cyclotomic_value k (take k c.self.inside.coefficients))
-    ∙ ap (λ f. cyclotomic_value k (take k f.coefficients)) c.self.view_is in
+    let value = c.reduced.ensures.value ∙ ap (λ f. cyclotomic_value k (take k f.coefficients)) c.self.view_is in
     record {
       value = value;
       listed = λ term n folded.

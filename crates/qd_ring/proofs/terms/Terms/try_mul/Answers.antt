@@ -1,7 +1,6 @@
 -- The sizes decide, and what they let through fits.
-use Rattle.qd_ring.proofs.Names.{◌≡◌, ◌*◌, ap, sym, ◌∙◌, arith, ap₂, cyclotomic, value_product, product_fits, cyclotomic_value, array_of, value_of_terms, total_of_terms}
-use Rattle.qd_ring.proofs.ProductLaws.{value-array_of}
-use Rattle.qd_ring.proofs.CycLaws.{array-is, fits-product, fits_by_sizes, unfit_by_sizes}
+use Rattle.qd_ring.proofs.Names.{◌≡◌, ◌*◌, ap, sym, ◌∙◌, arith, ap₂, cyclotomic, value_product, product_fits, product_that_fits, cyclotomic_value, array_of, value_of_terms, total_of_terms}
+use Rattle.qd_ring.proofs.CycLaws.{small_value, fits_by_sizes, unfit_by_sizes}
 use Rattle.qd_ring.proofs.SparseLaws.{sparse_room}
 use Rattle.qd_ring.proofs.terms.Terms.try_mul.Goals as goal
 
@@ -16,13 +15,13 @@ invariant_of-result g c =
     let k = g.row.K in
     let u = value_of_terms k c.self.inside.terms.items in
     let v = value_of_terms k c.b.inside.terms.items in
-    let is : c.product.result ≡ array_of (value_product (cyclotomic k) u v) =
-    c.product.ensures ∙ ap₂ (λ x y. array_of (value_product (cyclotomic k) (value_of_terms k x) (value_of_terms k y))) c.as_slice.ensures.value c.as_slice-in-Some.ensures.value in
+    let entry = c.self.invariant.conductor in
+    let is = c.product.ensures.value ∙ ap₂ (λ x y. value_product (cyclotomic k) (value_of_terms k x) (value_of_terms k y)) c.as_slice.ensures.value c.as_slice-in-Some.ensures.value in
     record {
-      conductor = c.self.invariant.conductor;
-      array = array-is k c.self.invariant.conductor (value_product (cyclotomic k) u v) c.product.result is;
-      small = fits-product k c.self.invariant.conductor u v c.product.result is
-          (fits_by_sizes k u v c.self.inside.size c.b.inside.size c.self.invariant.size_is c.b.invariant.size_is (omega (arith, c.in-Some.ensures.1, c.if-sizes-lt-PRODUCT_LIMIT.true)));
+      conductor = entry;
+      array = c.product.ensures.array;
+      small = small_value k entry c.product.result c.product.ensures.array (value_product (cyclotomic k) u v) is (product_that_fits k entry u v
+          (fits_by_sizes k u v c.self.inside.size c.b.inside.size c.self.invariant.size_is c.b.invariant.size_is (omega (arith, c.in-Some.ensures.1, c.if-sizes-lt-PRODUCT_LIMIT.true))));
     }
 
 pub returns-in-Some-clause-fits : goal.returns-in-Some-clause-fits
@@ -36,10 +35,7 @@ returns-in-Some-clause-fits g c =
 pub returns-in-Some-clause-value : goal.returns-in-Some-clause-value
 returns-in-Some-clause-value g c =
     let k = g.row.K in
-    let u = value_of_terms k c.self.inside.terms.items in
-    let v = value_of_terms k c.b.inside.terms.items in
-    ap (cyclotomic_value k) c.product.ensures
-    ∙ value-array_of k c.self.invariant.conductor (value_product (cyclotomic k) (value_of_terms k c.as_slice.result.now) (value_of_terms k c.as_slice-in-Some.result.now))
+    c.product.ensures.value
     ∙ ap₂ (λ x y. value_product (cyclotomic k) (value_of_terms k x) (value_of_terms k y)) (c.as_slice.ensures.value ∙ c.self.view_is) (c.as_slice-in-Some.ensures.value ∙ c.b.view_is)
 
 pub returns-in_default-clause-fits : goal.returns-in_default-clause-fits
