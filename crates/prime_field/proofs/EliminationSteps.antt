@@ -10,26 +10,22 @@ module _ {A : Type 0} (R : CommRing A) where
   -- x . (y - c z) = x . y - c (x . z)
   pub dot_reduced : (w : ℕ) (x y z : ℕ → A) (c : A) → dot R w x (λ j. R.add (y j) (R.neg (R.mul c (z j)))) ≡ R.add (dot R w x y) (R.neg (R.mul c (dot R w x z)))
   dot_reduced w x y z c =
-      dot_is R w x (λ j. R.add (y j) (R.neg (R.mul c (z j))))
-      ∙ sum_ext R w (λ j. R.mul (x j) (R.add (y j) (R.neg (R.mul c (z j))))) (λ j. R.add (R.mul (x j) (y j)) (R.neg (R.mul c (R.mul (x j) (z j))))) (λ j p. simp (ring_rules, R))
-      ∙ sum_add R w (λ j. R.mul (x j) (y j)) (λ j. R.neg (R.mul c (R.mul (x j) (z j))))
-      ∙ ap (R.add (sum_below R w (λ j. R.mul (x j) (y j)))) (sum_neg R w (λ j. R.mul c (R.mul (x j) (z j))) ∙ ap R.neg (sym (mul_sum R w c (λ j. R.mul (x j) (z j)))))
-      ∙ sym (simp (dot_is))
+      dot_is R w x _
+      ∙ sum_ext R w _ (λ j. R.add (R.mul (x j) (y j)) (R.neg (R.mul c (R.mul (x j) (z j))))) (λ j p. simp (ring_rules, R))
+      ∙ simp (sum_add, sum_neg, mul_sum, dot_is)
 
-  -- the rows of the identity
-  abbrev pub identity : ℕ → ℕ → A
-  identity i j = pick R (nat_eq i j) R.one
-
-  pub nothing_solved : (w : ℕ) (e : ℕ → ℕ → A) → IsSolved R 0 w e identity
-  nothing_solved w e = record {
+  -- the rows of the identity solve no equation
+  pub nothing_solved : (w : ℕ) (e p : ℕ → ℕ → A) → ((i j : ℕ) → i < w → j < w → p i j ≡ pick R (nat_eq i j) R.one) → IsSolved R 0 w e p
+  nothing_solved w e p unit = record {
     solves = λ f h i k. absurd (omega arith);
     complete = λ v sv m h.
-        sum_ext R w (λ f. R.mul (v f) (identity f m)) (λ f. pick R (nat_eq f m) (v f)) (λ f k. mul_pick R (nat_eq f m) (v f) R.one ∙ ap (pick R (nat_eq f m)) (R.mul_one (v f)))
+        sum_ext R w (λ f. R.mul (v f) (p f m)) (λ f. pick R (nat_eq f m) (v f))
+        (λ f k. ap (R.mul (v f)) (unit f m k h) ∙ mul_pick R (nat_eq f m) (v f) R.one ∙ ap (pick R (nat_eq f m)) (R.mul_one (v f)))
         ∙ sum_pick R w m v h;
     reduced = λ f h. inl (record {
-      one = pick_of R (nat_eq f f) R.one (eq-eqb f f refl);
-      before = λ m k. pick_off R (nat_eq f m) R.one (ne_eqb f m (λ q. omega arith));
-      others = λ l k d. pick_off R (nat_eq l f) R.one (ne_eqb l f d);
+      one = unit f f h h ∙ pick_of R (nat_eq f f) R.one (eq-eqb f f refl);
+      before = λ m k. unit f m h (omega arith) ∙ pick_off R (nat_eq f m) R.one (ne_eqb f m (λ q. omega arith));
+      others = λ l k d. unit l f k h ∙ pick_off R (nat_eq l f) R.one (ne_eqb l f d);
     });
   }
 
@@ -132,29 +128,5 @@ module _ {A : Type 0} (R : CommRing A) where
       | inr other ↦ solved.solves f h i (omega arith)
     ];
     complete = λ v sv m h. solved.complete v (λ i k. sv i (omega arith)) m h;
-    reduced = solved.reduced;
-  }
-
-  -- it depends on the numbers of the rows below w alone
-  pub solved_ext : (n w : ℕ) (e p next : ℕ → ℕ → A) → ((f m : ℕ) → f < w → m < w → next f m ≡ p f m) → IsSolved R n w e p → IsSolved R n w e next
-  solved_ext n w e p next same solved = record {
-    solves = λ f h i k. dot_ext w (e i) (next f) (e i) (p f) (λ m l. refl) (λ m l. same f m h l) ∙ solved.solves f h i k;
-    complete = λ v sv m h. sum_ext R w (λ f. R.mul (v f) (next f m)) (λ f. R.mul (v f) (p f m)) (λ f k. ap (R.mul (v f)) (same f m k h)) ∙ solved.complete v sv m h;
-    reduced = λ f h. by_row f h (solved.reduced f h);
-  }
-    where
-      by_row : (f : ℕ) → f < w → IsFree R w p f ⊎ IsGone R w p f → IsFree R w next f ⊎ IsGone R w next f
-      by_row f h (inl free) = inl (record {
-        one = same f f h h ∙ free.one;
-        before = λ m k. same f m h (omega arith) ∙ free.before m k;
-        others = λ l k d. same l f k h ∙ free.others l k d;
-      })
-      by_row f h (inr gone) = inr (λ m k. same f m h k ∙ gone m k)
-
-  -- it depends on the numbers of the equations below w alone
-  pub equations_ext : (n w : ℕ) (e d p : ℕ → ℕ → A) → ((i m : ℕ) → i < n → m < w → d i m ≡ e i m) → IsSolved R n w e p → IsSolved R n w d p
-  equations_ext n w e d p same solved = record {
-    solves = λ f h i k. dot_ext w (d i) (p f) (e i) (p f) (λ m l. same i m k l) (λ m l. refl) ∙ solved.solves f h i k;
-    complete = λ v sv m h. solved.complete v (λ i k. dot_ext w (e i) v (d i) v (λ j l. sym (same i j k l)) (λ j l. refl) ∙ sv i k) m h;
     reduced = solved.reduced;
   }

@@ -1,5 +1,5 @@
 -- The last of the kept rows for the equations of a matrix's powers is the matrix's minimal polynomial.
-use Rattle.prime_field.proofs.Names.{◌≡◌, inl, inr, ℕ, zero, suc, ◌+◌, ◌-◌, ◌*◌, ◌/◌, ◌%◌, ◌<◌, ◌≤◌, List, [], ◌∷◌, ◌++◌, length, get_or, length-append, refl, sym, ◌∙◌, ap, add-zero, arith, mod-lt, zero-mul, div-lt_iff_lt-mul, div-add-mod', place_below, get_or_push, nat_eq, nat_lt, cases_lt, lt-ltb, le-ltb, ap₂, fun_ext, CommRing, sum_below, pick, mul_nought, nought_mul, sum_zero, sum_ext, sum_nought, sum_first, sum_split, sum_reindex, pick_of, pick_off, Field, dot, Solves, matrix_power, matrix_polynomial, IsAnnihilator, IsMinimal, horner, act, IsFree, IsGone, IsSolved, move_none, horner_nil, horner_cons, horner_move, monic_is, dot_is, columns, IsNoughtBelow, nought_stable, units, length_units, units_reach, killed}
+use Rattle.prime_field.proofs.Names.{◌≡◌, inl, inr, ℕ, zero, suc, ◌+◌, ◌-◌, ◌*◌, ◌/◌, ◌%◌, ◌<◌, ◌≤◌, List, [], ◌∷◌, ◌++◌, length, get_or, length-append, refl, sym, ◌∙◌, ap, add-zero, zero-add, arith, mod-mul-add, div-mul-add, row_below, column_below, place_below, get_or_push, nat_eq, nat_lt, cases_lt, lt-ltb, le-ltb, ap₂, fun_ext, CommRing, sum_below, pick, mul_nought, nought_mul, sum_zero, sum_ext, sum_nought, sum_first, sum_split, sum_reindex, pick_of, pick_off, Field, dot, Solves, matrix_power, matrix_polynomial, IsAnnihilator, IsMinimal, horner, act, IsFree, IsGone, IsSolved, power_equations, move_none, horner_nil, horner_cons, horner_move, monic_is, dot_is, columns, IsNoughtBelow, nought_stable, units, length_units, units_reach, killed}
 
 module _ {A : Type 0} (R : CommRing A) where
   pub power_at_zero : (w : ℕ) (a : ℕ → ℕ → A) (i j : ℕ) → matrix_power R w a zero i j ≡ pick R (nat_eq i j) R.one
@@ -34,26 +34,23 @@ module _ {A : Type 0} (R : CommRing A) where
       ∙ sym (sum_first R (length f) (λ k. R.mul (get_or (c ∷ f) k R.nought) (matrix_power R w a (s + k) i j)))
 
   -- some monic polynomial of degree w is nought at a
-  pub record HasMonic (w : ℕ) (a : ℕ → ℕ → A) : Type 0 where
-    pub coefficients : ℕ → A
-    pub leading : coefficients w ≡ R.one
-    pub annihilates : IsAnnihilator R w a (suc w) coefficients
+  record HasMonic (w : ℕ) (a : ℕ → ℕ → A) : Type 0 where
+    coefficients : ℕ → A
+    leading : coefficients w ≡ R.one
+    annihilates : IsAnnihilator R w a (w + 1) coefficients
 
-  pub monic_annihilator : Field R → (w : ℕ) (a : ℕ → ℕ → A) → HasMonic w a
+  monic_annihilator : Field R → (w : ℕ) (a : ℕ → ℕ → A) → HasMonic w a
   monic_annihilator F w a =
       let k = killed F (columns R w a) (IsNoughtBelow R w) (nought_stable R w a) (units R w) (λ v. units_reach R w a w v (λ i h l. absurd (omega arith))) in
       let f : List A = k.lower in
       let size : length f ≡ w = k.degree ∙ length_units R w in
-      let whole : length (f ++ R.one ∷ []) ≡ suc w = omega (arith, length-append f (R.one ∷ [])) in
+      let whole : length (f ++ R.one ∷ []) ≡ w + 1 = omega (arith, length-append f (R.one ∷ [])) in
       record {
         coefficients = λ i. get_or (f ++ R.one ∷ []) i R.nought;
         leading = get_or_push f R.one R.nought w size;
         annihilates = λ i j h l.
-            matrix_polynomial_is w a (suc w) (λ n. get_or (f ++ R.one ∷ []) n R.nought) i j
-            ∙ ap (λ n. sum_below R n (λ m. R.mul (get_or (f ++ R.one ∷ []) m R.nought) (matrix_power R w a m i j))) (sym whole)
-            ∙ sum_ext R (length (f ++ R.one ∷ [])) (λ m. R.mul (get_or (f ++ R.one ∷ []) m R.nought) (matrix_power R w a m i j)) (λ m. R.mul (get_or (f ++ R.one ∷ []) m R.nought) (matrix_power R w a (0 + m) i j))
-            (λ m q. let e : m ≡ 0 + m = omega arith in ap (λ z. R.mul (get_or (f ++ R.one ∷ []) m R.nought) (matrix_power R w a z i j)) e)
-            ∙ sym (act_powers w a (f ++ R.one ∷ []) 0 j i)
+            matrix_polynomial_is w a (w + 1) (λ n. get_or (f ++ R.one ∷ []) n R.nought) i j
+            ∙ rw (← whole) (sym (simp zero-add at (act_powers w a (f ++ R.one ∷ []) 0 j i)))
             ∙ ap (λ v. v i) (monic_is (columns R w a) f (λ m. matrix_power R w a 0 m j))
             ∙ k.kills (λ m. matrix_power R w a 0 m j) i h;
       }
@@ -62,91 +59,76 @@ module _ {A : Type 0} (R : CommRing A) where
   polynomial_cut : (w : ℕ) (a : ℕ → ℕ → A) (n m : ℕ) (f g : ℕ → A) (i j : ℕ) → n ≤ m → ((k : ℕ) → k < n → g k ≡ f k) → ((k : ℕ) → n ≤ k → k < m → g k ≡ R.nought)
       → matrix_polynomial R w a m g i j ≡ matrix_polynomial R w a n f i j
   polynomial_cut w a n m f g i j less same over =
-      let e : n + (m - n) ≡ m = omega arith in
-      matrix_polynomial_is w a m g i j
-      ∙ ap (λ z. sum_below R z (λ k. R.mul (g k) (matrix_power R w a k i j))) (sym e)
-      ∙ sum_split R n (m - n) (λ k. R.mul (g k) (matrix_power R w a k i j))
-      ∙ ap₂ R.add
-      (sum_ext R n (λ k. R.mul (g k) (matrix_power R w a k i j)) (λ k. R.mul (f k) (matrix_power R w a k i j)) (λ k h. ap (λ z. R.mul z (matrix_power R w a k i j)) (same k h)))
-      (sum_ext R (m - n) (λ k. R.mul (g (n + k)) (matrix_power R w a (n + k) i j)) (λ k. R.nought)
-      (λ k h. ap (λ z. R.mul z (matrix_power R w a (n + k) i j)) (over (n + k) (omega arith) (omega arith)) ∙ nought_mul R (matrix_power R w a (n + k) i j)) ∙ sum_nought R (m - n))
-      ∙ R.add_nought (sum_below R n (λ k. R.mul (f k) (matrix_power R w a k i j)))
-      ∙ sym (matrix_polynomial_is w a n f i j)
+      let whole : n + (m - n) ≡ m = omega arith in
+      rw (matrix_polynomial_is w a m g i j, matrix_polynomial_is w a n f i j, ← whole)
+      (sum_split R n (m - n) _
+      ∙ ap₂ R.add (sum_ext R n _ _ (λ k h. ap (λ z. R.mul z (matrix_power R w a k i j)) (same k h)))
+      (sum_ext R (m - n) _ (λ k. R.nought) (λ k h. ap (λ z. R.mul z (matrix_power R w a (n + k) i j)) (over (n + k) (omega arith) (omega arith)) ∙ nought_mul R _) ∙ sum_nought R (m - n))
+      ∙ R.add_nought _)
 
-  -- row j * r + i of e has the numbers at i and j of the powers of a, from the r-th down to the 0-th
-  pub record ArePowers (r : ℕ) (a e : ℕ → ℕ → A) : Type 0 where
-    pub each : (i j t : ℕ) → i < r → j < r → t ≤ r → e (j * r + i) t ≡ matrix_power R r a (r - t) i j
+  -- columns of the numbers of polynomials of degree at most r, the last number first
+  module _ (r : ℕ) (a : ℕ → ℕ → A) where
+    equation_is : (k : ℕ) (v : ℕ → A) → dot R (r + 1) (power_equations R r a k) v ≡ matrix_polynomial R r a (r + 1) (λ t. v (r - t)) (k % r) (k / r)
+    equation_is k v =
+        dot_is R (r + 1) (power_equations R r a k) v
+        ∙ sym (sum_reindex R (r + 1) (λ t. r - t) (λ t. r - t) (λ t q. omega arith) (λ t q. omega arith) (λ t q. omega arith) (λ t q. omega arith)
+        (λ t. R.mul (power_equations R r a k t) (v t)))
+        ∙ sum_ext R (r + 1) _ (λ t. R.mul (v (r - t)) (matrix_power R r a t (k % r) (k / r)))
+        (λ t q. let s : r - (r - t) ≡ t = omega arith in rw s (R.mul_comm _ _))
+        ∙ sym (matrix_polynomial_is r a (r + 1) (λ t. v (r - t)) (k % r) (k / r))
 
-  -- a row that begins at f, and none that begins later
-  pub record IsLast (w : ℕ) (p : ℕ → ℕ → A) (f : ℕ) : Type 0 where
-    pub below : f < w
-    pub free : IsFree R w p f
-    pub later : (g : ℕ) → g < w → f < g → IsGone R w p g
+    solution_annihilates : (v : ℕ → A) → Solves R (r * r) (r + 1) (power_equations R r a) v → IsAnnihilator R r a (r + 1) (λ k. v (r - k))
+    solution_annihilates v sv i j h l =
+        ap₂ (matrix_polynomial R r a (r + 1) (λ k. v (r - k))) (sym (mod-mul-add j r i h)) (sym (div-mul-add j r i h))
+        ∙ sym (equation_is (j * r + i) v) ∙ sv (j * r + i) (place_below r j i l h)
 
-  module _ (r : ℕ) (a e : ℕ → ℕ → A) (powers : ArePowers r a e) where
-    equation_is : (i j : ℕ) (v : ℕ → A) → i < r → j < r → dot R (suc r) (e (j * r + i)) v ≡ matrix_polynomial R r a (suc r) (λ k. v (r - k)) i j
-    equation_is i j v h l =
-        dot_is R (suc r) (e (j * r + i)) v
-        ∙ sym (sum_reindex R (suc r) (λ k. r - k) (λ k. r - k) (λ k q. omega arith) (λ k q. omega arith) (λ k q. omega arith) (λ k q. omega arith) (λ t. R.mul (e (j * r + i) t) (v t)))
-        ∙ sum_ext R (suc r) (λ k. R.mul (e (j * r + i) (r - k)) (v (r - k))) (λ k. R.mul (v (r - k)) (matrix_power R r a k i j))
-        (λ k q. let s : r - (r - k) ≡ k = omega arith in
-        ap (λ z. R.mul z (v (r - k))) (powers.each i j (r - k) h l (omega arith) ∙ ap (λ z. matrix_power R r a z i j) s) ∙ R.mul_comm (matrix_power R r a k i j) (v (r - k)))
-        ∙ sym (matrix_polynomial_is r a (suc r) (λ k. v (r - k)) i j)
+    -- the column of the m numbers g, with noughts for the numbers after them
+    padded : ℕ → (ℕ → A) → ℕ → A
+    padded m g t = pick R (nat_lt (r - t) m) (g (r - t))
 
-    solution_annihilates : (v : ℕ → A) → Solves R (r * r) (suc r) e v → IsAnnihilator R r a (suc r) (λ k. v (r - k))
-    solution_annihilates v sv i j h l = sym (equation_is i j v h l) ∙ sv (j * r + i) (place_below r j i l h)
+    padded_at : (m : ℕ) (g : ℕ → A) (k : ℕ) → k < m → k ≤ r → padded m g (r - k) ≡ g k
+    unfolding padded
+    padded_at m g k less small = let s : r - (r - k) ≡ k = omega arith in rw s (pick_of R (nat_lt k m) (g k) (lt-ltb k m less))
 
-    annihilator_solves : (v : ℕ → A) → IsAnnihilator R r a (suc r) (λ k. v (r - k)) → Solves R (r * r) (suc r) e v
-    annihilator_solves v zero_at k h =
-        let r_positive : 0 < r = positive r h in
-        let row : k / r < r = (div-lt_iff_lt-mul {x = k} {y = r} r_positive).1 h in
-        let column : k % r < r = mod-lt k r_positive in
-        let split : k ≡ k / r * r + k % r = sym (div-add-mod' k r) in
-        ap (λ z. dot R (suc r) (e z) v) split ∙ equation_is (k % r) (k / r) v column row ∙ zero_at (k % r) (k / r) column row
-      where
-        positive : (n : ℕ) → k < n * n → 0 < n
-        positive zero h = absurd (omega (arith, zero-mul 0))
-        positive (suc n) h = omega arith
+    padded_off : (m : ℕ) (g : ℕ → A) (t : ℕ) → m ≤ r - t → padded m g t ≡ R.nought
+    unfolding padded
+    padded_off m g t over = pick_off R (nat_lt (r - t) m) (g (r - t)) (le-ltb (r - t) m over)
 
-    module _ (p : ℕ → ℕ → A) (solved : IsSolved R (r * r) (suc r) e p) where
+    padded_solves : (m : ℕ) (g : ℕ → A) → m ≤ r + 1 → IsAnnihilator R r a m g → Solves R (r * r) (r + 1) (power_equations R r a) (padded m g)
+    padded_solves m g less zero_at k h =
+        equation_is k (padded m g)
+        ∙ polynomial_cut r a m (r + 1) g (λ n. padded m g (r - n)) (k % r) (k / r) less
+        (λ n q. padded_at m g n q (omega arith)) (λ n q t. padded_off m g (r - n) (omega arith))
+        ∙ zero_at (k % r) (k / r) (column_below r k h) (row_below r k h)
+
+    module _ (p : ℕ → ℕ → A) (solved : IsSolved R (r * r) (r + 1) (power_equations R r a) p) where
+      -- a solution is nought at a place at which each row or its number in the solution is
+      solution_nought : (v : ℕ → A) → Solves R (r * r) (r + 1) (power_equations R r a) v → (t : ℕ) → t < r + 1
+          → ((f : ℕ) → f < r + 1 → R.mul (v f) (p f t) ≡ R.nought) → v t ≡ R.nought
+      solution_nought v sv t h nothing = sym (solved.complete v sv t h) ∙ sum_ext R (r + 1) _ (λ f. R.nought) nothing ∙ sum_nought R (r + 1)
+
       -- not every row is gone
-      pub some_row : Field R → ((f : ℕ) → f < suc r → IsGone R (suc r) p f) → ⊥
+      pub some_row : Field R → ((f : ℕ) → f < r + 1 → IsGone R (r + 1) p f) → ⊥
       some_row F gone =
           let monic = monic_annihilator F r a in
-          let v : ℕ → A = λ t. monic.coefficients (r - t) in
-          let back : IsAnnihilator R r a (suc r) (λ k. v (r - k)) = λ i j h l.
-          polynomial_cut r a (suc r) (suc r) monic.coefficients (λ k. v (r - k)) i j (omega arith)
-          (λ k q. let s : r - (r - k) ≡ k = omega arith in ap monic.coefficients s) (λ k q t. absurd (omega arith)) ∙ monic.annihilates i j h l in
-          let first : v 0 ≡ R.nought =
-          sym (solved.complete v (annihilator_solves v back) 0 (omega arith))
-          ∙ sum_ext R (suc r) (λ f. R.mul (v f) (p f 0)) (λ f. R.nought) (λ f h. ap (R.mul (v f)) (gone f h 0 (omega arith)) ∙ mul_nought R (v f)) ∙ sum_nought R (suc r) in
-          let top : r - 0 ≡ r = omega arith in
-          F.one_is_not_nought (sym monic.leading ∙ ap monic.coefficients (sym top) ∙ first)
+          F.one_is_not_nought
+          (sym monic.leading ∙ sym (padded_at (r + 1) monic.coefficients r (omega arith) (omega arith))
+          ∙ solution_nought (padded (r + 1) monic.coefficients) (padded_solves (r + 1) monic.coefficients (omega arith) monic.annihilates) (r - r) (omega arith)
+          (λ f h. ap (R.mul _) (gone f h (r - r) (omega arith)) ∙ mul_nought R _))
 
       -- the last row, from its last place down to its first, is the minimal polynomial
-      pub last_is_minimal : (f : ℕ) → IsLast (suc r) p f → IsMinimal R r a (suc (r - f)) (λ k. p f (r - k))
-      last_is_minimal f last = record {
+      pub last_is_minimal : (f n : ℕ) (c : ℕ → A) → f < r + 1 → IsFree R (r + 1) p f → ((g : ℕ) → g < r + 1 → f < g → IsGone R (r + 1) p g)
+          → n ≡ r + 1 - f → ((k : ℕ) → k < n → c k ≡ p f (r - k)) → IsMinimal R r a n c
+      last_is_minimal f n c below free later size each = record {
         some = omega arith;
-        monic = (let below : f < suc r = last.below in let s : r - (suc (r - f) - 1) ≡ f = omega arith in ap (p f) s ∙ last.free.one);
+        monic = each (n - 1) (omega arith) ∙ (let s : r - (n - 1) ≡ f = omega arith in ap (p f) s ∙ free.one);
         annihilates = λ i j h l.
-            (let below : f < suc r = last.below in
-            sym (polynomial_cut r a (suc (r - f)) (suc r) (λ k. p f (r - k)) (λ k. p f (r - k)) i j (omega arith) (λ k q. refl) (λ k q t. last.free.before (r - k) (omega arith)))
-            ∙ solution_annihilates (p f) (solved.solves f last.below) i j h l);
+            sym (polynomial_cut r a n (r + 1) c (λ k. p f (r - k)) i j (omega arith) (λ k q. sym (each k q)) (λ k q t. free.before (r - k) (omega arith)))
+            ∙ solution_annihilates (p f) (solved.solves f below) i j h l;
         least = λ m g less zero_at k h.
-            (let below : f < suc r = last.below in
-            let v : ℕ → A = λ t. pick R (nat_lt (r - t) m) (g (r - t)) in
-            let long : IsAnnihilator R r a (suc r) (λ n. v (r - n)) = λ i j h l.
-            polynomial_cut r a m (suc r) g (λ n. v (r - n)) i j (omega arith)
-            (λ n q. let s : r - (r - n) ≡ n = omega arith in ap (λ z. pick R (nat_lt z m) (g z)) s ∙ pick_of R (nat_lt n m) (g n) (lt-ltb n m q))
-            (λ n q t. let s : r - (r - n) ≡ n = omega arith in ap (λ z. pick R (nat_lt z m) (g z)) s ∙ pick_off R (nat_lt n m) (g n) (le-ltb n m q))
-            ∙ zero_at i j h l in
-            let nothing : v (r - k) ≡ R.nought =
-            sym (solved.complete v (annihilator_solves v long) (r - k) (omega arith))
-            ∙ sum_ext R (suc r) (λ n. R.mul (v n) (p n (r - k))) (λ n. R.nought) (λ n q. elim (cases_lt f n) [
-              | inl after ↦ ap (R.mul (v n)) (last.later n q after (r - k) (omega arith)) ∙ mul_nought R (v n)
-              | inr before ↦ ap (λ z. R.mul z (p n (r - k))) (pick_off R (nat_lt (r - n) m) (g (r - n)) (le-ltb (r - n) m (omega arith))) ∙ nought_mul R (p n (r - k))
-            ])
-            ∙ sum_nought R (suc r) in
-            let s : r - (r - k) ≡ k = omega arith in
-            sym (ap (λ z. pick R (nat_lt z m) (g z)) s ∙ pick_of R (nat_lt k m) (g k) (lt-ltb k m h)) ∙ nothing);
+            sym (padded_at m g k h (omega arith))
+            ∙ solution_nought (padded m g) (padded_solves m g (omega arith) zero_at) (r - k) (omega arith) (λ t q. elim (cases_lt f t) [
+              | inl after ↦ ap (R.mul _) (later t q after (r - k) (omega arith)) ∙ mul_nought R _
+              | inr before ↦ ap (λ z. R.mul z (p t (r - k))) (padded_off m g t (omega arith)) ∙ nought_mul R (p t (r - k))
+            ]);
       }

@@ -223,9 +223,10 @@ pub(crate) fn solutions(
     requires below { AreBelow ring.now.q equations.now }
     ensures square { IfOk result (λ rows. length rows.items ≡ w * w) }
     ensures below { IfOk result (λ rows. AreBelow ring.now.q rows.items) }
-    ensures solved { (listed : is_modulus ring.now.q ≡ true)
-        → IfOk result (λ rows. IsSolved (field ring.now.q listed) n w (matrix_of ring.now.q listed w
-        equations.now) (matrix_of ring.now.q listed w rows.items)) }
+    ensures solved { (listed : is_modulus ring.now.q ≡ true) (e : ℕ → ℕ → Below ring.now.q)
+        → ((k m : ℕ) → k < n → m < w → e k m ≡ matrix_of ring.now.q listed w equations.now k m)
+        → IfOk result (λ rows. IsSolved (field ring.now.q listed) n w e (matrix_of ring.now.q listed
+        w rows.items)) }
 {
     let mut rows = identity(alloc, w)?;
     for i in 0..n {

@@ -1,6 +1,6 @@
 use Rattle.prime_field.proofs.Names.{◌≡◌, ◌*◌, sym, ap, ◌∙◌, arith, mod-lt, power, power_zero, field, field_residue, modulus_over_one, modulus_positive, least_root_means}
 use Rattle.prime_field.proofs.Inverses.{residues_fit}
-use Rattle.prime_field.proofs.Computing.{power_step}
+use Rattle.prime_field.proofs.ResidueSums.{power_step}
 use Rattle.prime_field.proofs.mod_ring.ModRing.root_power.Goals as goal
 
 pub loop-step-init : goal.loop-step-init

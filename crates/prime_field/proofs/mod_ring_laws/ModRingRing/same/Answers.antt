@@ -1,5 +1,5 @@
 use Rattle.prime_field.proofs.Names.{ap, eq-eqb, eqb-true, field_residue}
-use Rattle.prime_field.proofs.Computing.{same_residue}
+use Rattle.prime_field.proofs.ResidueSums.{same_residue}
 use Rattle.prime_field.proofs.mod_ring_laws.ModRingRing.same.Goals as goal
 
 pub returns : goal.returns

@@ -1,5 +1,5 @@
 use Rattle.prime_field.proofs.Names.{arith, modulus_bound}
-use Rattle.prime_field.proofs.Computing.{sum_residue}
+use Rattle.prime_field.proofs.ResidueSums.{sum_residue}
 use Rattle.prime_field.proofs.mod_ring_laws.ModRingRing.try_add.Goals as goal
 
 pub overflow_add-result : goal.overflow_add-result

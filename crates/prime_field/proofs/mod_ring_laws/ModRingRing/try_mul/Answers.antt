@@ -1,5 +1,5 @@
 use Rattle.prime_field.proofs.Inverses.{residues_fit}
-use Rattle.prime_field.proofs.Computing.{product_residue}
+use Rattle.prime_field.proofs.ResidueSums.{product_residue}
 use Rattle.prime_field.proofs.mod_ring_laws.ModRingRing.try_mul.Goals as goal
 
 pub overflow_mul-result : goal.overflow_mul-result

@@ -1,6 +1,6 @@
 use Rattle.prime_field.specs.Laws.Field.{field_unit}
 use Rattle.prime_field.proofs.Inverses.{residues_fit}
-use Rattle.prime_field.proofs.Computing.{multiple_residue}
+use Rattle.prime_field.proofs.ResidueSums.{multiple_residue}
 use Rattle.prime_field.proofs.mod_ring_laws.ModRingRing.try_scale.Goals as goal
 
 pub overflow_mul-result : goal.overflow_mul-result
