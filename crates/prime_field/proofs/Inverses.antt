@@ -5,28 +5,13 @@ use Rattle.prime_field.proofs.Names.{◌≡◌, ◌≢◌, ℕ, ◌*◌, ◌%◌
 pub residues_fit : (q : ℕ) → is_modulus q ≡ true → (a b : ℕ) → a < q → b < q → Fits w32 (a * b)
 residues_fit q listed a b a_below b_below = record { fits = omega (arith, mul-le a b 337 337 (omega (arith, modulus_bound q listed)) (omega (arith, modulus_bound q listed))) }
 
-module _ (q : ℕ) (listed : is_modulus q ≡ true) (a : ℕ) where
-  pub inverse_below : (o : Option ℕ) → o ≡ inverse_modulo q a → IfSome o (λ b. b < q)
-  inverse_below (Some b) e = (inverse_means q a b (sym e)).0
-  inverse_below None e = tt
-
-  pub inverse_product : (o : Option ℕ) → o ≡ inverse_modulo q a → IfSome o (λ b. (a * b) % q ≡ 1)
-  inverse_product (Some b) e = (inverse_means q a b (sym e)).1
-  inverse_product None e = tt
-
-  pub inverse_of_other : (o : Option ℕ) → o ≡ inverse_modulo q a → IfSome o (λ b. a % q ≢ 0)
-  inverse_of_other (Some b) e = λ z. absurd (different (e ∙ inverse_absent q listed a z))
-    where
-      different : Some b ≡ None → ⊥
-      different f = absurd cc
-  inverse_of_other None e = tt
-
-  pub inverse_of_nought : (o : Option ℕ) → o ≡ inverse_modulo q a → IfNone o (a % q ≡ 0)
-  inverse_of_nought (Some b) e = tt
-  inverse_of_nought None e = elim (cases_eq (a % q) 0) [
-    | inl zero ↦ zero
-    | inr apart ↦ absurd (different (inverse_there q listed a apart).0 (e ∙ (inverse_there q listed a apart).1))
-  ]
-    where
-      different : (b : ℕ) → None ≡ Some b → ⊥
-      different b f = absurd cc
+-- an inverse is below q, its product is 1, and it is there exactly where the number isn't 0 modulo q
+pub inverse_is : (q : ℕ) → is_modulus q ≡ true → (a : ℕ) (o : Option ℕ) → o ≡ inverse_modulo q a
+    → IfSome o (λ b. b < q) × IfSome o (λ b. (a * b) % q ≡ 1) × IfSome o (λ b. a % q ≢ 0) × IfNone o (a % q ≡ 0)
+inverse_is q listed a (Some b) e =
+    let means = inverse_means q a b (sym e) in
+    (means.0, means.1, (λ zero. let none : Some b ≡ None = e ∙ inverse_absent q listed a zero in cc), tt)
+inverse_is q listed a None e = (tt, tt, tt, elim (cases_eq (a % q) 0) [
+  | inl zero ↦ zero
+  | inr apart ↦ let there = inverse_there q listed a apart in let some : None ≡ Some there.0 = e ∙ there.1 in absurd cc
+])

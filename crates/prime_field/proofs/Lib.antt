@@ -7,7 +7,6 @@ pub mod PolynomialValues
 pub mod ResidueSums
 pub mod MonicValues
 pub mod Inverses
-pub mod Faults
 pub mod ResidueRows
 pub mod KernelLists
 pub mod Primes

@@ -42,6 +42,8 @@ pub use Rattle.group_table.proofs.Square.{column_below, place_below, row_below}
 pub use Rattle.group_table.specs.Numbers.{passing_below}
 pub use Rattle.qd_ring.proofs.BufferLaws.{read_8, size_at}
 pub use Rattle.qd_ring.specs.ReductionSigns.{reduction_ternary}
+pub use Rattle.scan.proofs.Places.{and_true}
+pub use Rattle.scan.proofs.Searches.{least_passing}
 unfoldable pub use Rattle.scan.specs.First.{all_below, first}
 pub use Rattle.prime_field.specs.Evaluation.{is_root, reduced}
 unfoldable pub use Rattle.prime_field.specs.Evaluation.{value_at, whole_modulo}
@@ -59,5 +61,6 @@ pub use Rattle.prime_field.specs.PowerLists.{ListsPowers}
 pub use Rattle.prime_field.specs.ResidueLists.{AreBelow, IsTabulated, column_of, matrix_of}
 unfoldable pub use Rattle.prime_field.specs.ResidueLists.{minus_multiple}
 pub use Rattle.prime_field.specs.Solved.{IsFree, IsGone, IsLastNonzero, IsSolved, power_equations}
+pub use Rattle.prime_field.specs.WholeNumbers.{polynomial_at}
 pub use Rattle.prime_field.specs.SquareMatrix.{Square, entry}
 pub use Rattle.prime_field.specs.declared.fault.ModulusFault.TheVariants.{DividesConductor, NoRoot, Range, Unlisted}

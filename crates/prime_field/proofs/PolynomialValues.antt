@@ -1,17 +1,10 @@
 -- Values of polynomials modulo q, coefficient by coefficient from the last, and how many roots there are.
-use Rattle.prime_field.proofs.Names.{◌≡◌, ◌≢◌, ℕ, zero, suc, ◌+◌, ◌-◌, ◌*◌, ◌%◌, ◌<◌, ◌≤◌, Bool, true, false, List, [], ◌∷◌, length, get_or, drop, drop-cons, refl, sym, ◌∙◌, ap, subst, arith, eqb-true, mod-lt, mod-add-mod, mod-eq_of_lt, zero-mod, add-mod-mod, mul-le-mul_right, mul-mod_first, eq-eqb, map, ◌==◌, unwrap_or, length-map, Below, below_equal, Field, value, AllNought, value_nil, value_cons, passing_below, passing_below-ext, is_modulus, inverse_modulo, field, field_residue, value_at, is_root, HasCoefficient, modulus_bound, modulus_over_one, inverse_there, inverse_means, nought_value, value_nought}
+use Rattle.prime_field.proofs.Names.{◌≡◌, ◌≢◌, ℕ, zero, suc, ◌+◌, ◌-◌, ◌*◌, ◌%◌, ◌<◌, ◌≤◌, Bool, true, false, List, [], ◌∷◌, length, get_or, drop, drop-cons, refl, sym, ◌∙◌, ap, subst, arith, eqb-true, mod-lt, mod-add-mod, mod-eq_of_lt, zero-mod, add-mod-mod, mul-le-mul_right, mul-mod_second, eq-eqb, map, ◌==◌, unwrap_or, length-map, Below, below_equal, Field, value, AllNought, value_nil, value_cons, passing_below, passing_below-ext, is_modulus, inverse_modulo, field, field_residue, value_at, reduced, ℤ, polynomial_value, polynomial_at, is_root, HasCoefficient, modulus_positive, modulus_bound, modulus_over_one, inverse_there, inverse_means, nought_value, value_nought}
 use Rattle.prime_field.proofs.PolynomialRoots.{fewer_roots}
+use Rattle.prime_field.proofs.ResidueSums.{inner_remainders, same_residue}
 
 pub modulus_small : (q : ℕ) → is_modulus q ≡ true → q < 65536
 modulus_small q listed = omega (arith, modulus_bound q listed)
-
-pub value_at_nil : (q x : ℕ) → value_at q x [] ≡ 0
-unfolding value_at
-value_at_nil q x = refl
-
-pub value_at_cons : (q x a : ℕ) (p : List ℕ) → value_at q x (a ∷ p) ≡ (a + x * value_at q x p) % q
-unfolding value_at
-value_at_cons q x a p = refl
 
 pub value_at_below : (q x : ℕ) (p : List ℕ) → 0 < q → value_at q x p < q
 unfolding value_at
@@ -25,30 +18,25 @@ product_small q a x y small a_below x_below y_below =
     omega (arith, first)
 
 pub value_step : (q x i v : ℕ) (p : List ℕ) → 0 < i → i ≤ length p → v ≡ value_at q x (drop i p) → (get_or p (i - 1) 0 % q + x * v) % q ≡ value_at q x (drop (i - 1) p)
+unfolding value_at
 value_step q x i v p positive within e =
     let whole : suc (i - 1) ≡ i = omega arith in
     let less : i - 1 < length p = omega arith in
     mod-add-mod (get_or p (i - 1) 0) q (x * v)
     ∙ ap (λ w. (get_or p (i - 1) 0 + x * w) % q) (e ∙ ap (λ n. value_at q x (drop n p)) (sym whole))
-    ∙ sym (ap (value_at q x) (drop-cons p (i - 1) 0 less) ∙ value_at_cons q x (get_or p (i - 1) 0) (drop (suc (i - 1)) p))
+    ∙ sym (ap (value_at q x) (drop-cons p (i - 1) 0 less))
 
 -- ---- residues modulo a listed prime are a field
-
 module _ (q : ℕ) (listed : is_modulus q ≡ true) where
   -- the number below q that is the inverse of a, or 0 where there is none
   abbrev inverse_or_zero : ℕ → ℕ
   inverse_or_zero a = unwrap_or (inverse_modulo q a) 0
 
-  pub false_not_true : (b : Bool) → b ≡ false → b ≡ true → ⊥
-  false_not_true b e h = cc
-
   pub inverse_product : (x : Below q) → x ≢ (field q listed).nought → (field q listed).mul x (field_residue q listed (inverse_or_zero x.value)) ≡ (field q listed).one
   inverse_product x h =
       let there = inverse_there q listed x.value (λ e. h (value_nought q listed x (sym (mod-eq_of_lt x.below) ∙ e))) in
-      let means = inverse_means q x.value there.0 there.1 in
-      let found : inverse_or_zero x.value ≡ there.0 = ap (λ o. unwrap_or o 0) there.1 in
-      below_equal _ _
-      (ap (λ b. (x.value * (b % q)) % q) found ∙ ap (λ b. (x.value * b) % q) (mod-eq_of_lt means.0) ∙ means.1 ∙ sym (mod-eq_of_lt (modulus_over_one q listed)))
+      let one = (inverse_means q x.value there.0 there.1).1 in
+      below_equal _ _ (rw there.1 (mul-mod_second x.value there.0 q ∙ one ∙ sym (mod-eq_of_lt (modulus_over_one q listed))))
 
   pub one_apart : (field q listed).one ≢ (field q listed).nought
   one_apart e =
@@ -61,27 +49,25 @@ module _ (q : ℕ) (listed : is_modulus q ≡ true) where
     inverse = λ x. field_residue q listed (inverse_or_zero x.value);
     is_nought = λ x. x.value == 0;
     passes = λ x e. value_nought q listed x (eqb-true x.value 0 e);
-    fails = λ x e h. false_not_true (x.value == 0) e (eq-eqb x.value 0 (nought_value q listed x h));
-    mul_inverse = λ x h. inverse_product x h;
+    fails = λ x e h. (let zero : x.value == 0 ≡ true = eq-eqb x.value 0 (nought_value q listed x h) in cc);
+    mul_inverse = inverse_product;
     one_is_not_nought = one_apart;
   }
 
+  -- the value of a polynomial with whole coefficients is that of the coefficients modulo q
+  pub polynomial_value_is : (r : ℕ) (p : List ℤ) → (polynomial_at (field q listed) (field_residue q listed r) p).value ≡ value_at q r (reduced q p)
+  polynomial_value_is r p = polynomial_value q (modulus_positive q listed) r p
+
   -- residues of different numbers below q are different
   pub residues_apart : (i j : ℕ) → i < j → j < q → field_residue q listed i ≢ field_residue q listed j
-  residues_apart i j less below e =
-      let values : i % q ≡ j % q = ap (λ y. y.value) e in
-      let first : i % q ≡ i = mod-eq_of_lt (omega arith) in
-      let second : j % q ≡ j = mod-eq_of_lt below in
-      absurd (omega arith)
+  residues_apart i j less below e = let same = same_residue q listed i j (omega arith) below e in omega arith
 
   pub value_of_residues : (x : ℕ) (p : List ℕ) → (value (field q listed) (map (field_residue q listed) p) (field_residue q listed x)).value ≡ value_at q x p
   unfolding value_at
   value_of_residues x [] = ap (λ y. y.value) (value_nil (field q listed) (field_residue q listed x)) ∙ zero-mod q
   value_of_residues x (a ∷ p) =
-      let v = (value (field q listed) (map (field_residue q listed) p) (field_residue q listed x)).value in
       ap (λ y. y.value) (value_cons (field q listed) (field_residue q listed a) (map (field_residue q listed) p) (field_residue q listed x))
-      ∙ mod-add-mod a q (x % q * v % q) ∙ add-mod-mod a (x % q * v) q ∙ sym (add-mod-mod a (x % q * v) q)
-      ∙ ap (λ w. (a + w) % q) (mul-mod_first x v q) ∙ add-mod-mod a (x * v) q ∙ ap (λ w. (a + x * w) % q) (value_of_residues x p)
+      ∙ simp (inner_remainders, value_of_residues x p)
 
   pub coefficient_nought : (p : List ℕ) → AllNought (field q listed) (map (field_residue q listed) p) → (k : ℕ) → k < length p → get_or p k 0 % q ≡ 0
   unfolding AllNought

@@ -1,52 +1,29 @@
 -- Each modulus is a prime, and the residues modulo it are a field.
-use Rattle.prime_field.proofs.Names.{◌≡◌, ◌≢◌, ℕ, ◌%◌, ◌<◌, true, false, Bool, refl, sym, ap, ◌∙◌, arith, ◌⊎◌, inl, inr, cases_eq, ne_eqb, eq-eqb, mod-zero, mod-eq_of_lt, ◌==◌, ◌||◌, not, list_all, all_below, Below, below_equal, all_below_means, moduli, is_modulus, field, at_each_modulus, modulus_over_one, modulus_positive, inverse_unique, nought_value, value_nought, residue_product}
+use Rattle.prime_field.proofs.Names.{◌≡◌, ◌≢◌, ℕ, ◌%◌, ◌<◌, true, Bool, refl, sym, ap, ◌∙◌, arith, nat_tests, ◌⊎◌, inl, inr, cases_eq, cases_order, mod-eq_of_lt, ◌==◌, ◌||◌, not, list_all, all_below, Below, below_equal, all_below_means, moduli, is_modulus, field, at_each_modulus, modulus_over_one, modulus_positive, inverse_unique, nought_value, value_nought, residue_product}
 
--- d is 0 or 1, or doesn't divide q
+-- d is 1, or doesn't divide q
 is_no_divisor : ℕ → ℕ → Bool
-is_no_divisor q d = (d == 0) || ((d == 1) || not (q % d == 0))
+is_no_divisor q d = not (q % d == 0) || (d == 1)
 
 all_primes : list_all (λ q. all_below q (is_no_divisor q)) moduli ≡ true
 unfolding is_no_divisor all_below moduli
 all_primes = refl
 
-divides_less : (q d : ℕ) → is_no_divisor q d ≡ true → d ≢ 0 → d ≢ 1 → q % d ≢ 0
+divisor_is_one : (q d : ℕ) → is_no_divisor q d ≡ true → q % d ≡ 0 → d ≡ 1
 unfolding is_no_divisor
-divides_less q d test not_zero not_one divides =
-    absurd (apart (sym (rw (ne_eqb d 0 not_zero, ne_eqb d 1 not_one, eq-eqb (q % d) 0 divides) refl) ∙ test))
-  where
-    apart : false ≡ true → ⊥
-    apart e = cc
+divisor_is_one q d test divides = grind (arith, nat_tests)
 
 module _ (q : ℕ) (listed : is_modulus q ≡ true) where
-  not_by_zero : (d : ℕ) → q % d ≡ 0 → d ≢ 0
-  not_by_zero d divides zero_d =
-      let whole : q ≡ 0 = sym (mod-zero q) ∙ ap (λ k. q % k) (sym zero_d) ∙ divides in
-      absurd (omega (arith, whole, modulus_positive q listed))
-
-  not_by_greater : (d : ℕ) → q % d ≡ 0 → q < d → ⊥
-  not_by_greater d divides greater =
-      let whole : q ≡ 0 = sym (mod-eq_of_lt greater) ∙ divides in
-      absurd (omega (arith, whole, modulus_positive q listed))
-
   -- only 1 and q divide q
   pub modulus_prime : (d : ℕ) → q % d ≡ 0 → (d ≡ 1) ⊎ (d ≡ q)
-  modulus_prime d divides = elim (cases_eq d 1) [
-    | inl one ↦ inl one
-    | inr not_one ↦ elim (cases_eq d q) [
-      | inl itself ↦ inr itself
-      | inr apart ↦
-          let less : d < q = not_greater apart in
-          absurd
-          (divides_less q d
-          (all_below_means q (is_no_divisor q) (at_each_modulus (λ m. all_below m (is_no_divisor m)) all_primes q listed) d less) (not_by_zero d divides) not_one divides)
-    ]
+  modulus_prime d divides = elim (cases_order d q) [
+    | inl itself ↦ inr itself
+    | inr (inl less) ↦
+        inl (divisor_is_one q d (all_below_means q (is_no_divisor q) (at_each_modulus (λ m. all_below m (is_no_divisor m)) all_primes q listed) d less) divides)
+    | inr (inr greater) ↦
+        let whole : q ≡ 0 = sym (mod-eq_of_lt greater) ∙ divides in
+        absurd (omega (arith, whole, modulus_positive q listed))
   ]
-    where
-      greater_or : (d ≢ q) → (d < q) ⊎ (q < d)
-      greater_or apart = grind arith
-
-      not_greater : (d ≢ q) → d < q
-      not_greater apart = elim (greater_or apart) [ inl less ↦ less | inr greater ↦ absurd (not_by_greater d divides greater) ]
 
   -- one of two factors of nought is nought
   pub product_nought : (x y : Below q) → (field q listed).mul x y ≡ (field q listed).nought → (x ≡ (field q listed).nought) ⊎ (y ≡ (field q listed).nought)

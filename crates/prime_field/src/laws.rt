@@ -14,6 +14,7 @@ ghost use Rattle.prime_field.specs.Field.{field, field_residue};
 
 /// Each modulus is a prime, and the residues modulo it are a field: a residue other than 0 has one inverse, a product is 0 only
 /// where a factor is, and the power q of a residue is that residue.
+#[tactic(auto, using(crate::proofs::Primes::modulus_prime, crate::proofs::Primes::one_inverse, crate::proofs::Primes::product_nought, crate::specs::Laws::Field::residue_power))]
 pub fn field_laws()
     ensures prime { (q : ℕ) → is_modulus q ≡ true → (d : ℕ) → q % d ≡ 0 → (d ≡ 1) ⊎ (d ≡ q) }
     ensures inverse { (q : ℕ) (listed : is_modulus q ≡ true) (x : Below q)
@@ -30,12 +31,14 @@ pub fn field_laws()
 {}
 
 /// Each conductor has a modulus over 60 that is valid for it.
+#[tactic(auto, using(crate::proofs::ConductorModuli::conductor_modulus))]
 pub fn modulus_laws()
     ensures served { (k : ℕ) → is_conductor k ≡ true → (q : ℕ) × ServesConductor q k }
 {}
 
 /// The value of a polynomial with whole coefficients at a residue is that of its coefficients modulo q. It respects sums and
 /// products, and at the least root of the cyclotomic polynomial of K it is that of the remainder.
+#[tactic(auto, using(crate::proofs::PolynomialValues::polynomial_value_is, crate::specs::Laws::Field::value_of_remainder))]
 pub fn evaluation_laws()
     ensures value { (q : ℕ) (listed : is_modulus q ≡ true) (r : ℕ) (p : List ℤ)
         → (polynomial_at (field q listed) (field_residue q listed r) p).value
@@ -56,6 +59,7 @@ pub fn evaluation_laws()
 
 /// The least root modulo q of the cyclotomic polynomial of K, where q doesn't divide K, has the order K in the field, and K
 /// divides q - 1.
+#[tactic(auto, using(crate::proofs::RootOrder::root_cycle, crate::proofs::RootOrder::root_order, crate::proofs::RootOrder::root_divides))]
 pub fn root_laws()
     ensures cycle { (q : ℕ) (listed : is_modulus q ≡ true) (k r : ℕ) → is_conductor k ≡ true
         → k % q ≢ 0 → least_root q k ≡ Some r

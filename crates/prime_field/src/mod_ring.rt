@@ -32,6 +32,7 @@ pub struct ModRing {
 impl ModRing {
     /// The field modulo `q`, which has to be over `above`, with the least root for `conductor`. It is refused with the first
     /// condition that fails: the range, the list of moduli, that `q` doesn't divide the conductor, and that there is a root.
+    #[tactic(auto, unfolding(crate::specs::Moduli::modulus_fault))]
     pub fn new(q: u32, above: u32, conductor: u32) -> Result<ModRing, ModulusFault>
         requires entry { is_conductor conductor ≡ true }
         ensures valid { IfOk result (λ ring. modulus_fault q above conductor ≡ None) }
@@ -95,6 +96,7 @@ impl ModRing {
     }
 
     // Whether the product of two residues is 1.
+    #[tactic(auto, using(crate::proofs::Inverses::residues_fit))]
     fn is_inverse(&self, a: u32, b: u32) -> bool
         requires a_below { a < self.now.q }
         requires b_below { b < self.now.q }

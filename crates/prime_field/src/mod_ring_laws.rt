@@ -34,18 +34,22 @@ impl Ring for ModRing {
         self.conductor
     }
 
+    #[tactic(auto, using(crate::specs::Laws::Moduli::modulus_positive))]
     fn zero(&self) -> u32 {
         0
     }
 
+    #[tactic(auto, using(crate::specs::Laws::Moduli::modulus_over_one))]
     fn one(&self) -> u32 {
         1
     }
 
+    #[tactic(auto, using(crate::specs::Laws::Moduli::modulus_bound, crate::proofs::ResidueSums::sum_residue))]
     fn try_add(&self, a: &u32, b: &u32) -> Option<u32> {
         Some((*a + *b) % self.q)
     }
 
+    #[tactic(auto, using(crate::proofs::Inverses::residues_fit, crate::proofs::ResidueSums::product_residue))]
     fn try_mul(&self, a: &u32, b: &u32) -> Option<u32> {
         Some(*a * *b % self.q)
     }

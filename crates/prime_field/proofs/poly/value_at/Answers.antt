@@ -1,9 +1,10 @@
 use Rattle.prime_field.proofs.Names.{drop, sym, ap, ◌∙◌, arith, drop-length, value_at, modulus_positive}
-use Rattle.prime_field.proofs.PolynomialValues.{value_at_nil, value_at_below, value_step}
+use Rattle.prime_field.proofs.PolynomialValues.{value_at_below, value_step}
 use Rattle.prime_field.proofs.poly.value_at.Goals as goal
 
 pub loop-i-init : goal.loop-i-init
-loop-i-init c = sym (ap (value_at c.args.q c.args.x) (drop-length c.args.coefficients.now) ∙ value_at_nil c.args.q c.args.x)
+unfolding value_at
+loop-i-init c = sym (ap (value_at c.args.q c.args.x) (drop-length c.args.coefficients.now))
 
 pub plus_product-value-requires-clause-y_below : goal.plus_product-value-requires-clause-y_below
 plus_product-value-requires-clause-y_below c =

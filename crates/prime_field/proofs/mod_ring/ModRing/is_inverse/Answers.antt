@@ -1,5 +1,0 @@
-use Rattle.prime_field.proofs.Inverses.{residues_fit}
-use Rattle.prime_field.proofs.mod_ring.ModRing.is_inverse.Goals as goal
-
-pub overflow_mul-result : goal.overflow_mul-result
-overflow_mul-result c = residues_fit c.args.self.now.q c.args.self.now.listed c.args.a c.args.b c.requires.a_below c.requires.b_below
