@@ -1,8 +1,10 @@
 -- How many classes and members there are, by counting.
-use Rattle.classes.proofs.Names.{◌≡◌, ℕ, ◌*◌, ◌<◌, ◌≤◌, length, nat_eq, sym, ap, ◌∙◌, arith, inl, inr, eq-eqb, eqb-true, same_test, Table, product, inverse, IsGroup, two_sided_inverse, group_below, closed, passing_below-ext}
+use Rattle.classes.proofs.Names.{◌≡◌, ℕ, ◌*◌, ◌<◌, ◌≤◌, length, nat_eq, ap, ◌∙◌, arith, inl, inr, eq-eqb, eqb-true, same_test, Table, product, IsGroup, passing_below-ext}
 use Rattle.std.proofs.lemmas.Bool.{cases_lt}
 use Rattle.orders.proofs.Sums.{pigeonhole}
 use Rattle.classes.specs.Conjugacy.{conjugate, representatives, representative_at, members_of, centraliser_of}
+use Rattle.algebra.specs.Below.{below_equal}
+use Rattle.classes.proofs.Carrying.{carry, carry_of_commuting, commuting_of_carry, element, same_value, element_group}
 use Rattle.classes.proofs.Orbits.{orbit_equation}
 use Rattle.classes.proofs.Conjugacy.{conjugation, representative_at_is, different_at}
 
@@ -19,16 +21,12 @@ module _ (t : Table) (G : IsGroup t) where
 
   -- x a x^-1 = a exactly where x a = a x
   commutes_test : (a x : ℕ) → a < t.order → x < t.order → nat_eq (product t x a) (product t a x) ≡ nat_eq (conjugate t x a) a
-  unfolding conjugate
+  unfolding carry conjugate
   commutes_test a x p q =
-      let B = group_below t G in
-      let i = two_sided_inverse t G x q in
-      let xa = closed t x a G q p in
+      let P = element_group t G in
       same_test _ _
-      (λ commutes. eq-eqb _ _ (ap (λ y. product t y (inverse t x)) (eqb-true _ _ commutes)
-      ∙ B.associative a x (inverse t x) p q i.below ∙ ap (product t a) i.right ∙ B.unit_right a p))
-      (λ fixed. eq-eqb _ _ (sym (B.unit_right (product t x a) xa) ∙ ap (product t (product t x a)) (sym i.left)
-      ∙ sym (B.associative (product t x a) (inverse t x) x xa i.below q) ∙ ap (λ y. product t y x) (eqb-true _ _ fixed)))
+      (λ commutes. eq-eqb _ _ (same_value (carry_of_commuting P (element x q) (element a p) (below_equal _ _ (eqb-true _ _ commutes)))))
+      (λ fixed. eq-eqb _ _ (same_value (commuting_of_carry P (element x q) (element a p) (below_equal _ _ (eqb-true _ _ fixed)))))
 
   -- the class equation: the size of the class of a times that of its centraliser is the order of the group
   pub class_equation : (a : ℕ) → a < t.order → length (members_of t a) * length (centraliser_of t a) ≡ t.order

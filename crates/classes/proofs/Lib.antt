@@ -1,5 +1,5 @@
 pub mod Names
-pub mod Action
+pub mod Carrying
 pub mod Orbits
 pub mod Conjugacy
 pub mod Lookups

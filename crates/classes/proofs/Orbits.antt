@@ -1,6 +1,9 @@
 -- A group by its table that acts on the numbers below N: which numbers it carries to which, and how many elements do (textbook).
-use Rattle.classes.proofs.Names.{◌≡◌, ℕ, zero, suc, ◌+◌, ◌*◌, ◌<◌, Bool, true, false, cond, List, [], ◌∷◌, ◌++◌, length, nat_eq, Some, None, refl, sym, ap, ◌∙◌, arith, eq-eqb, eqb-true, add-zero, length-append, is_some, first, same_test, is_some_of, some_of, least_passing, least_passing_found, Table, product, identity_of, inverse, IsGroup, passing_below, two_sided_inverse, group_below, closed, identity_below, passing_below-zero, passing_below-suc}
+use Rattle.classes.proofs.Names.{◌≡◌, ℕ, zero, suc, ◌+◌, ◌*◌, ◌<◌, Bool, true, false, cond, List, [], ◌∷◌, ◌++◌, length, nat_eq, Some, None, refl, sym, ap, ◌∙◌, arith, eq-eqb, eqb-true, add-zero, length-append, is_some, first, same_test, is_some_of, some_of, least_passing, least_passing_found, Table, product, identity_of, inverse, IsGroup, passing_below, two_sided_inverse, closed, identity_below, passing_below-zero, passing_below-suc}
 use Rattle.std.proofs.Math.Nat.{zero-mul, mul-one}
+use Rattle.algebra.specs.Below.{Below}
+use Rattle.algebra.proofs.GroupLaws.{inv_op_op, op_inv_op}
+use Rattle.classes.proofs.Carrying.{element, same_value, element_group}
 use Rattle.orders.proofs.Sums.{total, pick, total_same, total_nought, total_constant, total_exchange, total_pick, total_permuted}
 
 -- as many copies of c as there are numbers that pass
@@ -75,12 +78,12 @@ module _ (t : Table) (G : IsGroup t) (N : ℕ) (act : ℕ → ℕ → ℕ) (A : 
   column_in : (p s : ℕ) → p < N → s < t.order
       → total t.order (λ k. pick (nat_eq (act s p) (act k p)) 1) ≡ length (passing_below t.order (λ x. nat_eq (act x p) p))
   column_in p s p_below s_below =
-      let B = group_below t G in
-      let i = two_sided_inverse t G s s_below in
+      let P = element_group t G in
+      let S : Below t.order = element s s_below in
+      let i : inverse t s < t.order = (P.inv S).below in
       sym (total_permuted t.order (λ k. pick (nat_eq (act s p) (act k p)) 1) (product t s) (product t (inverse t s))
-      (λ x r. closed t s x G s_below r) (λ x r. closed t (inverse t s) x G i.below r)
-      (λ x r. sym (B.associative (inverse t s) s x i.below s_below r) ∙ ap (λ y. product t y x) i.left ∙ B.unit_left x r)
-      (λ x r. sym (B.associative s (inverse t s) x s_below i.below r) ∙ ap (λ y. product t y x) i.right ∙ B.unit_left x r))
+      (λ x r. closed t s x G s_below r) (λ x r. closed t (inverse t s) x G i r)
+      (λ x r. same_value (inv_op_op P S (element x r))) (λ x r. same_value (op_inv_op P S (element x r))))
       ∙ total_same t.order _ _ (λ x r. ap (λ b. pick b 1) (carries_test p s x p_below s_below r))
       ∙ sym (passing_length t.order (λ x. nat_eq (act x p) p))
 

@@ -1,6 +1,7 @@
 -- The sweep over pairs: what has been reached before the pair (a, k).
-use Rattle.classes.proofs.Names.{◌≡◌, ◌≢◌, ℕ, ◌+◌, ◌<◌, ◌≤◌, Bool, true, false, cond, List, [], ◌∷◌, ◌++◌, ◌⊎◌, inl, inr, eq-or-lt_of_le, replicate, length, get_or, set, nat_eq, Option, Some, None, refl, sym, ap, ◌∙◌, arith, add-one, eqb-true, eq-eqb, get_or-set_same, get_or-set_other, is_some, get_or-replicate, get_or_push, get_or_append_left, option_or, first, first-zero, first-suc, first_none, first_found, Table, IsGroup, conjugate, least_transporter, representative_of, reach, reach_below, reach_of, Reach}
-use Rattle.std.specs.Option.{option_map}
+use Rattle.classes.proofs.Names.{◌≡◌, ℕ, ◌+◌, ◌<◌, ◌≤◌, Bool, true, false, cond, List, [], ◌∷◌, ◌++◌, ◌⊎◌, inl, inr, eq-or-lt_of_le, replicate, length, get_or, set, nat_eq, Option, Some, None, refl, sym, ap, ◌∙◌, arith, add-one, eq-eqb, get_or-set_same, get_or-set_other, is_some, get_or-replicate, get_or_push, get_or_append_left, option_or, first, first-zero, first-suc, first_none, first_found, Table, IsGroup, conjugate, least_transporter, representative_of, reach, reach_below, reach_of, Reach}
+use Rattle.std.specs.Option.{IsSome, option_map, option_or as or}
+use Rattle.std.proofs.lemmas.Bool.{cases_eq, ne_eqb}
 use Rattle.classes.proofs.Conjugacy.{representative_least, transporter_found}
 
 -- how g is reached before the pair (a, k)
@@ -29,71 +30,34 @@ unfolding reached_before
 row_begins t a g = rw first-zero (or_none (reach_below t a g))
 
 -- one more pair
-pub row_goes_on : (t : Table) (a k g : ℕ) → reached_before t a (k + 1) g ≡ option_or (reached_before t a k g) (cond (nat_eq (conjugate t k a) g) (Some (reach a k)) None)
+row_goes_on : (t : Table) (a k g : ℕ) → reached_before t a (k + 1) g ≡ option_or (reached_before t a k g) (cond (nat_eq (conjugate t k a) g) (Some (reach a k)) None)
 unfolding reached_before
-row_goes_on t a k g =
-    let at : ℕ → Option ℕ = λ j. cond (nat_eq (conjugate t j a) g) (Some j) None in
-    ap (λ n. option_or (reach_below t a g) (option_map (reach a) (first n at))) (add-one k)
-    ∙ ap (λ o. option_or (reach_below t a g) (option_map (reach a) o)) (first-suc k at)
-    ∙ ap (option_or (reach_below t a g)) (map_or (reach a) (first k at) (at k) ∙ ap (option_or (option_map (reach a) (first k at))) (map_if (reach a) (nat_eq (conjugate t k a) g) k))
-    ∙ sym (or_assoc (reach_below t a g) (option_map (reach a) (first k at)) (cond (nat_eq (conjugate t k a) g) (Some (reach a k)) None))
+row_goes_on t a k g = rw add-one (simp (first-suc, map_or {A = ℕ} (reach a), map_if {A = ℕ} (reach a), or_assoc))
 
 -- a whole row
 pub row_ends : (t : Table) (a g : ℕ) → reached_before t a t.order g ≡ reach_below t (a + 1) g
 unfolding reached_before
 row_ends t a g = rw (add-one, first-suc a (λ a. option_map (reach a) (least_transporter t a g))) refl
 
--- an element that was reached stays as it was
-kept_step : {A : Type 0} (xs : List (Option A)) (c g : ℕ) (x : A) → is_some (get_or xs c None) ≡ true
-    → get_or xs g None ≡ option_or (get_or xs g None) (cond (nat_eq c g) (Some x) None)
-kept_step {A} xs c g x old = by (nat_eq c g) refl
-  where
-    reached : (o : Option A) → is_some o ≡ true → o ≡ option_or o (Some x)
-    reached (Some y) e = refl
-    reached None e = absurd cc
+same_or : {A : Type 0} (o later : Option A) → or o later ≡ option_or o later
+same_or (Some x) later = refl
+same_or None later = refl
 
-    by : (b : Bool) → nat_eq c g ≡ b → get_or xs g None ≡ option_or (get_or xs g None) (cond b (Some x) None)
-    by true e = reached (get_or xs g None) (ap (λ i. is_some (get_or xs i None)) (sym (eqb-true c g e)) ∙ old)
-    by false e = sym (or_none (get_or xs g None))
+-- what is written at c unless something stands there
+written : {A : Type 0} (xs : List (Option A)) (c g : ℕ) (x : A) → c < length xs
+    → get_or (set xs c (or (get_or xs c None) (Some x))) g None ≡ option_or (get_or xs g None) (cond (nat_eq c g) (Some x) None)
+written {A} xs c g x below =
+    elim (cases_eq c g) [
+      | inl same ↦ rw (← same, get_or-set_same xs c (or (get_or xs c None) (Some x)) None below, eq-eqb c c refl) (same_or (get_or xs c None) (Some x))
+      | inr other ↦
+          rw (get_or-set_other xs c g (or (get_or xs c None) (Some x)) None (λ e. other (sym e)), ne_eqb c g other)
+          (sym (or_none (get_or xs g None)))
+    ]
 
-wrong_test : (b : Bool) → b ≡ false → b ≡ true → ⊥
-wrong_test b fails passes = cc
-
--- an element that was not is reached now
-set_step : {A : Type 0} (xs : List (Option A)) (c g : ℕ) (x : A) → c < length xs → is_some (get_or xs c None) ≡ false
-    → get_or (set xs c (Some x)) g None ≡ option_or (get_or xs g None) (cond (nat_eq c g) (Some x) None)
-set_step {A} xs c g x below old = by (nat_eq c g) refl
-  where
-    unreached : (o : Option A) → is_some o ≡ false → Some x ≡ option_or o (Some x)
-    unreached (Some y) e = absurd cc
-    unreached None e = refl
-
-    by : (b : Bool) → nat_eq c g ≡ b → get_or (set xs c (Some x)) g None ≡ option_or (get_or xs g None) (cond b (Some x) None)
-    by true e =
-        let same : c ≡ g = eqb-true c g e in
-        ap (λ i. get_or (set xs c (Some x)) i None) (sym same) ∙ get_or-set_same xs c (Some x) None below
-        ∙ unreached (get_or xs g None) (ap (λ i. is_some (get_or xs i None)) (sym same) ∙ old)
-    by false e =
-        let other : g ≢ c = λ same. wrong_test (nat_eq c g) e (eq-eqb c g (sym same)) in
-        get_or-set_other xs c g (Some x) None other ∙ sym (or_none (get_or xs g None))
-
--- the pair (a, k), where its element was reached before
-pub row_kept : (t : Table) (a k c : ℕ) (xs : List (Option Reach)) (g : ℕ) → c ≡ conjugate t k a → is_some (get_or xs c None) ≡ true
-    → get_or xs g None ≡ reached_before t a k g → get_or xs g None ≡ reached_before t a (k + 1) g
-row_kept t a k c xs g carries old before =
-    kept_step xs c g (reach a k) old
-    ∙ ap (λ o. option_or o (cond (nat_eq c g) (Some (reach a k)) None)) before
-    ∙ ap (λ c. option_or (reached_before t a k g) (cond (nat_eq c g) (Some (reach a k)) None)) carries
-    ∙ sym (row_goes_on t a k g)
-
--- and where it was not
-pub row_set : (t : Table) (a k c : ℕ) (xs : List (Option Reach)) (g : ℕ) → c ≡ conjugate t k a → c < length xs → is_some (get_or xs c None) ≡ false
-    → get_or xs g None ≡ reached_before t a k g → get_or (set xs c (Some (reach a k))) g None ≡ reached_before t a (k + 1) g
-row_set t a k c xs g carries below old before =
-    set_step xs c g (reach a k) below old
-    ∙ ap (λ o. option_or o (cond (nat_eq c g) (Some (reach a k)) None)) before
-    ∙ ap (λ c. option_or (reached_before t a k g) (cond (nat_eq c g) (Some (reach a k)) None)) carries
-    ∙ sym (row_goes_on t a k g)
+-- the pair (a, k): its element is reached now, unless it was before
+pub pair_reached : (t : Table) (a k c : ℕ) (xs : List (Option Reach)) (g : ℕ) → c ≡ conjugate t k a → c < length xs → get_or xs g None ≡ reached_before t a k g
+    → get_or (set xs c (or (get_or xs c None) (Some (reach a k)))) g None ≡ reached_before t a (k + 1) g
+pair_reached t a k c xs g carries below before = written xs c g (reach a k) below ∙ rw (before, carries, row_goes_on t a k g) refl
 
 none_of : {A : Type 0} (o : Option A) → (is_some o ≡ true → ⊥) → o ≡ None
 none_of (Some x) h = absurd (h refl)
@@ -136,3 +100,7 @@ pub reach_read : (t : Table) (found xs : List (Option Reach)) (i : ℕ) → IsGr
 reach_read t found xs i group count each same inside =
     let below : i < t.order = omega (arith, ap length same) in
     ap (λ ys. get_or ys i None) same ∙ each i below ∙ reach_found t i group below
+
+pub reach_there : (t : Table) (found xs : List (Option Reach)) (i : ℕ) → IsGroup t → length found ≡ t.order
+    → ((g : ℕ) → g < t.order → get_or found g None ≡ reach_below t t.order g) → xs ≡ found → i < length xs → IsSome (get_or xs i None)
+reach_there t found xs i group count each same inside = rw (reach_read t found xs i group count each same inside) refl

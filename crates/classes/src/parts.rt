@@ -13,6 +13,7 @@ use scan::first_below;
 use std::alloc::Global;
 
 /// Whether `g` is in the class of `a`, which is a representative.
+#[tactic(auto, using(crate::proofs::Conjugacy::member_test))]
 fn is_member(group: &Group, reaches: &[Reach], a: u32, g: u32) -> bool
     requires group { IsGroup group.now }
     requires reaches { ListsReaches group.now reaches.now }
@@ -80,6 +81,7 @@ fn other_representatives(alloc: Global, group: &Group, reaches: &[Reach]) -> Res
 }
 
 /// The classes, in order.
+#[tactic(auto, using(crate::proofs::Conjugacy::representative_of_identity, crate::proofs::Lookups::other_at, crate::proofs::Lookups::other_below))]
 pub fn class_list(alloc: Global, group: &Group, reaches: &[Reach]) -> Result<Vec<Class>, Memory>
     requires group { IsGroup group.now }
     requires reaches { ListsReaches group.now reaches.now }
@@ -94,6 +96,7 @@ pub fn class_list(alloc: Global, group: &Group, reaches: &[Reach]) -> Result<Vec
 }
 
 /// How many classes there are.
+#[tactic(auto, using(crate::proofs::Lookups::few_kept))]
 fn class_count(group: &Group, classes: &[Class]) -> u32
     requires group { IsGroup group.now }
     requires small { IsSmall group.now.order }

@@ -37,16 +37,15 @@ fn sweep_row(group: &Group, a: u32, reaches: &mut [Option<Reach>])
 {
     for k in 0..group.order() {
         let g = conjugate(group, k, a) as usize;
-        if reaches[g].is_none() {
-            reaches[g] = Some(Reach {
-                representative: a,
-                transporter: k,
-            });
-        }
+        reaches[g] = reaches[g].or(Some(Reach {
+            representative: a,
+            transporter: k,
+        }));
     }
 }
 
 /// How each element is reached, from the least element from which it is, by the least transporter.
+#[tactic(auto, using(crate::proofs::Rows::nothing_reached))]
 fn sweep_rows(alloc: Global, group: &Group) -> Result<Vec<Option<Reach>>, Memory>
     ensures group { OnOk result (IsGroup group.now) }
     ensures small { OnOk result (IsSmall group.now.order) }
@@ -62,6 +61,7 @@ fn sweep_rows(alloc: Global, group: &Group) -> Result<Vec<Option<Reach>>, Memory
 }
 
 /// How each element is reached from the representative of its class.
+#[tactic(auto, using(crate::proofs::Rows::reach_read, crate::proofs::Rows::reach_there, crate::proofs::Rows::one_more_reach))]
 pub fn sweep(alloc: Global, group: &Group) -> Result<Vec<Reach>, Memory>
     ensures group { OnOk result (IsGroup group.now) }
     ensures small { OnOk result (IsSmall group.now.order) }
