@@ -1,5 +1,5 @@
 -- Reading token after token finds the first refusal, and the contents by their places.
-use Rattle.qd_doc.proofs.Names.{Bool, Dense, DocRefusal, ElementBelow, Err, Expected, Form, FormWord, Lexeme, List, Natural, NoToken, None, Nothing, Ok, Omega, One, Option, OrderNumber, Qdouble, Result, RootsNumber, Run, Some, Sparse, Syntax, Table, Trivial, What, Word, [], add-one, ap, arith, codes, cond, drop, drop-cons, drop_all, ending, entry_runs, expected, exponent_runs, exponents_end, exponents_of, false, first, first_found, first_none-at, first_none-step, first_refusal, get_or, inl, inr, is_word, judgement, kind_at, length, listing_of, missing, number_at, numbers_at, once, read, read_entries, read_entry, read_exponents, read_listing, read_number, read_numbers, read_order, read_roots, read_sparse, refl, refusal, refusal_at, runs_after, skip, slice_get, slice_get-get_or, slice_get_past, sparse_exponents, subst, suc, sum_by-cons, sym, take, text_at, times, true, unless, value, wanted, zero, ℕ, ◌*◌, ◌+◌, ◌<◌, ◌>>=◌, ◌∙◌, ◌∷◌, ◌≡◌, ◌≤◌, ◌⊎◌}
+use Rattle.qd_doc.proofs.Names.{Bool, Dense, DocRefusal, ElementBelow, Err, Expected, Form, FormWord, Lexeme, List, Natural, NoToken, None, Nothing, Ok, Omega, One, Option, OrderNumber, Qdouble, Result, RootsNumber, Run, Some, Sparse, Syntax, Table, Trivial, What, Word, [], add-one, arith, codes, cond, drop, drop-cons, drop_all, ending, entry_runs, expected, exponent_runs, exponents_end, exponents_of, false, first, first_found, first_none-at, first_none-step, first_refusal, get_or, inl, inr, is_word, judgement, kind_at, length, listing_of, missing, number_at, numbers_at, once, read, read_entries, read_entry, read_exponents, read_listing, read_number, read_numbers, read_order, read_roots, read_sparse, refl, refusal, refusal_at, runs, runs_after, skip, slice_get, slice_get-get_or, slice_get_past, sparse_exponents, subst, suc, sum_by-cons, sym, take, text_at, times, true, unless, value, wanted, zero, ℕ, ◌*◌, ◌+◌, ◌<◌, ◌>>=◌, ◌∙◌, ◌∷◌, ◌≡◌, ◌≤◌, ◌⊎◌}
 use Rattle.std.proofs.Math.ListN.{length-replicate}
 use Rattle.qd_text.specs.declared.expected.Expected.TheVariants.{Order, Roots}
 use Rattle.qd_doc.proofs.Sparse.{place_of, sparse_exponents-suc, sparse_exponents-zero}
@@ -12,103 +12,69 @@ no_lexeme = record { start = 0; text = [] }
 within_or_past : (place n : ℕ) → place ≤ n → (place < n) ⊎ (place ≡ n)
 within_or_past place n le = grind arith
 
+-- reading the token at a place is judging it
+read_judged : {A : Type 0} (view : List ℕ → A) (offset : ℕ) (kind : What) (all : List Lexeme) (place : ℕ)
+    → read view offset kind (drop place all) ≡ unless (judgement kind offset (slice_get all place)) (view (text_at all place), drop (suc place) all)
+unfolding read
+read_judged view offset kind [] zero = refl
+read_judged view offset kind [] (suc place) = refl
+read_judged view offset kind (token ∷ all) zero = refl
+read_judged view offset kind (token ∷ all) (suc place) = read_judged view offset kind all place
+
 module _ (form : Form) (offset : ℕ) (all : List Lexeme) where
   -- what holds after a reading: a fact of what was read, or its refusal is that of the text
   abbrev pub Reads : {A : Type 0} → Result A DocRefusal → (A → Type 0) → Type 0
   Reads (Ok x) Q = Q x
   Reads (Err r) Q = first_refusal form offset all ≡ Some r
 
+  pub reads_bind : {A B : Type 0} (m : Result A DocRefusal) (f : A → Result B DocRefusal) (Q : B → Type 0) → Reads m (λ x. Reads (f x) Q) → Reads (m >>= f) Q
+  reads_bind (Ok x) f Q h = h
+  reads_bind (Err r) f Q h = h
+
   -- no token before this place is refused
   pub record Reached (place : ℕ) : Type 0 where
     pub within : place ≤ length all
     pub clear : first place (refusal_at form offset all) ≡ None
 
-  pub reads_bind : {A B : Type 0} (m : Result A DocRefusal) (f : A → Result B DocRefusal) (Q : B → Type 0) → Reads m (λ x. Reads (f x) Q) → Reads (m >>= f) Q
-  reads_bind (Ok x) f Q h = h
-  reads_bind (Err r) f Q h = h
-
-  pub reached_none : Reached 0
-  unfolding first
-  reached_none = record { within = omega arith; clear = refl }
-
-  pub reached_at : (place other : ℕ) → place ≡ other → Reached place → Reached other
-  reached_at place other e reached = subst Reached e reached
-
-  -- a refusal at a place that was reached is that of the text
-  refused : (place : ℕ) (r : DocRefusal) → Reached place → refusal_at form offset all place ≡ Some r → first_refusal form offset all ≡ Some r
-  unfolding first_refusal
-  refused place r reached here =
-      let within : place < length all + 1 = omega (arith, reached.within) in
-      first_found (length all + 1) place (refusal_at form offset all) r within reached.clear here
-
-  goes_on : (place : ℕ) → Reached place → place < length all → refusal_at form offset all place ≡ None → Reached (place + 1)
-  goes_on place reached within here = record {
-    within = omega arith;
-    clear = first_none-step place (refusal_at form offset all) reached.clear here;
-  }
-
   -- the token at a place
   abbrev pub lexeme_at : ℕ → Lexeme
   lexeme_at place = get_or all place no_lexeme
 
-  pub refusal_at-within : (place : ℕ) (kind : What) → expected form (take place all) ≡ kind → place < length all → refusal_at form offset all place ≡ refusal kind (lexeme_at place)
-  refusal_at-within place kind stands within =
-      ap (λ w. judgement w offset (slice_get all place)) stands ∙ ap (judgement kind offset) (slice_get-get_or all place no_lexeme within)
-
-  refusal_at-end : (place : ℕ) (kind : What) → expected form (take place all) ≡ kind → length all ≤ place → refusal_at form offset all place ≡ missing kind offset
-  refusal_at-end place kind stands past =
-      ap (λ w. judgement w offset (slice_get all place)) stands ∙ ap (judgement kind offset) (slice_get_past all place past)
-
   pub drop_here : (place : ℕ) → place < length all → drop place all ≡ lexeme_at place ∷ drop (place + 1) all
   drop_here place within = rw (add-one, drop-cons all place no_lexeme) refl
 
-  read-cons : {A : Type 0} (view : List ℕ → A) (kind : What) (token : Lexeme) (rest : List Lexeme) → read view offset kind (token ∷ rest) ≡ unless (refusal kind token) (view token.text, rest)
-  unfolding read
-  read-cons view kind token rest = refl
-
-  read-nil : {A : Type 0} (view : List ℕ → A) (kind : What) → read view offset kind [] ≡ unless (missing kind offset) (view [], [])
-  unfolding read
-  read-nil view kind = refl
-
-  step_within : {A : Type 0} (view : List ℕ → A) (place : ℕ) (kind : What) (Q : (A × List Lexeme) → Type 0) (r : Option DocRefusal) → refusal kind (lexeme_at place) ≡ r
-      → Reached place → expected form (take place all) ≡ kind → place < length all
-      → (Reached (place + 1) → Q (view (text_at all place), drop (place + 1) all))
-      → Reads (unless r (view (text_at all place), drop (place + 1) all)) Q
-  step_within view place kind Q None e reached stands within next =
-      next (goes_on place reached within (refusal_at-within place kind stands within ∙ e))
-  step_within view place kind Q (Some r) e reached stands within next =
-      refused place r reached (refusal_at-within place kind stands within ∙ e)
-
-  step_end : {A : Type 0} (kind : What) (x : A) (Q : A → Type 0) (place : ℕ) (r : DocRefusal) → missing kind offset ≡ Some r
-      → Reached place → expected form (take place all) ≡ kind → length all ≤ place
-      → Reads (unless (missing kind offset) x) Q
-  step_end kind x Q place r e reached stands past =
-      rw e (refused place r reached (refusal_at-end place kind stands past ∙ e))
-
-  pub refused_nothing : (place : ℕ) → Reached place → (k : ℕ) → k < place → refusal_at form offset all k ≡ None
-  refused_nothing place reached k before = first_none-at place k (refusal_at form offset all) reached.clear before
+  -- a refusal at a place that was reached is that of the text
+  refused : (place : ℕ) (r : DocRefusal) → Reached place → refusal_at form offset all place ≡ Some r → first_refusal form offset all ≡ Some r
+  unfolding first_refusal
+  refused place r reached here = first_found (length all + 1) place (refusal_at form offset all) r (omega (arith, reached.within)) reached.clear here
 
   -- the token before a place that was reached fits
   pub reached_fits : (place : ℕ) (kind : What) → Reached (place + 1) → expected form (take place all) ≡ kind → refusal kind (lexeme_at place) ≡ None
   reached_fits place kind reached stands =
-      sym (refusal_at-within place kind stands (omega (arith, reached.within))) ∙ refused_nothing (place + 1) reached place (omega arith)
+      rw (stands, slice_get-get_or all place no_lexeme (omega (arith, reached.within))) at
+      (first_none-at (place + 1) place (refusal_at form offset all) reached.clear (omega arith))
+
+  -- a token that is missed where the text ends
+  abbrev pub IsMissed : What → Type 0
+  IsMissed kind = missing kind offset ≡ Some (Syntax offset (wanted kind))
 
   -- a token that has to stand at a place
-  pub step : {A : Type 0} (view : List ℕ → A) (kind : What) (place next : ℕ) (r : DocRefusal) (Q : (A × List Lexeme) → Type 0) → missing kind offset ≡ Some r
+  pub step : {A : Type 0} (view : List ℕ → A) (kind : What) (place next : ℕ) (Q : (A × List Lexeme) → Type 0) → IsMissed kind
       → place + 1 ≡ next → Reached place → expected form (take place all) ≡ kind
       → (Reached next → Q (view (text_at all place), drop next all))
       → Reads (read view offset kind (drop place all)) Q
-  step view kind place next r Q e after reached stands on =
-      elim (within_or_past place (length all) reached.within) [
-        | inl within ↦
-            let all_left = drop_here place within in
-            rw (all_left, read-cons view kind (lexeme_at place) (drop (place + 1) all))
-            (step_within view place kind Q (refusal kind (lexeme_at place)) refl reached stands within
-            (rw after on))
-        | inr past ↦
-            let nothing_left : drop place all ≡ [] = drop_all place all (omega arith) in
-            rw (nothing_left, read-nil view kind) (step_end kind (view [], []) Q place r e reached stands (omega arith))
-      ]
+  step {A} view kind place next Q missed after reached stands on =
+      rw (read_judged view offset kind all place) (by (judgement kind offset (slice_get all place)) refl)
+    where
+      by : (o : Option DocRefusal) → judgement kind offset (slice_get all place) ≡ o → Reads {A = A × List Lexeme} (unless o (view (text_at all place), drop (suc place) all)) Q
+      by (Some r) e = refused place r reached (rw stands e)
+      by None e =
+          let inside : place < length all = elim (within_or_past place (length all) reached.within) [
+            | inl within ↦ within
+            | inr past ↦ absurd (let no : Some (Syntax offset (wanted kind)) ≡ None = rw (slice_get_past all place (omega arith), missed) at e in cc)
+          ] in
+          let here : suc place ≡ next = omega arith in
+          rw here (on (record { within = omega arith; clear = rw (← after) (first_none-step place (refusal_at form offset all) reached.clear (rw stands e)) }))
 
   -- that nothing stands at a place
   pub end_step : (place : ℕ) (Q : List Lexeme → Type 0) → Reached place → expected form (take place all) ≡ NoToken
@@ -116,26 +82,24 @@ module _ (form : Form) (offset : ℕ) (all : List Lexeme) where
       → Reads (skip offset NoToken (drop place all)) Q
   unfolding missing refusal first_refusal
   end_step place Q reached stands on =
-      elim (within_or_past place (length all) reached.within) [
+      reads_bind (read (λ text. text) offset NoToken (drop place all)) _ Q (rw (read_judged (λ text. text) offset NoToken all place)
+      (elim (within_or_past place (length all) reached.within) [
         | inl within ↦
-            let all_left = drop_here place within in
-            rw (all_left, read-cons (λ text. text) NoToken (lexeme_at place) (drop (place + 1) all))
-            (refused place (Syntax (lexeme_at place).start Nothing) reached (refusal_at-within place NoToken stands within))
+            let found = slice_get-get_or all place no_lexeme within in
+            rw found (refused place (Syntax (lexeme_at place).start Nothing) reached (rw (stands, found) refl))
         | inr past ↦
-            let nothing_left : drop place all ≡ [] = drop_all place all (omega arith) in
-            let here : refusal_at form offset all place ≡ None = refusal_at-end place NoToken stands (omega arith) in
-            let clear : first (place + 1) (refusal_at form offset all) ≡ None = first_none-step place (refusal_at form offset all) reached.clear here in
-            let whole : first (length all + 1) (refusal_at form offset all) ≡ None = ap (λ n. first (n + 1) (refusal_at form offset all)) (sym past) ∙ clear in
-            rw (nothing_left, read-nil (λ text. text) NoToken) (on whole)
-      ]
+            let none : slice_get all place ≡ None = slice_get_past all place (omega arith) in
+            let nothing_left : drop (suc place) all ≡ [] = drop_all (suc place) all (omega arith) in
+            rw (none, nothing_left) (on (rw (← past) (first_none-step place (refusal_at form offset all) reached.clear (rw (stands, none) refl))))
+      ]))
 
   -- a word that has to stand at a place
-  pub skip_step : (kind : What) (place next : ℕ) (r : DocRefusal) (Q : List Lexeme → Type 0) → missing kind offset ≡ Some r
+  pub skip_step : (kind : What) (place next : ℕ) (Q : List Lexeme → Type 0) → IsMissed kind
       → place + 1 ≡ next → Reached place → expected form (take place all) ≡ kind → (Reached next → Q (drop next all))
       → Reads (skip offset kind (drop place all)) Q
-  skip_step kind place next r Q e after reached stands on =
+  skip_step kind place next Q missed after reached stands on =
       reads_bind (read (λ text. text) offset kind (drop place all)) (λ x. Ok x.1) Q
-      (step (λ text. text) kind place next r (λ x. Q x.1) e after reached stands on)
+      (step (λ text. text) kind place next (λ x. Q x.1) missed after reached stands on)
 
   -- ---- run after run
 
@@ -146,11 +110,11 @@ module _ (form : Form) (offset : ℕ) (all : List Lexeme) where
     pub is_end : place + total runs ≡ exponents_end all
 
   pub at_start : At 0 (runs_after all)
-  unfolding exponents_end
+  unfolding exponents_end first
   at_start =
       let count : total (runs_after all) ≡ exponents_end all = refl in
       record {
-        reached = reached_none;
+        reached = record { within = omega arith; clear = refl };
         rest = λ other k e within. let same : k ≡ other = omega arith in rw same (expected_is form all other within);
         is_end = omega (arith, count);
       }
@@ -184,16 +148,12 @@ module _ (form : Form) (offset : ℕ) (all : List Lexeme) where
   at_place : (place other : ℕ) (runs : List Run) → place ≡ other → At place runs → At other runs
   at_place place other runs e at = subst (λ n. At n runs) e at
 
-  -- a token of the first run, which is missed where the text ends
-  abbrev IsMissed : What → Type 0
-  IsMissed kind = missing kind offset ≡ Some (Syntax offset (wanted kind))
-
   run_step : {A : Type 0} (view : List ℕ → A) (kind : What) (place next count : ℕ) (runs : List Run) (Q : (A × List Lexeme) → Type 0) → IsMissed kind
       → place + 1 ≡ next → At place (times (suc count) kind ∷ runs)
       → (At next (times count kind ∷ runs) → Q (view (text_at all place), drop next all))
       → Reads (read view offset kind (drop place all)) Q
   run_step view kind place next count runs Q missed after at on =
-      step view kind place next (Syntax offset (wanted kind)) Q missed after at.reached
+      step view kind place next Q missed after at.reached
       (stands place count kind runs at)
       (λ reached. on (at_next place next count kind runs after at reached))
 

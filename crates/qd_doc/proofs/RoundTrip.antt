@@ -1,11 +1,12 @@
 -- The canonical text of a document is read as the document.
-use Rattle.qd_doc.proofs.Names.{All, AllByRecursion, Block, Bool, Characters, ConductorNumber, DocRefusal, Document, EndWord, Err, Expected, FormWord, Given, IfSome, IsGivenInRange, IsInRange, IsNarrow, IsValueOf, Lexeme, List, MatchResult, Natural, NoToken, None, Ok, Omega, One, Option, OrderNumber, Parses, Part, PrintedIsRead, Qdouble, Result, RootsNumber, Some, Stage, Table, What, Word, [], and-true, ap, append-nil, append_assoc, are_trivial, arith, block, block_lines, canonical_lines, canonical_text, characters_lines, codes, cond, decimal, decimal_spells, digits_are_word, document_of, drop, eq-eqb, eqb-true, false, flat_map, flat_map-append, form_of, is_blank, is_conductor, is_end, is_form, is_plain, is_token_byte, is_word, kind_after, le-leb, length, length-drop, length-map, line, list_all, list_all-append, listing_of, lt-ltb, ltb-true, map, map-append, missing, nat_eq, nat_le, nat_lt, number_of, number_of-decimal, number_refusal, omega_lines, part_of, phi_of, plain, read, read_blocks, read_characters, read_document, read_end, read_exponents, read_given, read_number, read_numbers, read_order, read_roots, recursion_from_All, reduced, reduced_document, refl, refusal, replicate, row_words, rows, skip, stage_of, stop_of, subst, suc, sym, take, take-append-drop, text, tokens, true, value, value_refusal, value_text, with_part, with_row, word_of, word_part, words_of, words_of-blank, words_of-nil, words_of-word, zero, ℕ, ℤ, ◌%◌, ◌&&◌, ◌*◌, ◌++◌, ◌<◌, ◌==◌, ◌>>=◌, ◌^◌, ◌∙◌, ◌∷◌, ◌≡◌, ◌≤◌}
+use Rattle.qd_doc.proofs.Names.{All, All-head, All-tail, AllByRecursion, Block, Bool, Characters, ConductorNumber, DocRefusal, Document, EndWord, Err, Expected, FormWord, Given, IfSome, IsGivenInRange, IsInRange, IsNarrow, IsValueOf, Lexeme, List, MatchResult, Natural, NoToken, None, Ok, Omega, One, Option, OrderNumber, Parses, Part, PrintedIsRead, Qdouble, Result, RootsNumber, Some, Stage, Table, What, Word, [], and-true, ap, append-nil, append_assoc, are_trivial, arith, block, block_lines, canonical_lines, canonical_text, characters_lines, codes, cond, decimal, decimal_spells, digits_are_word, document_of, drop, eq-eqb, eqb-true, expected, false, flat_map, flat_map-append, form_of, is_blank, is_conductor, is_end, is_plain, is_token_byte, is_word, kind_after, le-leb, length, length-drop, length-map, line, list_all, list_all-append, listing_of, lt-ltb, ltb-true, map, map-append, missing, nat_eq, nat_lt, number_of-decimal, omega_lines, part_of, phi_of, plain, read, read_blocks, read_characters, read_document, read_end, read_exponents, read_given, read_number, read_numbers, read_order, read_roots, recursion_from_All, reduced, reduced_document, refl, refusal, replicate, row_words, rows, skip, stage_of, stop_of, subst, suc, sym, take, take-append-drop, text, tokens, true, value, value_text, with_part, word_of, words_of, words_of-blank, words_of-nil, words_of-word, zero, ℕ, ℤ, ◌%◌, ◌*◌, ◌++◌, ◌<◌, ◌==◌, ◌>>=◌, ◌^◌, ◌∙◌, ◌∷◌, ◌≡◌}
 use Rattle.qd_text.specs.declared.expected.Expected.TheVariants.{Order, Roots}
 use Rattle.qd_doc.proofs.Ranges.{IsBetween}
 use Rattle.qd_doc.specs.declared.part.Stage.TheVariants as stages
 use Rattle.qd_doc.specs.declared.part.Part.TheVariants as parts
 use Rattle.qd_doc.proofs.Entries.{small_entry}
-use Rattle.qd_doc.proofs.Parts.{class_fits, end_fits}
+use Rattle.qd_doc.proofs.Loops.{blocks_step}
+use Rattle.qd_doc.proofs.Parts.{IsWordStage, word_said, class_fits, end_fits}
 use Rattle.qd_doc.proofs.LastRows.{with_row_is, with_value_is}
 use Rattle.qd_doc.specs.declared.refusal.DocRefusal.TheVariants as refusals
 use Rattle.qd_doc.proofs.Places.{Reads}
@@ -110,22 +111,16 @@ words_in-document document in_range =
     let n = document.order in
     simp (flat_map-append, words_in-rows n n document.table in_range.table, words_in-omega n document.roots document.exponents in_range.exponents)
 
-small-reduced : (roots : ℕ) (exponents : List ℕ) → 1 ≤ roots → roots ≤ 64 → AreSmall (reduced roots exponents)
-small-reduced roots [] low high = tt
-small-reduced roots (e ∷ exponents) low high = (omega arith, small-reduced roots exponents low high)
+small-reduced : (roots : ℕ) (exponents : List ℕ) → IsBetween 1 64 roots → AreSmall (reduced roots exponents)
+small-reduced roots [] within = tt
+small-reduced roots (e ∷ exponents) within = (omega arith, small-reduced roots exponents within)
 
-plain-exponents : (b : Bool) (roots : ℕ) (exponents : List ℕ) → 1 ≤ roots → roots ≤ 64 → ArePlain (exponent_words b roots exponents)
+plain-exponents : (b : Bool) (roots : ℕ) (exponents : List ℕ) → IsBetween 1 64 roots → ArePlain (exponent_words b roots exponents)
 unfolding exponent_words
-plain-exponents true roots exponents low high = refl
-plain-exponents false roots exponents low high = plain-numbers (reduced roots exponents) (small-reduced roots exponents low high)
+plain-exponents true roots exponents within = refl
+plain-exponents false roots exponents within = plain-numbers (reduced roots exponents) (small-reduced roots exponents within)
 
 -- ---- blocks
-
-first_of : {X : Type 0} (P : X → Type 0) (x : X) (xs : List X) → All P (x ∷ xs) → P x
-first_of P x xs all = all 0 x (omega arith)
-
-rest_of : {X : Type 0} (P : X → Type 0) (x : X) (xs : List X) → All P (x ∷ xs) → All P xs
-rest_of P x xs all = λ k d within. all (suc k) d (omega arith)
 
 plain-append : (a b : List (List ℕ)) → ArePlain a → ArePlain b → ArePlain (a ++ b)
 plain-append a b x y = list_all-append is_plain a b ∙ rw (x, y) refl
@@ -152,9 +147,9 @@ words_in-append a b = flat_map-append (λ words. words) a b
 plain-blocks : (blocks : List Block) → All HasSmallNumber blocks → ArePlain (words_in (flat_map block_lines blocks))
 plain-blocks [] small = refl
 plain-blocks (b ∷ blocks) small =
-    let number = plain-decimal b.representative (omega (arith, first_of HasSmallNumber b blocks small)) in
+    let number = plain-decimal b.representative (omega (arith, All-head HasSmallNumber b blocks small)) in
     rw (number, words_in-append (map row_words b.rows) (flat_map block_lines blocks))
-    (plain-append (words_in (map row_words b.rows)) (words_in (flat_map block_lines blocks)) (plain-rows b.rows) (plain-blocks blocks (rest_of HasSmallNumber b blocks small)))
+    (plain-append (words_in (map row_words b.rows)) (words_in (flat_map block_lines blocks)) (plain-rows b.rows) (plain-blocks blocks (All-tail HasSmallNumber b blocks small)))
 
 plain-last : (characters : Option Given) → IfSome characters IsGivenInRange → IfSome characters (λ given. All HasSmallNumber given.blocks) → ArePlain (last_words characters)
 unfolding last_words characters_lines
@@ -176,7 +171,7 @@ plain-document document fine =
     let order = plain-decimal document.order (omega (arith, in_range.order.1)) in
     let roots = plain-decimal document.roots (omega (arith, in_range.roots.1)) in
     let trivial = are_trivial document.roots document.exponents in
-    let exponents = plain-exponents trivial document.roots document.exponents in_range.roots.0 in_range.roots.1 in
+    let exponents = plain-exponents trivial document.roots document.exponents in_range.roots in
     let rest = exponent_words trivial document.roots document.exponents ++ last_words document.characters in
     let last : ArePlain rest =
     plain-append (exponent_words trivial document.roots document.exponents) (last_words document.characters) exponents
@@ -199,257 +194,195 @@ reduced-trivial roots (e ∷ exponents) trivial =
 
 -- ---- reading words that fit
 
+-- from tokens that spell these words a reader leaves those that spell some more, and answers by them
+record Takes {A : Type 0} (reader : List Lexeme → Result A DocRefusal) (words more : List (List ℕ)) (answer : List Lexeme → A) : Type 0 where
+  took : (left : List Lexeme) → map text left ≡ words → (rest : List Lexeme) × (reader left ≡ Ok (answer rest)) × (map text rest ≡ more)
+
+takes_none : {A : Type 0} (words : List (List ℕ)) (answer : List Lexeme → A) → Takes (λ left. Ok (answer left)) words words answer
+takes_none words answer = record { took = λ left e. (left, refl, e) }
+
+-- one reader, and then another
+takes_then : {A B : Type 0} {reader : List Lexeme → Result A DocRefusal} {words between more : List (List ℕ)} {first : List Lexeme → A} {answer : List Lexeme → B} (next : A → Result B DocRefusal)
+    → Takes reader words between first → Takes (λ rest. next (first rest)) between more answer → Takes (λ left. reader left >>= next) words more answer
+takes_then next one two = record {
+  took = λ left e.
+      let a = one.took left e in
+      let b = two.took a.0 a.2 in
+      (b.0, rw a.1 b.1, b.2);
+}
+
 word-same : (word : List ℕ) → is_word word word ≡ true
 word-same [] = refl
-word-same (byte ∷ word) =
-    let e : byte == byte ≡ true = eq-eqb byte byte refl in
-    rw (e, word-same word) refl
+word-same (byte ∷ word) = rw (eq-eqb byte byte refl, word-same word) refl
 
-cons_parts : (x y : List ℕ) (xs ys : List (List ℕ)) → x ∷ xs ≡ y ∷ ys → (x ≡ y) × (xs ≡ ys)
-cons_parts x y xs ys e = (cc, cc)
+-- a token with this text isn't refused, wherever it stands
+abbrev Fits : What → List ℕ → Type 0
+Fits kind word = (start : ℕ) → refusal kind (record { start = start; text = word }) ≡ None
+
+natural_fits : (n : ℕ) → n < 2 ^ 32 → Fits Natural (decimal n)
+unfolding refusal
+natural_fits n small start = rw (number_of-decimal n small) refl
+
+takes_same : {A : Type 0} {reader other : List Lexeme → Result A DocRefusal} {words more : List (List ℕ)} {answer : List Lexeme → A} → ((left : List Lexeme) → reader left ≡ other left)
+    → Takes other words more answer → Takes reader words more answer
+takes_same same one = record { took = λ left e. let a = one.took left e in (a.0, same left ∙ a.1, a.2) }
 
 module _ (offset : ℕ) where
-  -- reading ends with something of which a fact holds
-  abbrev ReadsTo : {A : Type 0} → Result A DocRefusal → (A → Type 0) → Type 0
-  ReadsTo (Ok x) Q = Q x
-  ReadsTo (Err r) Q = ⊥
-
-  reads_bind : {A B : Type 0} (m : Result A DocRefusal) (f : A → Result B DocRefusal) (Q : B → Type 0) → ReadsTo m (λ x. ReadsTo (f x) Q) → ReadsTo (m >>= f) Q
-  reads_bind (Ok x) f Q h = h
-  reads_bind (Err r) f Q h = h
-
-  reads_ok : {A : Type 0} (m : Result A DocRefusal) (Q : A → Type 0) → ReadsTo m Q → (x : A) × (m ≡ Ok x) × Q x
-  reads_ok (Ok x) Q h = (x, refl, h)
-  reads_ok (Err r) Q h = absurd h
-
-  token_ok : {A : Type 0} (view : List ℕ → A) (kind : What) (left : List Lexeme) (word : List ℕ) (words : List (List ℕ)) (Q : (A × List Lexeme) → Type 0)
-      → map text left ≡ word ∷ words → ((start : ℕ) → refusal kind (record { start = start; text = word }) ≡ None)
-      → ((rest : List Lexeme) → map text rest ≡ words → Q (view word, rest))
-      → ReadsTo (read view offset kind left) Q
+  token_by : {A : Type 0} (view : List ℕ → A) (kind : What) (word : List ℕ) (words : List (List ℕ)) → Fits kind word → (left : List Lexeme) → map text left ≡ word ∷ words
+      → (rest : List Lexeme) × (read view offset kind left ≡ Ok (view word, rest)) × (map text rest ≡ words)
   unfolding read
-  token_ok view kind [] word words Q e fits on = absurd cc
-  token_ok view kind (token ∷ left) word words Q e fits on =
-      let parts = cons_parts token.text word (map text left) words e in
-      let fit : refusal kind token ≡ None = subst (λ (v : List ℕ). refusal kind (record { start = token.start; text = v }) ≡ None) (sym parts.0) (fits token.start) in
-      let here : Q (view token.text, left) = subst (λ (v : List ℕ). Q (view v, left)) (sym parts.0) (on left parts.1) in
-      rw fit here
+  token_by view kind word words fits [] e = absurd cc
+  token_by view kind word words fits (token ∷ left) e =
+      let same : token.text ≡ word = cc in
+      let fit : refusal kind token ≡ None = subst (λ (v : List ℕ). refusal kind (record { start = token.start; text = v }) ≡ None) (sym same) (fits token.start) in
+      (left, rw (fit, same) refl, cc)
 
-  skip_ok : (kind : What) (left : List Lexeme) (word : List ℕ) (words : List (List ℕ)) (Q : List Lexeme → Type 0)
-      → map text left ≡ word ∷ words → ((start : ℕ) → refusal kind (record { start = start; text = word }) ≡ None)
-      → ((rest : List Lexeme) → map text rest ≡ words → Q rest)
-      → ReadsTo (skip offset kind left) Q
-  skip_ok kind left word words Q e fits on =
-      reads_bind (read (λ text. text) offset kind left) (λ x. Ok x.1) Q (token_ok (λ text. text) kind left word words (λ x. Q x.1) e fits on)
+  token_taken : {A : Type 0} (view : List ℕ → A) (kind : What) (word : List ℕ) (words : List (List ℕ)) → Fits kind word
+      → Takes (λ left. read view offset kind left) (word ∷ words) words (λ rest. (view word, rest))
+  token_taken view kind word words fits = record { took = token_by view kind word words fits }
 
-  word_fits : (expected : Expected) (start : ℕ) → refusal (Word expected) (record { start = start; text = word_of expected }) ≡ None
+  skip_taken : (kind : What) (word : List ℕ) (words : List (List ℕ)) → Fits kind word → Takes (λ left. skip offset kind left) (word ∷ words) words (λ rest. rest)
+  skip_taken kind word words fits = takes_then _ (token_taken (λ text. text) kind word words fits) (takes_none words (λ rest. rest))
+
+  word_taken : (expected : Expected) (words : List (List ℕ)) → Takes (λ left. skip offset (Word expected) left) (word_of expected ∷ words) words (λ rest. rest)
   unfolding refusal
-  word_fits expected start = rw (word-same (word_of expected)) refl
+  word_taken expected words = skip_taken (Word expected) (word_of expected) words (λ start. rw (word-same (word_of expected)) refl)
 
-  word_ok : (expected : Expected) (left : List Lexeme) (words : List (List ℕ)) (Q : List Lexeme → Type 0)
-      → map text left ≡ word_of expected ∷ words → ((rest : List Lexeme) → map text rest ≡ words → Q rest)
-      → ReadsTo (skip offset (Word expected) left) Q
-  word_ok expected left words Q e on = skip_ok (Word expected) left (word_of expected) words Q e (word_fits expected) on
+  number_taken : (kind : What) (n : ℕ) (words : List (List ℕ)) → n < 2 ^ 32 → Fits kind (decimal n) → Takes (λ left. read_number offset kind left) (decimal n ∷ words) words (λ rest. (n, rest))
+  number_taken kind n words small fits = rw (decimal_spells n (omega arith)).value_is at (token_taken value kind (decimal n) words fits)
 
-  -- a number that isn't refused for its value
-  number_fits : (kind : What) (n start : ℕ) → n < 2 ^ 32 → value_refusal kind start n ≡ None → number_refusal kind start (number_of (decimal n)) ≡ None
-  number_fits kind n start small fits = ap (number_refusal kind start) (number_of-decimal n small) ∙ fits
-
-  natural_fits : (n start : ℕ) → n < 2 ^ 32 → refusal Natural (record { start = start; text = decimal n }) ≡ None
-  unfolding refusal
-  natural_fits n start small = number_fits Natural n start small refl
-
-  between_fits : (n most : ℕ) (r : DocRefusal) → IsBetween 1 most n → cond (nat_le 1 n && nat_le n most) None (Some r) ≡ None
-  between_fits n most r within = rw (le-leb 1 n within.0, le-leb n most within.1) refl
-
-  number_ok : (kind : What) (n : ℕ) (left : List Lexeme) (words : List (List ℕ)) (Q : (ℕ × List Lexeme) → Type 0)
-      → n < 2 ^ 32 → map text left ≡ decimal n ∷ words → ((start : ℕ) → refusal kind (record { start = start; text = decimal n }) ≡ None)
-      → ((rest : List Lexeme) → map text rest ≡ words → Q (n, rest))
-      → ReadsTo (read_number offset kind left) Q
-  number_ok kind n left words Q small e fits on =
-      token_ok value kind left (decimal n) words Q e fits
-      (λ rest more. subst (λ (v : ℕ). Q (v, rest)) (sym (decimal_spells n (omega arith)).value_is) (on rest more))
-
-  numbers_ok : (numbers : List ℕ) (left : List Lexeme) (words : List (List ℕ)) (Q : (List ℕ × List Lexeme) → Type 0)
-      → AreSmall numbers → map text left ≡ map decimal numbers ++ words
-      → ((rest : List Lexeme) → map text rest ≡ words → Q (numbers, rest))
-      → ReadsTo (read_numbers offset (length numbers) left) Q
+  numbers_taken : (numbers : List ℕ) (words : List (List ℕ)) → AreSmall numbers
+      → Takes (λ left. read_numbers offset (length numbers) left) (map decimal numbers ++ words) words (λ rest. (numbers, rest))
   unfolding read_numbers
-  numbers_ok [] left words Q small e on = on left e
-  numbers_ok (n ∷ numbers) left words Q small e on =
-      reads_bind (read_number offset Natural left) _ Q
-      (number_ok Natural n left (map decimal numbers ++ words) _ small.0 e (λ start. natural_fits n start small.0) (λ left1 e1.
-      reads_bind (read_numbers offset (length numbers) left1) _ Q
-      (numbers_ok numbers left1 words (λ more. Q (n ∷ more.0, more.1)) small.1 e1 on)))
+  numbers_taken [] words small = takes_none words (λ rest. ([], rest))
+  numbers_taken (n ∷ numbers) words small =
+      takes_then _ (number_taken Natural n (map decimal numbers ++ words) small.0 (natural_fits n small.0))
+      (takes_then _ (numbers_taken numbers words small.1) (takes_none words (λ rest. (n ∷ numbers, rest))))
 
-  count_ok : (count : ℕ) (numbers : List ℕ) (left : List Lexeme) (words : List (List ℕ)) (Q : (List ℕ × List Lexeme) → Type 0)
-      → length numbers ≡ count → AreSmall numbers → map text left ≡ map decimal numbers ++ words
-      → ((rest : List Lexeme) → map text rest ≡ words → Q (numbers, rest))
-      → ReadsTo (read_numbers offset count left) Q
-  count_ok count numbers left words Q len small e on =
-      subst (λ (k : ℕ). ReadsTo (read_numbers offset k left) Q) len (numbers_ok numbers left words Q small e on)
-
-  order_ok : (n : ℕ) (left : List Lexeme) (words : List (List ℕ)) (Q : (ℕ × List Lexeme) → Type 0) → 1 ≤ n → n ≤ 60
-      → map text left ≡ codes "qdouble" ∷ codes "1" ∷ codes "order" ∷ decimal n ∷ codes "table" ∷ words
-      → ((rest : List Lexeme) → map text rest ≡ words → Q (n, rest))
-      → ReadsTo (read_order offset left) Q
+  order_taken : (n : ℕ) (words : List (List ℕ)) → IsBetween 1 60 n
+      → Takes (λ left. read_order offset left) (codes "qdouble" ∷ codes "1" ∷ codes "order" ∷ decimal n ∷ codes "table" ∷ words) words (λ rest. (n, rest))
   unfolding read_order refusal
-  order_ok n left words Q low high e on =
-      reads_bind (skip offset (Word Qdouble) left) _ Q (word_ok Qdouble left _ _ e (λ left1 e1.
-      reads_bind (skip offset (Word One) left1) _ Q (word_ok One left1 _ _ e1 (λ left2 e2.
-      reads_bind (skip offset (Word Order) left2) _ Q (word_ok Order left2 _ _ e2 (λ left3 e3.
-      reads_bind (read_number offset OrderNumber left3) _ Q (number_ok OrderNumber n left3 _ _ (omega arith) e3 (λ start. number_fits OrderNumber n start (omega arith) (between_fits n 60 (refusals.Order n) (low, high))) (λ left4 e4.
-      reads_bind (skip offset (Word Table) left4) _ Q (word_ok Table left4 words _ e4 on)))))))))
+  order_taken n words within =
+      let small : n < 2 ^ 32 = omega (arith, within.1) in
+      takes_then _ (word_taken Qdouble _) (takes_then _ (word_taken One _) (takes_then _ (word_taken Order _)
+      (takes_then _ (number_taken OrderNumber n _ small (λ start. rw (number_of-decimal n small, le-leb 1 n within.0, le-leb n 60 within.1) refl))
+      (takes_then _ (word_taken Table words) (takes_none words (λ rest. (n, rest)))))))
 
-  roots_ok : (roots : ℕ) (left : List Lexeme) (words : List (List ℕ)) (Q : (ℕ × List Lexeme) → Type 0) → 1 ≤ roots → roots ≤ 64
-      → map text left ≡ codes "roots" ∷ decimal roots ∷ codes "omega" ∷ words
-      → ((rest : List Lexeme) → map text rest ≡ words → Q (roots, rest))
-      → ReadsTo (read_roots offset left) Q
+  roots_taken : (roots : ℕ) (words : List (List ℕ)) → IsBetween 1 64 roots
+      → Takes (λ left. read_roots offset left) (codes "roots" ∷ decimal roots ∷ codes "omega" ∷ words) words (λ rest. (roots, rest))
   unfolding read_roots refusal
-  roots_ok roots left words Q low high e on =
-      reads_bind (skip offset (Word Roots) left) _ Q (word_ok Roots left _ _ e (λ left1 e1.
-      reads_bind (read_number offset RootsNumber left1) _ Q (number_ok RootsNumber roots left1 _ _ (omega arith) e1 (λ start. number_fits RootsNumber roots start (omega arith) (between_fits roots 64 (refusals.Roots roots) (low, high))) (λ left2 e2.
-      reads_bind (skip offset (Word Omega) left2) _ Q (word_ok Omega left2 words _ e2 on)))))
+  roots_taken roots words within =
+      let small : roots < 2 ^ 32 = omega (arith, within.1) in
+      takes_then _ (word_taken Roots _)
+      (takes_then _ (number_taken RootsNumber roots _ small (λ start. rw (number_of-decimal roots small, le-leb 1 roots within.0, le-leb roots 64 within.1) refl))
+      (takes_then _ (word_taken Omega words) (takes_none words (λ rest. (roots, rest)))))
 
-  form_fits : (word : List ℕ) → is_form word ≡ true → (start : ℕ) → refusal FormWord (record { start = start; text = word }) ≡ None
-  unfolding refusal
-  form_fits word is start = rw is refl
+  exponents_taken : (n roots : ℕ) (exponents : List ℕ) (b : Bool) (words : List (List ℕ)) → are_trivial roots exponents ≡ b → length exponents ≡ n * n * n → IsBetween 1 64 roots
+      → Takes (λ left. read_exponents offset n left) (exponent_words b roots exponents ++ words) words (λ rest. (reduced roots exponents, rest))
+  unfolding read_exponents exponent_words refusal
+  exponents_taken n roots exponents true words trivial len within =
+      takes_then _ (token_taken listing_of FormWord (codes "trivial") words (λ start. refl))
+      (rw (reduced-trivial roots exponents trivial, len) (takes_none words (λ rest. (replicate (n * n * n) 0, rest))))
+  exponents_taken n roots exponents false words trivial len within =
+      let count : length (reduced roots exponents) ≡ n * n * n = length-map exponents (λ exponent. exponent % roots) ∙ len in
+      takes_then _ (token_taken listing_of FormWord (codes "dense") (map decimal (reduced roots exponents) ++ words) (λ start. refl))
+      (rw count at (numbers_taken (reduced roots exponents) words (small-reduced roots exponents within)))
 
-  exponents_ok : (n roots : ℕ) (exponents : List ℕ) (b : Bool) (left : List Lexeme) (words : List (List ℕ)) (Q : (List ℕ × List Lexeme) → Type 0)
-      → are_trivial roots exponents ≡ b → length exponents ≡ n * n * n → 1 ≤ roots → roots ≤ 64
-      → map text left ≡ exponent_words b roots exponents ++ words
-      → ((rest : List Lexeme) → map text rest ≡ words → Q (reduced roots exponents, rest))
-      → ReadsTo (read_exponents offset n left) Q
-  unfolding read_exponents exponent_words
-  exponents_ok n roots exponents true left words Q trivial len low high e on =
-      let zeros : replicate (n * n * n) 0 ≡ reduced roots exponents = ap (λ k. replicate k 0) (sym len) ∙ sym (reduced-trivial roots exponents trivial) in
-      reads_bind (read listing_of offset FormWord left) _ Q
-      (token_ok listing_of FormWord left (codes "trivial") words _ e (form_fits (codes "trivial") refl) (λ left1 e1. rw zeros (on left1 e1)))
-  exponents_ok n roots exponents false left words Q trivial len low high e on =
-      reads_bind (read listing_of offset FormWord left) _ Q
-      (token_ok listing_of FormWord left (codes "dense") (map decimal (reduced roots exponents) ++ words) _ e (form_fits (codes "dense") refl)
-      (λ left1 e1. count_ok (n * n * n) (reduced roots exponents) left1 words Q (length-map exponents (λ exponent. exponent % roots) ∙ len) (small-reduced roots exponents low high) e1 on))
-
-  nothing_ok : (left : List Lexeme) (Q : List Lexeme → Type 0) → map text left ≡ [] → Q [] → ReadsTo (skip offset NoToken left) Q
+  nothing_by : (left : List Lexeme) → map text left ≡ [] → (rest : List Lexeme) × (skip offset NoToken left ≡ Ok []) × (map text rest ≡ [])
   unfolding read missing
-  nothing_ok [] Q e on = on
-  nothing_ok (token ∷ left) Q e on = absurd cc
+  nothing_by [] e = ([], refl, refl)
+  nothing_by (token ∷ left) e = absurd cc
+
+  nothing_taken : Takes (λ left. skip offset NoToken left) [] [] (λ rest. [])
+  nothing_taken = record { took = nothing_by }
 
   -- ---- the section of characters
 
-  module _ (k : ℕ) (entry : is_conductor k ≡ true) (Q : (List Block × List Lexeme) → Type 0) where
+  module _ (k : ℕ) (entry : is_conductor k ≡ true) where
     abbrev phi : ℕ
     phi = phi_of k
 
-    -- a word fits at a stage
-    abbrev Fits : Stage → List ℕ → Type 0
-    Fits stage word = (start : ℕ) → refusal (kind_after phi stage) (record { start = start; text = word }) ≡ None
-
-    -- reading goes on from these blocks
-    GoesOn : Stage → List Block → List (List ℕ) → Type 0
-    GoesOn stage blocks words = (left : List Lexeme) → map text left ≡ words → ReadsTo (read_blocks offset phi stage blocks left) Q
+    -- reading goes on from these blocks, and comes to those
+    abbrev Grows : Stage → List Block → List (List ℕ) → List Block → Type 0
+    Grows stage blocks words all = Takes (λ left. read_blocks offset phi stage blocks left) words [] (λ rest. (all, rest))
 
     -- one word
-    part_ok : (stage : Stage) (blocks : List Block) (word : List ℕ) (words : List (List ℕ)) (part : Part) → Fits stage word → part_of phi stage word ≡ part
-        → ((left : List Lexeme) → map text left ≡ words → ReadsTo (cond (is_end part) (Ok (blocks, left)) (read_blocks offset phi (stage_of part) (with_part part blocks) left)) Q)
-        → GoesOn stage blocks (word ∷ words)
-    unfolding GoesOn read_blocks
-    part_ok stage blocks word words part fits said on [] e = absurd cc
-    part_ok stage blocks word words part fits said on (token ∷ left) e =
-        let ends = cons_parts token.text word (map text left) words e in
-        let fit : refusal (kind_after phi stage) token ≡ None = rw (← ends.0) at (fits token.start) in
-        let here : part_of phi stage token.text ≡ part = ap (part_of phi stage) ends.0 ∙ said in
-        rw (fit, here) (on left ends.1)
+    part_taken : (stage : Stage) (blocks all : List Block) (word : List ℕ) (words : List (List ℕ)) (part : Part) → Fits (kind_after phi stage) word → part_of phi stage word ≡ part
+        → Takes (λ left. cond (is_end part) (Ok (blocks, left)) (read_blocks offset phi (stage_of part) (with_part part blocks) left)) words [] (λ rest. (all, rest))
+        → Grows stage blocks (word ∷ words) all
+    part_taken stage blocks all word words part fits said on =
+        takes_same (blocks_step offset phi stage blocks) (takes_then _ (token_taken (part_of phi stage) (kind_after phi stage) word words fits) (rw said on))
 
     -- the values of a row
-    values_ok : (front : List Block) (number : ℕ) (rows : List (List (List ℤ))) (done values : List (List ℤ)) (words : List (List ℕ)) → All (IsValueOf k) values
-        → GoesOn stages.Row (front ++ block number (rows ++ (done ++ values) ∷ []) ∷ []) words
-        → GoesOn stages.Row (front ++ block number (rows ++ done ∷ []) ∷ []) (map value_text values ++ words)
-    unfolding GoesOn
-    values_ok front number rows done [] words are on = rw (append-nil done) at on
-    values_ok front number rows done (v ∷ values) words are on =
-        let is = first_of (IsValueOf k) v values are in
-        part_ok stages.Row (front ++ block number (rows ++ done ∷ []) ∷ []) (value_text v) (map value_text values ++ words) (parts.Value (plain v)) (value_fits k entry v is) (value_said k entry v is)
+    values_taken : (front : List Block) (number : ℕ) (rows : List (List (List ℤ))) (done values : List (List ℤ)) (words : List (List ℕ)) (all : List Block) → All (IsValueOf k) values
+        → Grows stages.Row (front ++ block number (rows ++ (done ++ values) ∷ []) ∷ []) words all
+        → Grows stages.Row (front ++ block number (rows ++ done ∷ []) ∷ []) (map value_text values ++ words) all
+    values_taken front number rows done [] words all are on = rw append-nil at on
+    values_taken front number rows done (v ∷ values) words all are on =
+        let is = All-head (IsValueOf k) v values are in
+        part_taken stages.Row _ all (value_text v) (map value_text values ++ words) (parts.Value (plain v)) (value_fits k entry v is) (value_said k entry v is)
         (rw (with_value_is front number rows done v)
-        (values_ok front number rows (done ++ v ∷ []) values words (rest_of (IsValueOf k) v values are) (rw (append_assoc done (v ∷ []) values) on)))
+        (values_taken front number rows (done ++ v ∷ []) values words all (All-tail (IsValueOf k) v values are) (rw (append_assoc done (v ∷ []) values) on)))
 
-    -- a stage at which a word may stand
-    abbrev IsWordStage : Stage → Type 0
-    IsWordStage stage = stage ≡ stages.Class → ⊥
-
-    word_said : (stage : Stage) → IsWordStage stage → (word : List ℕ) → part_of phi stage word ≡ word_part phi word
-    word_said stages.Conductor is word = refl
-    word_said stages.Class is word = absurd (is refl)
-    word_said stages.Number is word = refl
-    word_said stages.Row is word = refl
-
-    -- a row begins
-    row_ok : (stage : Stage) (blocks : List Block) (words : List (List ℕ)) → IsWordStage stage → Fits stage (codes "row")
-        → GoesOn stages.Row (with_row blocks) words → GoesOn stage blocks (codes "row" ∷ words)
-    unfolding GoesOn
-    row_ok stage blocks words is fits on = part_ok stage blocks (codes "row") words parts.Row fits (word_said stage is (codes "row")) on
-
-    -- the rows of a block
-    rows_ok : (stage : Stage) (front : List Block) (number : ℕ) (done rows : List (List (List ℤ))) (words : List (List ℕ)) → IsWordStage stage → Fits stage (codes "row")
-        → All (λ row. All (IsValueOf k) row) rows
-        → ((later : Stage) → IsWordStage later → GoesOn later (front ++ block number (done ++ rows) ∷ []) words)
-        → GoesOn stage (front ++ block number done ∷ []) (words_in (map row_words rows) ++ words)
+    -- the rows of a block, after its number or after a row
+    rows_taken : (stage : Stage) (front : List Block) (number : ℕ) (done rows : List (List (List ℤ))) (words : List (List ℕ)) (all : List Block)
+        → IsWordStage stage → Fits (kind_after phi stage) (codes "row") → All (λ row. All (IsValueOf k) row) rows
+        → ((later : Stage) → IsWordStage later → Grows later (front ++ block number (done ++ rows) ∷ []) words all)
+        → Grows stage (front ++ block number done ∷ []) (words_in (map row_words rows) ++ words) all
     unfolding refusal
-    rows_ok stage front number done [] words is fits are on = rw (append-nil done) at (on stage is)
-    rows_ok stage front number done (row ∷ rows) words is fits are on =
+    rows_taken stage front number done [] words all is fits are on = rw append-nil at (on stage is)
+    rows_taken stage front number done (row ∷ rows) words all is fits are on =
+        let each = λ (row : List (List ℤ)). All (IsValueOf k) row in
         rw (append_assoc (map value_text row) (words_in (map row_words rows)) words)
-        (row_ok stage (front ++ block number done ∷ []) (map value_text row ++ (words_in (map row_words rows) ++ words)) is fits
+        (part_taken stage _ all (codes "row") _ parts.Row fits (word_said phi stage (codes "row") is)
         (rw (with_row_is front number done)
-        (values_ok front number done [] row (words_in (map row_words rows) ++ words) (first_of (λ row. All (IsValueOf k) row) row rows are)
-        (rows_ok stages.Row front number (done ++ row ∷ []) rows words (λ e. absurd cc) (λ start. refl) (rest_of (λ row. All (IsValueOf k) row) row rows are)
+        (values_taken front number done [] row (words_in (map row_words rows) ++ words) all (All-head each row rows are)
+        (rows_taken stages.Row front number (done ++ row ∷ []) rows words all (λ e. absurd cc) (λ start. refl) (All-tail each row rows are)
         (rw (append_assoc done (row ∷ []) rows) on)))))
 
     -- the blocks up to the end
-    blocks_ok : (stage : Stage) (front blocks : List Block) → IsWordStage stage → All HasSmallNumber blocks → All (HasValues k) blocks
-        → ((rest : List Lexeme) → map text rest ≡ [] → Q (front ++ blocks, rest))
-        → GoesOn stage front (words_in (flat_map block_lines blocks) ++ codes "end" ∷ [])
-    unfolding GoesOn refusal
-    blocks_ok stage front [] is small are on =
-        part_ok stage front (codes "end") [] parts.End (λ start. end_fits phi start stage is) (word_said stage is (codes "end")) (rw (append-nil front) at on)
-    blocks_ok stage front (b ∷ blocks) is small are on =
+    blocks_taken : (stage : Stage) (front blocks : List Block) → IsWordStage stage → All HasSmallNumber blocks → All (HasValues k) blocks
+        → Grows stage front (words_in (flat_map block_lines blocks) ++ codes "end" ∷ []) (front ++ blocks)
+    unfolding refusal
+    blocks_taken stage front [] is small are =
+        part_taken stage front _ (codes "end") [] parts.End (λ start. end_fits phi start stage is) (word_said phi stage (codes "end") is)
+        (rw (append-nil front) (takes_none [] (λ rest. (front, rest))))
+    blocks_taken stage front (b ∷ blocks) is small are =
         let n = b.representative in
-        let narrow = first_of HasSmallNumber b blocks small in
+        let narrow = All-head HasSmallNumber b blocks small in
         let number : parts.Number (value (decimal n)) ≡ parts.Number n = ap parts.Number (decimal_spells n (omega (arith, narrow))).value_is in
         let rest = words_in (flat_map block_lines blocks) ++ codes "end" ∷ [] in
         rw (words_in-append (map row_words b.rows) (flat_map block_lines blocks), append_assoc (words_in (map row_words b.rows)) (words_in (flat_map block_lines blocks)) (codes "end" ∷ []))
-        (part_ok stage front (codes "class") (decimal n ∷ (words_in (map row_words b.rows) ++ rest)) parts.Class (λ start. class_fits phi start stage is) (word_said stage is (codes "class"))
-        (part_ok stages.Class front (decimal n) (words_in (map row_words b.rows) ++ rest) (parts.Number n) (λ start. natural_fits n start narrow) number
-        (rows_ok stages.Number front n [] b.rows rest (λ e. absurd cc) (λ start. refl) (first_of (HasValues k) b blocks are)
-        (λ later word. blocks_ok later (front ++ b ∷ []) blocks word (rest_of HasSmallNumber b blocks small) (rest_of (HasValues k) b blocks are)
-        (rw (append_assoc front (b ∷ []) blocks) on)))))
+        (part_taken stage front _ (codes "class") _ parts.Class (λ start. class_fits phi start stage is) (word_said phi stage (codes "class") is)
+        (part_taken stages.Class front _ (decimal n) _ (parts.Number n) (natural_fits n narrow) number
+        (rows_taken stages.Number front n [] b.rows rest _ (λ e. absurd cc) (λ start. refl) (All-head (HasValues k) b blocks are)
+        (λ later word. rw (append_assoc front (b ∷ []) blocks) at (blocks_taken later (front ++ b ∷ []) blocks word (All-tail HasSmallNumber b blocks small) (All-tail (HasValues k) b blocks are))))))
 
-  characters_ok : (characters : Option Given) (left : List Lexeme) (Q : Option Given → Type 0) → IfSome characters IsGivenInRange → IfSome characters (λ given. All HasSmallNumber given.blocks)
-      → map text left ≡ last_words characters → Q characters → ReadsTo (read_characters offset (form_of characters) left) Q
-  unfolding read_characters read_end read_given GoesOn last_words characters_lines refusal
-  characters_ok None left Q in_range small e on =
-      reads_bind (read_end offset left) (λ rest. Ok None) Q
-      (reads_bind (skip offset EndWord left) _ _ (skip_ok EndWord left (codes "end") [] _ e (λ start. refl) (λ rest more. nothing_ok rest (λ rest. Q None) more on)))
-  characters_ok (Some given) left Q in_range small e on =
+  characters_taken : (characters : Option Given) → IfSome characters IsGivenInRange → IfSome characters (λ given. All HasSmallNumber given.blocks)
+      → Takes (λ left. read_characters offset (form_of characters) left) (last_words characters) [] (λ rest. characters)
+  unfolding read_characters read_end read_given last_words characters_lines refusal
+  characters_taken None in_range small =
+      takes_then _ (takes_then _ (skip_taken EndWord (codes "end") [] (λ start. refl)) nothing_taken) (takes_none [] (λ rest. None))
+  characters_taken (Some given) in_range small =
       let k = given.conductor in
-      reads_bind (read_given offset left) _ Q
-      (reads_bind (skip offset (Word Characters) left) _ _ (word_ok Characters left _ _ e (λ left1 e1.
-      reads_bind (read_number offset ConductorNumber left1) _ _ (number_ok ConductorNumber k left1 _ _ (omega (arith, small_entry k in_range.conductor)) e1 (λ start. number_fits ConductorNumber k start (omega (arith, small_entry k in_range.conductor)) (rw in_range.conductor refl)) (λ left2 e2.
-      reads_bind (read_blocks offset (phi_of k) stages.Conductor [] left2) _ _ (blocks_ok k in_range.conductor _ stages.Conductor [] given.blocks (λ e. absurd cc) small in_range.values
-      (λ rest none. reads_bind (skip offset NoToken rest) _ Q (nothing_ok rest _ none on)) left2 e2))))))
+      let narrow : k < 2 ^ 32 = omega (arith, small_entry k in_range.conductor) in
+      takes_then _ (takes_then _ (word_taken Characters _)
+      (takes_then _ (number_taken ConductorNumber k _ narrow (λ start. rw (number_of-decimal k narrow, in_range.conductor) refl))
+      (takes_then _ (blocks_taken k in_range.conductor stages.Conductor [] given.blocks (λ e. absurd cc) small in_range.values) (takes_none [] (λ rest. (given, rest))))))
+      (takes_then _ nothing_taken (takes_none [] (λ rest. Some given)))
 
   -- the words of a document are read as the document
-  document_ok : (document : Document) (all : List Lexeme) → IsFine document
-      → map text all ≡ document_words document (last_words document.characters) → ReadsTo (read_document offset (form_of document.characters) all) (λ read. read ≡ reduced_document document)
+  document_taken : (document : Document) → IsFine document
+      → Takes (λ left. read_document offset (form_of document.characters) left) (document_words document (last_words document.characters)) [] (λ rest. reduced_document document)
   unfolding read_document document_words
-  document_ok document all fine e =
-      let n = document.order in
+  document_taken document fine =
       let in_range = fine.in_range in
-      let form = form_of document.characters in
-      let Q : Document → Type 0 = λ read. read ≡ reduced_document document in
-      reads_bind (read_order offset all) _ Q (order_ok n all _ _ in_range.order.0 in_range.order.1 e (λ left1 e1.
-      reads_bind (read_numbers offset (n * n) left1) _ Q (count_ok (n * n) document.table left1 _ _ in_range.table fine.table e1 (λ left2 e2.
-      reads_bind (read_roots offset left2) _ Q (roots_ok document.roots left2 _ _ in_range.roots.0 in_range.roots.1 e2 (λ left3 e3.
-      reads_bind (read_exponents offset n left3) _ Q (exponents_ok n document.roots document.exponents (are_trivial document.roots document.exponents) left3 (last_words document.characters) _ refl in_range.exponents in_range.roots.0 in_range.roots.1 e3 (λ left4 e4.
-      reads_bind (read_characters offset form left4) _ Q (characters_ok document.characters left4 _ in_range.characters fine.classes e4 refl)))))))))
+      let table = λ (words : List (List ℕ)). rw in_range.table at (numbers_taken document.table words fine.table) in
+      takes_then _ (order_taken document.order _ in_range.order)
+      (takes_then _ (table _)
+      (takes_then _ (roots_taken document.roots _ in_range.roots)
+      (takes_then _ (exponents_taken document.order document.roots document.exponents _ _ refl in_range.exponents in_range.roots)
+      (takes_then _ (characters_taken document.characters in_range.characters fine.classes) (takes_none [] (λ rest. reduced_document document))))))
 
 -- what is known of a canonical text: no token is refused, and its contents are the document's
 pub record IsReadBack (document : Document) : Type 0 where
@@ -464,10 +397,9 @@ read_back document in_range narrow =
     let offset = length bytes in
     let form = form_of document.characters in
     let fine : IsFine document = record { in_range = in_range; table = recursion_from_All (λ number. number < 2 ^ 32) document.table narrow.table; classes = narrow.classes } in
-    let found = reads_ok offset (read_document offset form all) (λ read. read ≡ reduced_document document)
-    (document_ok offset document all fine (words_of-document document fine)) in
-    let known : Reads form offset all (Ok found.0) (IsWhole offset all form) = rw found.1 at (reads_document offset all form) in
-    record { whole = known.lawful; contents = sym known.contents ∙ found.2 }
+    let found = (document_taken offset document fine).took all (words_of-document document fine) in
+    let known : Reads form offset all (Ok (reduced_document document)) (IsWhole offset all form) = rw found.1 at (reads_document offset all form) in
+    record { whole = known.lawful; contents = sym known.contents }
 
 none_refused : {o : Option DocRefusal} {r : DocRefusal} → o ≡ None → o ≡ Some r → ⊥
 none_refused e f = cc

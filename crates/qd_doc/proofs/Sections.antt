@@ -1,8 +1,8 @@
 -- Reading what follows the exponents, and so a whole document, finds the first refusal, and the contents by
 -- their places.
-use Rattle.qd_doc.proofs.Names.{Bare, Block, Characters, ClassOrEnd, ConductorNumber, Document, End, EndWord, Form, Given, IfSome, Lexeme, List, NoToken, None, Number, Ok, Option, Syntax, What, WithCharacters, Word, [], add-one, after_characters, ap, arith, blocks_of, characters_of, cond, document_of, drop, drop-take, ending, expected, exponents_end, first_refusal, fold, fold-append, front_runs, get_or, get_or-drop, inl, inr, is_conductor, is_end, kind_after, length, length-drop, length-take-le, map, missing, number_at, part_of, phi_of, read, read_blocks, read_characters, read_document, read_end, read_exponents, read_given, read_number, read_numbers, read_order, read_roots, refl, runs_after, skip, stage_of, suc, sym, take, take_more, text_at, true, value, what_after, with_part, zero, ℕ, ◌*◌, ◌++◌, ◌+◌, ◌-◌, ◌<◌, ◌∙◌, ◌∷◌, ◌≡◌, ◌≤◌, ◌⊎◌}
+use Rattle.qd_doc.proofs.Names.{Bare, Block, Characters, ClassOrEnd, ConductorNumber, Document, EndWord, Form, Given, IfSome, Lexeme, List, NoToken, None, Ok, Option, What, WithCharacters, Word, [], add-one, after_characters, ap, arith, blocks_of, characters_of, cond, document_of, drop, drop-take, ending, expected, exponents_end, first_refusal, fold, fold-append, front_runs, get_or, get_or-drop, inl, inr, is_conductor, is_end, kind_after, length, length-drop, length-take-le, map, missing, number_at, part_of, phi_of, read, read_blocks, read_characters, read_document, read_end, read_exponents, read_given, read_number, read_numbers, read_order, read_roots, refl, runs_after, skip, stage_of, suc, sym, take, take_more, text_at, tokens, true, value, what_after, zero, ℕ, ◌*◌, ◌++◌, ◌+◌, ◌-◌, ◌<◌, ◌∙◌, ◌∷◌, ◌≡◌, ◌≤◌}
 use Rattle.qd_doc.proofs.Loops.{missing_end, blocks_step}
-use Rattle.qd_doc.proofs.Parts.{State, Between, stage_in, blocks_in, whole, Ends as Section_ends, Goes, move}
+use Rattle.qd_doc.proofs.Parts.{State, Between, stage_in, blocks_in, whole, kind_next, move}
 use Rattle.qd_doc.proofs.Ranges.{conductor_in_table, length-numbers_at}
 use Rattle.qd_doc.proofs.Places.{no_lexeme, Reads, Reached, At, reads_bind, reached_fits, drop_here, step, skip_step, end_step, at_start, later, order_step, numbers_step, roots_step, exponents_step}
 
@@ -30,7 +30,7 @@ module _ (offset : ℕ) (all : List Lexeme) where
   bare_step place Q ends on =
       reads_bind Bare offset all (read_end offset (drop place all)) (λ rest. Ok None) Q
       (reads_bind Bare offset all (skip offset EndWord (drop place all)) _ (λ rest. Q None)
-      (skip_step Bare offset all EndWord place (place + 1) (Syntax offset End) _ refl refl ends.reached (later Bare offset all place place 0 ends (omega arith) ends.reached.within) (λ r1.
+      (skip_step Bare offset all EndWord place (place + 1) _ refl refl ends.reached (later Bare offset all place place 0 ends (omega arith) ends.reached.within) (λ r1.
       end_step Bare offset all (place + 1) (λ rest. Q None) r1 (later Bare offset all place (place + 1) 1 ends refl r1.within) on)))
 
   -- ---- the section of characters
@@ -85,67 +85,48 @@ module _ (offset : ℕ) (all : List Lexeme) where
         ∙ fold-append (λ kind (token : Lexeme). what_after phi kind token.text) ClassOrEnd (take j rest) (get_or all other no_lexeme ∷ [])
 
     -- what reading the blocks gives, and that nothing may stand after it
-    Found : State → ℕ → ((List Block × List Lexeme) → Type 0) → Type 0
+    abbrev Found : State → ℕ → ((List Block × List Lexeme) → Type 0) → Type 0
     Found s at Q = (end : ℕ) → Reached WithCharacters offset all end → (end ≤ length all → expected WithCharacters (take end all) ≡ NoToken) → Q (whole phi s (texts (drop at all)), drop end all)
 
-    texts_here : (at : ℕ) → at < length all → texts (drop at all) ≡ text_at all at ∷ texts (drop (at + 1) all)
-    texts_here at within = ap texts (here at within)
-
-    -- after a token
-    after : (at j : ℕ) (s : State) (Q : (List Block × List Lexeme) → Type 0) → at ≡ place + suc (suc j) → Reached WithCharacters offset all (at + 1)
-        → folded j ≡ kind_after phi (stage_in s) → Found s at Q
-        → ((next : State) → folded (suc j) ≡ kind_after phi (stage_in next) → Found next (at + 1) Q → Reads WithCharacters offset all (read_blocks offset phi (stage_in next) (blocks_in next) (drop (at + 1) all)) Q)
-        → Section_ends phi s (text_at all at) ⊎ Goes phi s (text_at all at)
-        → Reads WithCharacters offset all (cond (is_end (part_of phi (stage_in s) (text_at all at))) (Ok (blocks_in s, drop (at + 1) all))
-        (read_blocks offset phi (stage_of (part_of phi (stage_in s) (text_at all at))) (with_part (part_of phi (stage_in s) (text_at all at)) (blocks_in s)) (drop (at + 1) all))) Q
-    unfolding Found
-    after at j s Q e reached kind found rest (inl ends_here) =
-        let within : at < length all = omega (arith, reached.within) in
-        let blocks : whole phi s (texts (drop at all)) ≡ blocks_in s = ap (whole phi s) (texts_here at within) ∙ ends_here.all (texts (drop (at + 1) all)) in
-        let nothing : at + 1 ≤ length all → expected WithCharacters (take (at + 1) all) ≡ NoToken =
-        (λ inside. stands (at + 1) (suc j) (omega (arith, e)) inside ∙ folded-more at j e within ∙ ap (λ k. what_after phi k (text_at all at)) kind ∙ ends_here.nothing) in
-        rw ends_here.end (rw blocks at (found (at + 1) reached nothing))
-    after at j s Q e reached kind found rest (inr goes) =
-        let within : at < length all = omega (arith, reached.within) in
-        let next_kind : folded (suc j) ≡ kind_after phi (stage_in goes.next) = folded-more at j e within ∙ ap (λ k. what_after phi k (text_at all at)) kind ∙ goes.kind in
-        let same : whole phi s (texts (drop at all)) ≡ whole phi goes.next (texts (drop (at + 1) all)) = ap (whole phi s) (texts_here at within) ∙ goes.same (texts (drop (at + 1) all)) in
-        rw (goes.said, goes.no_end, goes.stage, goes.blocks) (rest goes.next next_kind (λ end reached_end nothing. rw same at (found end reached_end nothing)))
-
-    walk : (fuel at j : ℕ) (s : State) (Q : (List Block × List Lexeme) → Type 0) → length all ≤ at + fuel → at ≡ place + suc (suc j) → Reached WithCharacters offset all at
+    walk : (fuel at j : ℕ) (s : State) (Q : (List Block × List Lexeme) → Type 0) → length all < at + fuel → at ≡ place + suc (suc j) → Reached WithCharacters offset all at
         → folded j ≡ kind_after phi (stage_in s) → Found s at Q
         → Reads WithCharacters offset all (read_blocks offset phi (stage_in s) (blocks_in s) (drop at all)) Q
-    walk zero at j s Q fuel e reached kind found = one_more
-      where
-        one_more : Reads WithCharacters offset all (read_blocks offset phi (stage_in s) (blocks_in s) (drop at all)) Q
-        one_more =
-            let missing_here = missing_end offset phi (stage_in s) in
-            rw (blocks_step offset phi (stage_in s) (blocks_in s) (drop at all))
-            (reads_bind WithCharacters offset all (read (part_of phi (stage_in s)) offset (kind_after phi (stage_in s)) (drop at all)) _ Q
-            (step WithCharacters offset all (part_of phi (stage_in s)) (kind_after phi (stage_in s)) at (at + 1) missing_here.0 _ missing_here.1 refl reached (stands at j e reached.within ∙ kind)
-            (λ reached_next. absurd (omega (arith, reached_next.within)))))
+    walk zero at j s Q enough e reached kind found = absurd (omega (arith, reached.within))
     walk (suc fuel) at j s Q enough e reached kind found =
-        let missing_here = missing_end offset phi (stage_in s) in
-        rw (blocks_step offset phi (stage_in s) (blocks_in s) (drop at all))
-        (reads_bind WithCharacters offset all (read (part_of phi (stage_in s)) offset (kind_after phi (stage_in s)) (drop at all)) _ Q
-        (step WithCharacters offset all (part_of phi (stage_in s)) (kind_after phi (stage_in s)) at (at + 1) missing_here.0 _ missing_here.1 refl reached (stands at j e reached.within ∙ kind)
-        (λ reached_next.
-        after at j s Q e reached_next kind found
-        (λ next next_kind next_found. walk fuel (at + 1) (suc j) next Q (omega arith) (omega (arith, e)) reached_next next_kind next_found)
-        (move phi (get_or all at no_lexeme).start s (text_at all at) (reached_fits WithCharacters offset all at (kind_after phi (stage_in s)) reached_next (stands at j e reached.within ∙ kind))))))
+        let stage = stage_in s in
+        let text = text_at all at in
+        let part = part_of phi stage text in
+        let fits : expected WithCharacters (take at all) ≡ kind_after phi stage = stands at j e reached.within ∙ kind in
+        rw (blocks_step offset phi stage (blocks_in s) (drop at all))
+        (reads_bind WithCharacters offset all (read (part_of phi stage) offset (kind_after phi stage) (drop at all)) _ Q
+        (step WithCharacters offset all (part_of phi stage) (kind_after phi stage) at (at + 1) _ (missing_end offset phi stage) refl reached fits (λ now.
+        let within : at < length all = omega (arith, now.within) in
+        let words : texts (drop at all) ≡ text ∷ texts (drop (at + 1) all) = ap texts (here at within) in
+        let next : folded (suc j) ≡ cond (is_end part) NoToken (kind_after phi (stage_of part)) =
+        folded-more at j e within ∙ ap (λ k. what_after phi k text) kind ∙ kind_next phi stage text in
+        elim (move phi (get_or all at no_lexeme).start text s (reached_fits WithCharacters offset all at (kind_after phi stage) now fits)) [
+          | inl ends ↦
+              rw ends.end (rw (words, ends.all (texts (drop (at + 1) all))) at
+              (found (at + 1) now (λ inside. stands (at + 1) (suc j) (omega (arith, e)) inside ∙ rw ends.end at next)))
+          | inr goes ↦
+              rw (goes.no_end, goes.stage, goes.blocks)
+              (walk fuel (at + 1) (suc j) goes.next Q (omega arith) (omega (arith, e)) now (rw (goes.no_end, goes.stage) at next)
+              (λ end reached_end nothing. rw (words, goes.same (texts (drop (at + 1) all))) at (found end reached_end nothing)))
+        ])))
 
     characters_step : (Q : (Given × List Lexeme) → Type 0)
         → ((end : ℕ) → Reached WithCharacters offset all end → (end ≤ length all → expected WithCharacters (take end all) ≡ NoToken)
         → is_conductor (number_at all (place + 1)) ≡ true
         → Q (record { conductor = number_at all (place + 1); blocks = blocks_of phi (texts (drop (place + 2) all)) }, drop end all))
         → Reads WithCharacters offset all (read_given offset (drop place all)) Q
-    unfolding read_given Found folded phi missing
+    unfolding read_given whole folded phi missing
     characters_step Q on =
         reads_bind WithCharacters offset all (skip offset (Word Characters) (drop place all)) _ Q
-        (skip_step WithCharacters offset all (Word Characters) place (place + 1) (Syntax offset Characters) _ refl refl ends.reached stands-word (λ r1.
+        (skip_step WithCharacters offset all (Word Characters) place (place + 1) _ refl refl ends.reached stands-word (λ r1.
         reads_bind WithCharacters offset all (read_number offset ConductorNumber (drop (place + 1) all)) _ Q
-        (step WithCharacters offset all value ConductorNumber (place + 1) (place + 2) (Syntax offset Number) _ refl (omega arith) r1 (stands-conductor r1.within) (λ r2.
+        (step WithCharacters offset all value ConductorNumber (place + 1) (place + 2) _ refl (omega arith) r1 (stands-conductor r1.within) (λ r2.
         reads_bind WithCharacters offset all (read_blocks offset phi (stage_in (Between [])) [] (drop (place + 2) all)) _ Q
-        (walk (length all) (place + 2) 0 (Between []) _ (omega arith) (omega arith) r2 refl (λ end reached nothing.
+        (walk (suc (length all)) (place + 2) 0 (Between []) _ (omega arith) (omega arith) r2 refl (λ end reached nothing.
         let two : place + 2 ≡ place + 1 + 1 = omega arith in
         on end reached nothing (conductor_in_table (get_or all (place + 1) no_lexeme)
         (reached_fits WithCharacters offset all (place + 1) ConductorNumber (rw two at r2) (stands-conductor r1.within)))))))))
