@@ -59,7 +59,7 @@ pub use Rattle.qd_doc.specs.Kinds.{ClassOrEnd, ConductorNumber, ElementBelow, En
 unfoldable pub use Rattle.qd_doc.specs.Kinds.{missing, refusal}
 pub use Rattle.qd_doc.specs.Reading.{Fails, Gives, IsOffset, listing_of, read_listing, read_number, skip, ◌>>=◌}
 unfoldable pub use Rattle.qd_doc.specs.Reading.{read, read_blocks, read_characters, read_document, read_end, read_entries, read_entry, read_exponents, read_given, read_numbers, read_order, read_roots, read_sparse}
-pub use Rattle.qd_doc.specs.Section.{HasPlace, is_end, kind_after, part_of, row_or_end, stage_of, unless, value_or_row, with_part, word_part}
+pub use Rattle.qd_doc.specs.Section.{HasPlace, is_end, kind_after, part_of, stage_of, unless, with_part, word_part}
 pub use Rattle.qd_doc.specs.StoredBlocks.{AreBlocks, head_at, rows_end, stored_blocks}
 unfoldable pub use Rattle.qd_doc.specs.StoredBlocks.{rows_of}
 pub use Rattle.qd_doc.specs.StoredValues.{AddsTerm, AreValues, IsTermOf, coefficient_of, power_of, value_of_terms}

@@ -1,5 +1,5 @@
 -- What the tokens of the section of characters say, one after the other.
-use Rattle.qd_doc.proofs.Names.{Block, Bool, ClassOrEnd, End, Err, HasPlace, Lexeme, List, Natural, NoToken, None, NumberFault, Ok, Part, Result, RowClassOrEnd, Some, Stage, Syntax, ValueRowClassOrEnd, [], ap, append-nil, append_assoc, arith, begins_value, block, block_of, blocks_of, codes, coefficients, cond, false, inl, inr, is_digit, is_end, is_row_class_or_end, is_word, kind_after, length, length-append, list_all, map, nat_eq, ne_eqb, not, number_of, number_refusal, part_of, pieces, plain, refl, refusal, row_or_end, rows, stage_of, sym, take_while-cons, text, true, true≢false, unless, value, value_or_row, what_after, with_part, word_part, words_before, ℕ, ℤ, ◌&&◌, ◌++◌, ◌==◌, ◌||◌, ◌∙◌, ◌∷◌, ◌≡◌, ◌⊎◌}
+use Rattle.qd_doc.proofs.Names.{Block, Bool, End, Err, HasPlace, Lexeme, List, Natural, NoToken, None, NumberFault, Part, Result, Some, Stage, Syntax, ValueRowClassOrEnd, [], and_parts, ap, append-nil, append_assoc, arith, begins_value, block, block_of, blocks_of, codes, coefficients, cond, false, inl, inr, is_digit, is_end, is_word, kind_after, length, length-append, list_all, map, nat_eq, ne_eqb, not, number_of, number_refusal, part_of, pieces, plain, refl, refusal, rows, stage_of, sym, take_while-cons, text, true, true≢false, value, what_after, with_part, word_part, words_before, ℕ, ℤ, ◌++◌, ◌==◌, ◌||◌, ◌∙◌, ◌∷◌, ◌≡◌, ◌⊎◌}
 use Rattle.qd_text.specs.declared.natural.NumberFault.TheVariants as faults
 use Rattle.qd_doc.specs.declared.part.Stage.TheVariants as stages
 use Rattle.qd_doc.specs.declared.part.Part.TheVariants as parts
@@ -8,31 +8,20 @@ use Rattle.qd_doc.proofs.LastRows.{last_rows_are, with_row_is, with_value_is}
 
 -- ---- words
 
--- a byte that begins a value is none of the letters
-apart : (byte k : ℕ) → (is_digit byte || byte == 45) ≡ true → (is_digit k || k == 45) ≡ false → nat_eq byte k ≡ false
-apart byte k begins letter =
-    ne_eqb byte k (λ e. let f : (is_digit k || k == 45) ≡ true = rw e at begins in absurd (let g : true ≡ false = sym f ∙ letter in cc))
-
--- a token that begins a value is no word that begins with a letter
-pub value_no_word : (text : List ℕ) (k : ℕ) (ks : List ℕ) → begins_value text ≡ true → (is_digit k || k == 45) ≡ false → is_word text (k ∷ ks) ≡ false
-value_no_word [] k ks begins letter = refl
-value_no_word (byte ∷ text) k ks begins letter =
-    let e : nat_eq byte k ≡ false = apart byte k begins letter in
+no_word : (p : ℕ → Bool) (byte k : ℕ) (text ks : List ℕ) → p byte ≡ true → p k ≡ false → is_word (byte ∷ text) (k ∷ ks) ≡ false
+no_word p byte k text ks begins letter =
+    let e : nat_eq byte k ≡ false = ne_eqb byte k (λ same. true≢false (sym begins ∙ ap p same ∙ letter)) in
     rw e refl
 
-and_left : (a b : Bool) → (a && b) ≡ true → a ≡ true
-and_left true b e = refl
-and_left false b e = absurd cc
-
-or_left : (a b : Bool) → a ≡ true → (a || b) ≡ true
-or_left true b e = refl
-or_left false b e = absurd cc
+-- a token that begins a value is no word that begins with a letter
+value_no_word : (text : List ℕ) (k : ℕ) (ks : List ℕ) → begins_value text ≡ true → (is_digit k || k == 45) ≡ false → is_word text (k ∷ ks) ≡ false
+value_no_word [] k ks begins letter = refl
+value_no_word (byte ∷ text) k ks begins letter = no_word (λ b. is_digit b || b == 45) byte k text ks begins letter
 
 -- a number is no word that begins with a letter
-digits_no_word : (text : List ℕ) (k : ℕ) (ks : List ℕ) → list_all is_digit text ≡ true → (is_digit k || k == 45) ≡ false → is_word text (k ∷ ks) ≡ false
+digits_no_word : (text : List ℕ) (k : ℕ) (ks : List ℕ) → list_all is_digit text ≡ true → is_digit k ≡ false → is_word text (k ∷ ks) ≡ false
 digits_no_word [] k ks digits letter = refl
-digits_no_word (byte ∷ text) k ks digits letter =
-    value_no_word (byte ∷ text) k ks (or_left (is_digit byte) (byte == 45) (and_left (is_digit byte) (list_all is_digit text) digits)) letter
+digits_no_word (byte ∷ text) k ks digits letter = no_word is_digit byte k text ks (and_parts (is_digit byte) (list_all is_digit text) digits).0 letter
 
 digits_by : (start : ℕ) (b : Bool) (rest : Result ℕ NumberFault) → number_refusal Natural start (cond (not b) (Err faults.NotNumber) rest) ≡ None → b ≡ true
 digits_by start true rest e = refl
@@ -98,29 +87,33 @@ whole phi (InBlock front number rows) words = front ++ block number (rows ++ row
 whole phi (InRow front number rows values) words = front ++ block number (rows ++ (values ++ values_of phi words) ∷ rows_of phi words) ∷ blocks_of phi words
 
 -- what may stand after a token, by what it says
-word_next : (phi : ℕ) (c e r : Bool) (v : List ℤ) → cond c Natural (cond e NoToken (ValueRowClassOrEnd phi))
-    ≡ (let part = cond c parts.Class (cond e parts.End (cond r parts.Row (parts.Value (plain v)))) in cond (is_end part) NoToken (kind_after phi (stage_of part)))
-word_next phi true e r v = refl
-word_next phi false true r v = refl
-word_next phi false false true v = refl
-word_next phi false false false v = refl
+word_next : (phi : ℕ) (c e : Bool) → cond c Natural (cond e NoToken (ValueRowClassOrEnd phi))
+    ≡ (let part = cond c parts.Class (cond e parts.End parts.Row) in cond (is_end part) NoToken (kind_after phi (stage_of part)))
+word_next phi true e = refl
+word_next phi false true = refl
+word_next phi false false = refl
 
 pub kind_next : (phi : ℕ) (stage : Stage) (text : List ℕ)
     → what_after phi (kind_after phi stage) text ≡ cond (is_end (part_of phi stage text)) NoToken (kind_after phi (stage_of (part_of phi stage text)))
-kind_next phi stages.Conductor text = word_next phi _ _ _ _
+kind_next phi stages.Conductor text = word_next phi _ _
 kind_next phi stages.Class text = refl
-kind_next phi stages.Number text = word_next phi _ _ _ _
-kind_next phi stages.Row text = word_next phi _ _ _ _
+kind_next phi stages.Number text = word_next phi _ _
+kind_next phi stages.Row text = by (begins_value text) refl
+  where
+    by : (b : Bool) → begins_value text ≡ b → what_after phi (ValueRowClassOrEnd phi) text
+        ≡ cond (is_end (part_of phi stages.Row text)) NoToken (kind_after phi (stage_of (part_of phi stages.Row text)))
+    by true begins = rw (begins, value_no_word text 99 (codes "lass") begins refl, value_no_word text 101 (codes "nd") begins refl) refl
+    by false begins = rw begins (word_next phi _ _)
 
 -- a stage at which a word may stand
 abbrev pub IsWordStage : Stage → Type 0
 IsWordStage stage = stage ≡ stages.Class → ⊥
 
-pub word_said : (phi : ℕ) (stage : Stage) (text : List ℕ) → IsWordStage stage → part_of phi stage text ≡ word_part phi text
-word_said phi stages.Conductor text is = refl
-word_said phi stages.Class text is = absurd (is refl)
-word_said phi stages.Number text is = refl
-word_said phi stages.Row text is = refl
+pub word_said : (phi : ℕ) (stage : Stage) (text : List ℕ) → IsWordStage stage → begins_value text ≡ false → part_of phi stage text ≡ word_part text
+word_said phi stages.Conductor text is begins = refl
+word_said phi stages.Class text is begins = absurd (is refl)
+word_said phi stages.Number text is begins = refl
+word_said phi stages.Row text is begins = rw begins refl
 
 module _ (phi : ℕ) (s : State) (text : List ℕ) (part : Part) where
   -- a token that says this ends the section
@@ -156,43 +149,6 @@ module _ (phi start : ℕ) where
   end_fits stages.Class other = absurd (other refl)
   end_fits stages.Number other = refl
   end_fits stages.Row other = refl
-
-  pub said_class : (stage : Stage) (text : List ℕ) → IsWordStage stage → is_word text (codes "class") ≡ true
-      → Ok parts.Class ≡ unless (refusal (kind_after phi stage) (token_of text)) (word_part phi text)
-  said_class stage text other is =
-      let e : text ≡ codes "class" = same_word text (codes "class") is in
-      rw (e, class_fits stage other) refl
-
-  pub said_end : (stage : Stage) (text : List ℕ) → IsWordStage stage → is_word text (codes "end") ≡ true
-      → Ok parts.End ≡ unless (refusal (kind_after phi stage) (token_of text)) (word_part phi text)
-  said_end stage text other is =
-      let e : text ≡ codes "end" = same_word text (codes "end") is in
-      rw (e, end_fits stage other) refl
-
-  module _ (text : List ℕ) (no_class : is_word text (codes "class") ≡ false) (no_end : is_word text (codes "end") ≡ false) where
-    pub said_neither : Err (Syntax start End) ≡ unless (refusal ClassOrEnd (token_of text)) (word_part phi text)
-    unfolding refusal
-    said_neither = rw (no_class, no_end) refl
-
-    row_by : (b : Bool) → is_word text (codes "row") ≡ b → row_or_end start text ≡ unless (refusal RowClassOrEnd (token_of text)) (word_part phi text)
-    unfolding refusal
-    row_by true row = rw (no_class, no_end, row) refl
-    row_by false row = rw (no_class, no_end, row) refl
-
-    pub said_row : row_or_end start text ≡ unless (refusal RowClassOrEnd (token_of text)) (word_part phi text)
-    said_row = row_by (is_word text (codes "row")) refl
-
-    value_by : (b : Bool) → begins_value text ≡ b → value_or_row phi (token_of text) ≡ unless (refusal (ValueRowClassOrEnd phi) (token_of text)) (word_part phi text)
-    unfolding refusal
-    value_by true begins =
-        let no_row : is_word text (codes "row") ≡ false = value_no_word text 114 (codes "ow") begins refl in
-        rw (begins, no_class, no_end, no_row) refl
-    value_by false begins =
-        let row : row_or_end start text ≡ unless (cond (is_row_class_or_end text) None (Some (Syntax start End))) (word_part phi text) = said_row in
-        rw begins row
-
-    pub said_value : value_or_row phi (token_of text) ≡ unless (refusal (ValueRowClassOrEnd phi) (token_of text)) (word_part phi text)
-    said_value = value_by (begins_value text) refl
 
 -- ---- one token
 
@@ -270,29 +226,34 @@ module _ (phi : ℕ) where
   Moves s text = Ends phi s text (part_of phi (stage_in s) text) ⊎ Goes phi s text (part_of phi (stage_in s) text)
 
   module _ (start : ℕ) (text : List ℕ) where
-    word_moves : (s : State) (c e r : Bool) → IsWordStage (stage_in s) → is_word text (codes "class") ≡ c → is_word text (codes "end") ≡ e → is_word text (codes "row") ≡ r
+    word_moves : (s : State) (c e r b : Bool) → IsWordStage (stage_in s) → is_word text (codes "class") ≡ c → is_word text (codes "end") ≡ e → is_word text (codes "row") ≡ r → begins_value text ≡ b
         → refusal (kind_after phi (stage_in s)) (record { start = start; text = text }) ≡ None → Moves s text
     unfolding refusal whole blocks_of pieces
-    word_moves s true e r other is_class is_end is_row fits = rw (word_said phi (stage_in s) text other, same_word text (codes "class") is_class) (inr (class_goes s other))
-    word_moves s false true r other is_class is_end is_row fits = rw (word_said phi (stage_in s) text other, same_word text (codes "end") is_end) (inl (end_ends s other))
-    word_moves (Between front) false false r other is_class is_end is_row fits = absurd (let no : Some (Syntax start End) ≡ None = rw (is_class, is_end) at fits in cc)
-    word_moves (Named front) false false r other is_class is_end is_row fits = absurd (other refl)
-    word_moves (InBlock front number rows) false false true other is_class is_end is_row fits =
-        rw (same_word text (codes "row") is_row) (inr (row_goes (InBlock front number rows) front number rows refl (λ words. rw (inner-cons (codes "row") words, words_before-cons (codes "end") (codes "row") words) refl)))
-    word_moves (InBlock front number rows) false false false other is_class is_end is_row fits = absurd (let no : Some (Syntax start End) ≡ None = rw (is_class, is_end, is_row) at fits in cc)
-    word_moves (InRow front number rows values) false false true other is_class is_end is_row fits =
+    word_moves s true e r b other is_class is_end is_row begins fits =
+        rw (same_word text (codes "class") is_class, word_said phi (stage_in s) (codes "class") other refl) (inr (class_goes s other))
+    word_moves s false true r b other is_class is_end is_row begins fits =
+        rw (same_word text (codes "end") is_end, word_said phi (stage_in s) (codes "end") other refl) (inl (end_ends s other))
+    word_moves (Between front) false false r b other is_class is_end is_row begins fits = absurd (let no : Some (Syntax start End) ≡ None = rw (is_class, is_end) at fits in cc)
+    word_moves (Named front) false false r b other is_class is_end is_row begins fits = absurd (other refl)
+    word_moves (InBlock front number rows) false false true b other is_class is_end is_row begins fits =
+        rw (same_word text (codes "row") is_row)
+        (inr (row_goes (InBlock front number rows) front number rows refl (λ words. rw (inner-cons (codes "row") words, words_before-cons (codes "end") (codes "row") words) refl)))
+    word_moves (InBlock front number rows) false false false b other is_class is_end is_row begins fits = absurd (let no : Some (Syntax start End) ≡ None = rw (is_class, is_end, is_row) at fits in cc)
+    word_moves (InRow front number rows values) false false true b other is_class is_end is_row begins fits =
         rw (same_word text (codes "row") is_row)
         (inr (row_goes (InRow front number rows values) front number (rows ++ values ∷ []) refl (λ words.
         rw (inner-cons (codes "row") words, words_before-cons (codes "end") (codes "row") words) (simp (append-nil, append_assoc)))))
-    word_moves (InRow front number rows values) false false false other is_class is_end is_row fits =
-        rw (is_class, is_end, is_row) (inr (value_goes front number rows values text is_class is_end is_row))
+    word_moves (InRow front number rows values) false false false true other is_class is_end is_row begins fits =
+        rw begins (inr (value_goes front number rows values text is_class is_end is_row))
+    word_moves (InRow front number rows values) false false false false other is_class is_end is_row begins fits =
+        absurd (let no : Some (Syntax start End) ≡ None = rw (begins, is_class, is_end, is_row) at fits in cc)
 
     -- a token that may stand there ends the section, or reading goes on after it
     pub move : (s : State) → refusal (kind_after phi (stage_in s)) (record { start = start; text = text }) ≡ None → Moves s text
     move (Named front) fits = inr (number_goes front text (natural_digits (record { start = start; text = text }) fits))
-    move (Between front) fits = word_moves (Between front) _ _ _ (λ e. absurd cc) refl refl refl fits
-    move (InBlock front number rows) fits = word_moves (InBlock front number rows) _ _ _ (λ e. absurd cc) refl refl refl fits
-    move (InRow front number rows values) fits = word_moves (InRow front number rows values) _ _ _ (λ e. absurd cc) refl refl refl fits
+    move (Between front) fits = word_moves (Between front) _ _ _ _ (λ e. absurd cc) refl refl refl refl fits
+    move (InBlock front number rows) fits = word_moves (InBlock front number rows) _ _ _ _ (λ e. absurd cc) refl refl refl refl fits
+    move (InRow front number rows values) fits = word_moves (InRow front number rows values) _ _ _ _ (λ e. absurd cc) refl refl refl refl fits
 
 -- ---- what holds while parts are put into blocks
 

@@ -334,7 +334,7 @@ module _ (offset : ℕ) where
     rows_taken stage front number done (row ∷ rows) words all is fits are on =
         let each = λ (row : List (List ℤ)). All (IsValueOf k) row in
         rw (append_assoc (map value_text row) (words_in (map row_words rows)) words)
-        (part_taken stage _ all (codes "row") _ parts.Row fits (word_said phi stage (codes "row") is)
+        (part_taken stage _ all (codes "row") _ parts.Row fits (word_said phi stage (codes "row") is refl)
         (rw (with_row_is front number done)
         (values_taken front number done [] row (words_in (map row_words rows) ++ words) all (All-head each row rows are)
         (rows_taken stages.Row front number (done ++ row ∷ []) rows words all (λ e. absurd cc) (λ start. refl) (All-tail each row rows are)
@@ -345,7 +345,7 @@ module _ (offset : ℕ) where
         → Grows stage front (words_in (flat_map block_lines blocks) ++ codes "end" ∷ []) (front ++ blocks)
     unfolding refusal
     blocks_taken stage front [] is small are =
-        part_taken stage front _ (codes "end") [] parts.End (λ start. end_fits phi start stage is) (word_said phi stage (codes "end") is)
+        part_taken stage front _ (codes "end") [] parts.End (λ start. end_fits phi start stage is) (word_said phi stage (codes "end") is refl)
         (rw (append-nil front) (takes_none [] (λ rest. (front, rest))))
     blocks_taken stage front (b ∷ blocks) is small are =
         let n = b.representative in
@@ -353,7 +353,7 @@ module _ (offset : ℕ) where
         let number : parts.Number (value (decimal n)) ≡ parts.Number n = ap parts.Number (decimal_spells n (omega (arith, narrow))).value_is in
         let rest = words_in (flat_map block_lines blocks) ++ codes "end" ∷ [] in
         rw (words_in-append (map row_words b.rows) (flat_map block_lines blocks), append_assoc (words_in (map row_words b.rows)) (words_in (flat_map block_lines blocks)) (codes "end" ∷ []))
-        (part_taken stage front _ (codes "class") _ parts.Class (λ start. class_fits phi start stage is) (word_said phi stage (codes "class") is)
+        (part_taken stage front _ (codes "class") _ parts.Class (λ start. class_fits phi start stage is) (word_said phi stage (codes "class") is refl)
         (part_taken stages.Class front _ (decimal n) _ (parts.Number n) (natural_fits n narrow) number
         (rows_taken stages.Number front n [] b.rows rest _ (λ e. absurd cc) (λ start. refl) (All-head (HasValues k) b blocks are)
         (λ later word. rw (append_assoc front (b ∷ []) blocks) at (blocks_taken later (front ++ b ∷ []) blocks word (All-tail HasSmallNumber b blocks small) (All-tail (HasValues k) b blocks are))))))

@@ -1,10 +1,10 @@
 -- The text of a value is one word of a row, and is read as the value.
-use Rattle.qd_doc.proofs.Names.{Bool, IsValueOf, List, None, Ok, Spells, ValueRowClassOrEnd, [], and_parts, ap, arith, begins_value, cases_Bool, codes, digits_are_word, digits_numeral, drop, eqb-false, false, get_or, get_or_append_left, inl, inr, is_array, is_conductor, is_nought, is_plain, is_token_byte, is_word, le-leb, leading_numeral, length, length-append, length-drop, list_all, list_all-append, lt-ltb, nat_abs, nat_le, nat_lt, negsuc, numeral, numeral_nonempty, or_nought, phi_of, plain, plain_or_zeros, pos, power_text, refl, refusal, replicate, sign_text, subst, suc, sym, term_text, terms_nil, terms_nought, terms_term, terms_text, true, value_of, value_text, word_part, zero, ℕ, ℤ, ◌++◌, ◌-◌, ◌<◌, ◌==◌, ◌∙◌, ◌∷◌, ◌≡◌, ◌≤◌, ◌⊎◌}
+use Rattle.qd_doc.proofs.Names.{Bool, IsValueOf, List, None, Ok, Spells, ValueRowClassOrEnd, [], and_parts, ap, arith, begins_value, cases_Bool, codes, digits_are_word, digits_numeral, drop, eqb-false, false, get_or, get_or_append_left, inl, inr, is_array, is_conductor, is_nought, is_plain, is_token_byte, le-leb, leading_numeral, length, length-append, length-drop, list_all, list_all-append, lt-ltb, nat_abs, nat_le, nat_lt, negsuc, numeral, numeral_nonempty, or_nought, part_of, phi_of, plain, plain_or_zeros, pos, power_text, refl, refusal, replicate, sign_text, subst, suc, sym, term_text, terms_nil, terms_nought, terms_term, terms_text, text, true, value_of, value_text, zero, ℕ, ℤ, ◌++◌, ◌-◌, ◌<◌, ◌==◌, ◌∙◌, ◌∷◌, ◌≡◌, ◌≤◌, ◌⊎◌}
 use Rattle.std.proofs.Common.{eqb-true}
 use Rattle.qd_doc.specs.declared.part.Part.TheVariants as parts
+use Rattle.qd_doc.specs.declared.part.Stage.TheVariants as stages
 use Rattle.qd_doc.proofs.Entries.{few_coefficients}
 use Rattle.qd_doc.proofs.ValueWords.{value_is}
-use Rattle.qd_doc.proofs.Parts.{value_no_word}
 
 -- ---- the bytes of the text of a value
 
@@ -125,10 +125,5 @@ module _ (k : ℕ) (entry : is_conductor k ≡ true) (v : List ℤ) (is : IsValu
   unfolding refusal
   value_fits start = rw (begins-value_text v, text_read) refl
 
-  pub value_said : word_part (phi_of k) (value_text v) ≡ parts.Value (plain v)
-  value_said =
-      let begins = begins-value_text v in
-      let no_class : is_word (value_text v) (codes "class") ≡ false = value_no_word (value_text v) 99 (codes "lass") begins refl in
-      let no_end : is_word (value_text v) (codes "end") ≡ false = value_no_word (value_text v) 101 (codes "nd") begins refl in
-      let no_row : is_word (value_text v) (codes "row") ≡ false = value_no_word (value_text v) 114 (codes "ow") begins refl in
-      rw (no_class, no_end, no_row) (ap (λ r. parts.Value (plain (plain_or_zeros r))) text_read)
+  pub value_said : part_of (phi_of k) stages.Row (value_text v) ≡ parts.Value (plain v)
+  value_said = rw (begins-value_text v) (ap (λ r. parts.Value (plain (plain_or_zeros r))) text_read)

@@ -1,14 +1,11 @@
 -- The parts that a reader takes the section of characters apart into, for the contracts of the private
 -- steps. What the section is stands in Grammar and Contents.
 use Rattle.std.specs.Prelude.{ℕ, ◌<◌, Bool, true, false, if◌then◌else◌, List, [], ◌∷◌, ◌++◌, length, codes, Option, Some, None, Result, Ok, Err}
-use Rattle.qd_text.specs.Tokens.{Lexeme}
-use Rattle.qd_text.specs.declared.expected.Expected.TheVariants.{End}
 use Rattle.qd_doc.specs.declared.refusal.DocRefusal.{DocRefusal}
-use Rattle.qd_doc.specs.declared.refusal.DocRefusal.TheVariants.{Syntax}
 use Rattle.qd_text.specs.Numbers.{value}
 use Rattle.qd_doc.specs.Blocks.{Block, block, last_rows, with_row, with_value}
-use Rattle.qd_doc.specs.Values.{begins_value, plain, coefficients, value_of}
-use Rattle.qd_doc.specs.Kinds.{What, Natural, ClassOrEnd, RowClassOrEnd, ValueRowClassOrEnd, is_word, fault_refusal}
+use Rattle.qd_doc.specs.Values.{begins_value, plain, coefficients}
+use Rattle.qd_doc.specs.Kinds.{What, Natural, ClassOrEnd, RowClassOrEnd, ValueRowClassOrEnd, is_word}
 use Rattle.qd_doc.specs.declared.part.Stage.{Stage}
 use Rattle.qd_doc.specs.declared.part.Stage.TheVariants as stages
 use Rattle.qd_doc.specs.declared.part.Part.{Part}
@@ -26,30 +23,17 @@ kind_after phi stages.Class = Natural
 kind_after phi stages.Number = RowClassOrEnd
 kind_after phi stages.Row = ValueRowClassOrEnd phi
 
--- what a word says
-abbrev pub word_part : ℕ → List ℕ → Part
-word_part phi text =
-    if is_word text (codes "class") then parts.Class
-    else if is_word text (codes "end") then parts.End
-    else if is_word text (codes "row") then parts.Row
-    else parts.Value (plain (coefficients phi text))
-
--- that a row begins
-abbrev pub row_or_end : ℕ → List ℕ → Result Part DocRefusal
-row_or_end start text = if is_word text (codes "row") then Ok parts.Row else Err (Syntax start End)
-
--- a value, or that a row begins
-abbrev pub value_or_row : ℕ → Lexeme → Result Part DocRefusal
-value_or_row phi token =
-    if begins_value token.text then unless (fault_refusal token.start (value_of phi token.text)) (parts.Value (plain (coefficients phi token.text)))
-    else row_or_end token.start token.text
+-- what a word says that is no value
+abbrev pub word_part : List ℕ → Part
+word_part text =
+    if is_word text (codes "class") then parts.Class else if is_word text (codes "end") then parts.End else parts.Row
 
 -- what a token says, by what was read last
 abbrev pub part_of : ℕ → Stage → List ℕ → Part
 part_of phi stages.Class text = parts.Number (value text)
-part_of phi stages.Conductor text = word_part phi text
-part_of phi stages.Number text = word_part phi text
-part_of phi stages.Row text = word_part phi text
+part_of phi stages.Conductor text = word_part text
+part_of phi stages.Number text = word_part text
+part_of phi stages.Row text = if begins_value text then parts.Value (plain (coefficients phi text)) else word_part text
 
 -- what was read last, after a part
 abbrev pub stage_of : Part → Stage

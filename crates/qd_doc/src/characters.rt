@@ -1,12 +1,12 @@
 //! Reading the section of characters.
 
-ghost use Rattle.std.specs.Prelude.{◌≡◌, ◌≢◌, ◌+◌, ◌<◌, ◌≤◌, ◌^◌, ◌||◌, List, [], Bool, length, IfOk, OnOk};
+ghost use Rattle.std.specs.Prelude.{◌≡◌, ◌≢◌, ◌+◌, ◌<◌, ◌≤◌, ◌^◌, List, [], Bool, length, IfOk, OnOk};
 ghost use Rattle.cyclotomic.specs.Conductors.{phi_of};
 ghost use Rattle.qd_text.specs.Tokens.{tokens_from, lexeme_of, text_of, IsWithin};
 ghost use Rattle.qd_doc.specs.Values.{begins_value, value_of, coefficients, plain, ValuesAreSpelled};
 ghost use Rattle.qd_text.specs.Numbers.{value};
-ghost use Rattle.qd_doc.specs.Kinds.{Natural, fault_refusal, refusal};
-ghost use Rattle.qd_doc.specs.Section.{kind_after, part_of, row_or_end, value_or_row, word_part, is_end, stage_of, with_part, HasPlace};
+ghost use Rattle.qd_doc.specs.Kinds.{Natural, ClassOrEnd, RowClassOrEnd, ValueRowClassOrEnd, fault_refusal, refusal};
+ghost use Rattle.qd_doc.specs.Section.{kind_after, part_of, word_part, is_end, stage_of, with_part, HasPlace};
 ghost use Rattle.qd_doc.specs.Reading.{Gives, IsOffset, read, read_blocks, read_given, unless};
 
 use crate::blocks::Blocks;
@@ -51,12 +51,37 @@ fn value(bytes: &Vec<u8>, token: Token, phi: u32) -> Result<Part, DocRefusal>
     }
 }
 
-/// That a row begins at this token.
-fn row(bytes: &Vec<u8>, token: Token) -> Result<Part, DocRefusal>
+/// The word `class` or `end`.
+#[tactic(auto, unfolding(crate::specs::Kinds::refusal))]
+fn class_or_end(bytes: &Vec<u8>, token: Token) -> Result<Part, DocRefusal>
     requires inside { IsWithin bytes.now.items token }
-    ensures row { result ≡ row_or_end token.start (text_of bytes.now.items token) }
+    ensures said { result ≡ unless (refusal ClassOrEnd (lexeme_of bytes.now.items token))
+        (word_part (text_of bytes.now.items token)) }
 {
-    if is_text(bytes, token, "row") {
+    if is_text(bytes, token, "class") {
+        Ok(Part::Class)
+    } else if is_text(bytes, token, "end") {
+        Ok(Part::End)
+    } else {
+        Err(DocRefusal::Syntax {
+            offset: token.start,
+            expected: Expected::End,
+        })
+    }
+}
+
+/// The word `row`, `class` or `end`.
+#[tactic(auto, unfolding(crate::specs::Kinds::refusal))]
+fn row_class_or_end(bytes: &Vec<u8>, token: Token) -> Result<Part, DocRefusal>
+    requires inside { IsWithin bytes.now.items token }
+    ensures said { result ≡ unless (refusal RowClassOrEnd (lexeme_of bytes.now.items token))
+        (word_part (text_of bytes.now.items token)) }
+{
+    if is_text(bytes, token, "class") {
+        Ok(Part::Class)
+    } else if is_text(bytes, token, "end") {
+        Ok(Part::End)
+    } else if is_text(bytes, token, "row") {
         Ok(Part::Row)
     } else {
         Err(DocRefusal::Syntax {
@@ -66,40 +91,33 @@ fn row(bytes: &Vec<u8>, token: Token) -> Result<Part, DocRefusal>
     }
 }
 
-/// The value that a token says, or that a row begins at it.
-fn value_or_row(bytes: &Vec<u8>, token: Token, phi: u32) -> Result<Part, DocRefusal>
+/// A value, or one of these words.
+#[tactic(auto, unfolding(crate::specs::Kinds::refusal))]
+fn value_or_word(bytes: &Vec<u8>, token: Token, phi: u32) -> Result<Part, DocRefusal>
     requires inside { IsWithin bytes.now.items token }
     requires powers { phi ≤ 42 }
-    ensures said { result ≡ value_or_row phi (lexeme_of bytes.now.items token) }
+    ensures said { result ≡ unless (refusal (ValueRowClassOrEnd phi) (lexeme_of bytes.now.items token))
+        (part_of phi Stage.Row (text_of bytes.now.items token)) }
 {
     if begins_value(bytes, token) {
         value(bytes, token, phi)
     } else {
-        row(bytes, token)
+        row_class_or_end(bytes, token)
     }
 }
 
 /// What a token says that isn't the number of a block.
-fn word_part(bytes: &Vec<u8>, token: Token, phi: u32, stage: Stage) -> Result<Part, DocRefusal>
+fn token_part(bytes: &Vec<u8>, token: Token, phi: u32, stage: Stage) -> Result<Part, DocRefusal>
     requires inside { IsWithin bytes.now.items token }
     requires powers { phi ≤ 42 }
     requires word { stage ≢ Stage.Class }
     ensures said { result ≡ unless (refusal (kind_after phi stage) (lexeme_of bytes.now.items token))
-        (word_part phi (text_of bytes.now.items token)) }
+        (part_of phi stage (text_of bytes.now.items token)) }
 {
-    if is_text(bytes, token, "class") {
-        return Ok(Part::Class);
-    }
-    if is_text(bytes, token, "end") {
-        return Ok(Part::End);
-    }
     match stage {
-        Stage::Conductor | Stage::Class => Err(DocRefusal::Syntax {
-            offset: token.start,
-            expected: Expected::End,
-        }),
-        Stage::Number => row(bytes, token),
-        Stage::Row => value_or_row(bytes, token, phi),
+        Stage::Conductor | Stage::Class => class_or_end(bytes, token),
+        Stage::Number => row_class_or_end(bytes, token),
+        Stage::Row => value_or_word(bytes, token, phi),
     }
 }
 
@@ -127,12 +145,12 @@ fn next_part(bytes: &Vec<u8>, at: u32, phi: u32, stage: Stage) -> Result<(Part, 
     requires powers { phi ≤ 42 }
     requires word { stage ≢ Stage.Class }
     ensures gives { Gives (λ found. (found.0, tokens_from found.1 bytes.now.items)) result
-        (read (word_part phi) (length bytes.now.items) (kind_after phi stage) (tokens_from at bytes.now.items)) }
+        (read (part_of phi stage) (length bytes.now.items) (kind_after phi stage) (tokens_from at bytes.now.items)) }
     ensures offset { IfOk result (λ found. IsOffset bytes.now.items found.1) }
     ensures later { IfOk result (λ found. at < found.1) }
 {
     let token = token(bytes, at, Expected::End)?;
-    let part = word_part(bytes, token, phi, stage)?;
+    let part = token_part(bytes, token, phi, stage)?;
     Ok((part, token.start + token.len))
 }
 
