@@ -1,23 +1,5 @@
 -- Powers of u_p in the twisted group algebra.
-use Rattle.std.proofs.Common.{◌≡◌, ℕ, zero, suc, ◌+◌, ◌%◌, ◌<◌, Bool, nat_eq, refl, sym, ◌∙◌, ap, eq-eqb, eqb-true}
-use Rattle.algebra.specs.Structures.{CommRing}
-use Rattle.algebra.specs.Sums.{pick}
-use Rattle.algebra.specs.Totals.{equals}
-use Rattle.algebra.specs.Below.{Below, below_equal}
-use Rattle.algebra.specs.Roots.{RootOfUnity}
-use Rattle.algebra.proofs.CongruenceLaws.{same_sym, same_mod}
-use Rattle.algebra.proofs.RingLaws.{one_mul}
-use Rattle.algebra.proofs.SumLaws.{pick_cong, pick_same, mul_pick}
-use Rattle.algebra.proofs.GroupLaws.{op_inv_cancel, op_op_inv}
-use Rattle.orders.specs.Group.{power}
-use Rattle.group_table.specs.Group.{product, identity_of}
-use Rattle.twisted.specs.Twist.{TwistedSubgroup, size, phase, IsTwist}
-use Rattle.twisted.specs.Algebra.{root, twisted_product, unit_vector}
-use Rattle.twisted.proofs.CentreLaws.{times_unit}
-use Rattle.twisted.proofs.AlgebraLaws.{twist_roots, on_places, product_on_places}
-use Rattle.twisted.proofs.Translation.{places, place_group, phase_at, kappa_at, phases_cocycle, kappa_phase, some_root}
-use Rattle.central_ext.specs.Extension.{place_power, power_phase}
-use Rattle.central_ext.specs.PowersOfUnits.{algebra_power}
+use Rattle.central_ext.proofs.Names.{Below, Bool, CommRing, IsTwist, RootOfUnity, TwistedSubgroup, algebra_power, ap, below_equal, eq-eqb, eqb-true, equals, identity_of, kappa_at, kappa_phase, mul_pick, nat_eq, on_places, one_mul, op_inv_cancel, op_op_inv, phase, phase_at, phases_cocycle, pick, pick_cong, pick_same, place_group, place_power, places, power, power_phase, product, product_on_places, refl, root, same_mod, same_sym, size, some_root, suc, sym, times_unit, twist_roots, twisted_product, unit_vector, zero, ℕ, ◌%◌, ◌+◌, ◌<◌, ◌∙◌, ◌≡◌}
 use Rattle.central_ext.proofs.PairPowers.{power_phase-zero, power_phase-suc, place_power_below}
 
 module _ {A : Type 0} (R : CommRing A) {m : ℕ} (U : RootOfUnity R m) (s : TwistedSubgroup) (twist : IsTwist s) (divides : m % s.modulus ≡ 0) where

@@ -1,15 +1,5 @@
 -- The pairs (c,0) over the places c carry a pair to all its conjugates.
-use Rattle.std.proofs.Common.{◌≡◌, ℕ, ◌+◌, ◌<◌, ◌≤◌, true, cond, Some, None, min, inl, inr, refl, sym, ◌∙◌, ap, arith}
-use Rattle.std.proofs.lemmas.Bool.{cases_order}
-use borrow.Author.Count.{below_more}
-use Rattle.std.specs.Prelude.{is_some}
-use Rattle.scan.specs.First.{first}
-use Rattle.scan.proofs.Searches.{is_some_of, some_of, first_finds, least_passing, same_test}
-use Rattle.twisted.specs.Twist.{TwistedSubgroup, size, IsTwist}
-use Rattle.twisted.proofs.Translation.{some_root}
-use Rattle.central_ext.specs.declared.pair.Pair.{Pair}
-use Rattle.central_ext.specs.Extension.{IsPair}
-use Rattle.central_ext.specs.ExtensionClasses.{pair_count, pair_number, pair_at, ext_conjugate, are_conjugate, carries_to, first_of_class}
+use Rattle.central_ext.proofs.Names.{IsPair, IsTwist, None, Pair, Some, TwistedSubgroup, ap, are_conjugate, arith, below_more, carries_to, cases_order, cond, ext_conjugate, first, first_finds, first_of_class, inl, inr, is_some, is_some_of, least_passing, min, pair_at, pair_count, pair_number, refl, same_test, size, some_of, some_root, sym, true, ℕ, ◌+◌, ◌<◌, ◌∙◌, ◌≡◌, ◌≤◌}
 use Rattle.central_ext.proofs.PairLaws.{same_pair, same_pair_of, conjugate_is, conjugate_pair, conjugate_by, conjugate_itself, conjugate_back, carrier_of, pair_below, pair_of_number, number_of_pair}
 use Rattle.central_ext.proofs.ClassNumbers.{conjugate_to, first_unique}
 

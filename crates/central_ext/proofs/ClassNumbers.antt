@@ -1,37 +1,22 @@
 -- First pairs of classes, and class numbers by first appearance.
-use Rattle.std.proofs.Common.{◌≡◌, ℕ, zero, suc, ◌+◌, ◌<◌, ◌≤◌, Bool, true, false, cond, Some, None, ◌↔◌, ◌⊎◌, inl, inr, length, List, get_or, [], ◌∷◌, ◌++◌, refl, sym, ◌∙◌, ap, arith, subst, add-one, eq-or-lt_of_le, eq-eqb, length-append}
-use Rattle.std.specs.Prelude.{unwrap_or}
-use Rattle.std.proofs.lemmas.Bool.{cases_order, ne_eqb}
-use Rattle.std.proofs.lemmas.List.{get_or_push, get_or_append_left}
-use borrow.Author.Count.{below_more}
-use Rattle.scan.proofs.Places.{first-ext}
-use Rattle.group_table.specs.Numbers.{passing_below}
-use Rattle.group_table.proofs.Numbers.{passing_below-passes, passing_below-fails, passing_below-zero}
-use Rattle.scan.proofs.Searches.{IsLeastPassing, least_passing, least_passing_found, same_test}
-use Rattle.twisted.specs.Twist.{TwistedSubgroup, IsTwist}
-use Rattle.central_ext.specs.ExtensionClasses.{pair_count, pair_at, are_conjugate, first_of_class, is_first_of_class, class_number}
+use Rattle.central_ext.proofs.Names.{Bool, IsLeastPassing, IsTwist, List, None, Some, TwistedSubgroup, [], add-one, ap, are_conjugate, arith, below_more, cases_order, class_number, cond, eq-eqb, eq-or-lt_of_le, false, first-ext, first_of_class, get_or, get_or_append_left, get_or_push, inl, inr, is_first_of_class, least_passing, least_passing_found, length, length-append, ne_eqb, pair_at, pair_count, passing_below, passing_below-fails, passing_below-passes, passing_below-suc, passing_below-zero, refl, same_test, subst, suc, sym, true, unwrap_or, zero, ℕ, ◌++◌, ◌+◌, ◌<◌, ◌↔◌, ◌∙◌, ◌∷◌, ◌≡◌, ◌≤◌, ◌⊎◌}
 use Rattle.central_ext.proofs.PairLaws.{pair_below, conjugate_itself, conjugate_back, conjugate_on}
 
-count_step : (b : ℕ) (test : ℕ → Bool) → length (passing_below b test) ≤ length (passing_below (b + 1) test)
-count_step b test = at (test b) refl
+count_step : (b : ℕ) (test : ℕ → Bool) → length (passing_below b test) ≤ length (passing_below (suc b) test)
+count_step b test = rw (passing_below-suc b test) (by (test b))
   where
-    at : (c : Bool) → test b ≡ c → length (passing_below b test) ≤ length (passing_below (b + 1) test)
-    at true e = rw (passing_below-passes b test e, length-append (passing_below b test) (b ∷ [])) (omega arith)
-    at false e = rw (passing_below-fails b test e) (omega arith)
-
-count_here : (a b : ℕ) (test : ℕ → Bool) → a ≡ b → test a ≡ true → length (passing_below a test) < length (passing_below (b + 1) test)
-count_here a b test equal passes =
-    rw (equal, passing_below-passes b test (ap test (sym equal) ∙ passes), length-append (passing_below b test) (b ∷ [])) (omega arith)
+    by : (c : Bool) → length (passing_below b test) ≤ length (cond c (passing_below b test ++ b ∷ []) (passing_below b test))
+    by true = omega (arith, length-append (passing_below b test) (b ∷ []))
+    by false = omega arith
 
 -- more pass below a greater bound, where the lower bound passes
 count_grows : (a b : ℕ) (test : ℕ → Bool) → a < b → test a ≡ true → length (passing_below a test) < length (passing_below b test)
 count_grows a zero test less passes = absurd (omega arith)
 count_grows a (suc b) test less passes =
-    subst (λ k. length (passing_below a test) < length (passing_below k test)) (add-one b)
-    (elim (eq-or-lt_of_le (omega arith)) [
-      | inl equal ↦ count_here a b test equal passes
-      | inr before ↦ let front = count_grows a b test before passes in let step = count_step b test in omega (arith, front, step)
-    ])
+  let within : a ≤ b = omega arith in elim (eq-or-lt_of_le within) [
+  | inl equal ↦ rw (equal, passing_below-suc b test, ap test (sym equal) ∙ passes, length-append (passing_below b test) (b ∷ [])) (omega arith)
+  | inr before ↦ let front = count_grows a b test before passes in let step = count_step b test in omega (arith, front, step)
+]
 
 -- the test by which the first pair of the class of the pair t is found
 abbrev pub conjugate_to : TwistedSubgroup → ℕ → ℕ → Bool
@@ -52,24 +37,29 @@ module _ (s : TwistedSubgroup) (twist : IsTwist s) where
       let two : first_of_class s t ≤ u = m.least u l.below l.passes in
       omega arith
 
+  -- conjugacy of pairs by their numbers
+  back : (t u : ℕ) → t < pair_count s → u < pair_count s → conjugate_to s t u ≡ true → conjugate_to s u t ≡ true
+  back t u t_below u_below e = conjugate_back s twist (pair_at s u) (pair_at s t) (pair_below s twist u u_below) (pair_below s twist t t_below) e
+
+  on : (t u v : ℕ) → t < pair_count s → u < pair_count s → v < pair_count s → conjugate_to s t u ≡ true → conjugate_to s u v ≡ true → conjugate_to s t v ≡ true
+  on t u v t_below u_below v_below e f =
+      conjugate_on s twist (pair_at s v) (pair_at s u) (pair_at s t) (pair_below s twist v v_below) (pair_below s twist u u_below) (pair_below s twist t t_below) f e
+
   -- conjugate pairs have one first pair
-  pub first_same : (t u : ℕ) → t < pair_count s → u < pair_count s → are_conjugate s (pair_at s t) (pair_at s u) ≡ true → first_of_class s t ≡ first_of_class s u
-  unfolding first_of_class
+  first_same : (t u : ℕ) → t < pair_count s → u < pair_count s → conjugate_to s u t ≡ true → first_of_class s t ≡ first_of_class s u
   first_same t u t_below u_below e =
-      ap (λ o. unwrap_or o 0)
-      (first-ext (pair_count s) (λ v. cond (conjugate_to s t v) (Some v) None) (λ v. cond (conjugate_to s u v) (Some v) None)
-      (λ v v_below. ap (λ b. cond b (Some v) None)
-      (same_test (conjugate_to s t v) (conjugate_to s u v)
-      (λ h. conjugate_on s twist (pair_at s v) (pair_at s t) (pair_at s u) (pair_below s twist v v_below) (pair_below s twist t t_below) (pair_below s twist u u_below) h e)
-      (λ h.
-      conjugate_on s twist (pair_at s v) (pair_at s u) (pair_at s t) (pair_below s twist v v_below) (pair_below s twist u u_below) (pair_below s twist t t_below) h
-      (conjugate_back s twist (pair_at s t) (pair_at s u) (pair_below s twist t t_below) (pair_below s twist u u_below) e)))))
+      let m = first_is t t_below in
+      first_unique u (first_of_class s t) u_below (record {
+        below = m.below;
+        passes = on u t (first_of_class s t) u_below t_below m.below e m.passes;
+        least = λ j j_below h. m.least j j_below (on t u j t_below u_below j_below (back u t u_below t_below e) h);
+      })
 
   -- the first pair of a class is the first of its own
-  pub first_twice : (t : ℕ) → t < pair_count s → first_of_class s (first_of_class s t) ≡ first_of_class s t
+  first_twice : (t : ℕ) → t < pair_count s → first_of_class s (first_of_class s t) ≡ first_of_class s t
   first_twice t below = let m = first_is t below in first_same (first_of_class s t) t m.below below m.passes
 
-  pub first_passes : (t : ℕ) → t < pair_count s → is_first_of_class s (first_of_class s t) ≡ true
+  first_passes : (t : ℕ) → t < pair_count s → is_first_of_class s (first_of_class s t) ≡ true
   first_passes t below = eq-eqb _ _ (first_twice t below)
 
   -- the class number of a pair is that of its first
@@ -84,32 +74,22 @@ module _ (s : TwistedSubgroup) (twist : IsTwist s) where
   -- different first pairs have different numbers
   firsts_apart : (a b : ℕ) → is_first_of_class s a ≡ true → is_first_of_class s b ≡ true
       → length (passing_below a (is_first_of_class s)) ≡ length (passing_below b (is_first_of_class s)) → a ≡ b
-  firsts_apart a b p q e = by (cases_order a b)
-    where
-      by : (a ≡ b) ⊎ ((a < b) ⊎ (b < a)) → a ≡ b
-      by (inl equal) = equal
-      by (inr (inl less)) = let more = count_grows a b (is_first_of_class s) less p in absurd (omega arith)
-      by (inr (inr less)) = let more = count_grows b a (is_first_of_class s) less q in absurd (omega arith)
-
-  conjugate_of_number : (t u : ℕ) → t < pair_count s → u < pair_count s → class_number s t ≡ class_number s u → are_conjugate s (pair_at s t) (pair_at s u) ≡ true
-  unfolding class_number
-  conjugate_of_number t u t_below u_below e =
-      let v : ℕ = first_of_class s t in
-      let w : ℕ = first_of_class s u in
-      let same : v ≡ w = firsts_apart v w (first_passes t t_below) (first_passes u u_below) e in
-      let at_t = first_is t t_below in
-      let at_u = first_is u u_below in
-      let other : are_conjugate s (pair_at s v) (pair_at s u) ≡ true = ap (λ z. are_conjugate s (pair_at s z) (pair_at s u)) same ∙ at_u.passes in
-      conjugate_on s twist (pair_at s t) (pair_at s v) (pair_at s u) (pair_below s twist t t_below) (pair_below s twist v at_t.below) (pair_below s twist u u_below)
-      (conjugate_back s twist (pair_at s v) (pair_at s t) (pair_below s twist v at_t.below) (pair_below s twist t t_below) at_t.passes)
-      other
-
-  number_of_conjugate : (t u : ℕ) → t < pair_count s → u < pair_count s → are_conjugate s (pair_at s t) (pair_at s u) ≡ true → class_number s t ≡ class_number s u
-  unfolding class_number
-  number_of_conjugate t u t_below u_below e = ap (λ v. length (passing_below v (is_first_of_class s))) (first_same t u t_below u_below e)
+  firsts_apart a b p q e = elim (cases_order a b) [
+    | inl equal ↦ equal
+    | inr (inl less) ↦ let more = count_grows a b (is_first_of_class s) less p in absurd (omega arith)
+    | inr (inr less) ↦ let more = count_grows b a (is_first_of_class s) less q in absurd (omega arith)
+  ]
 
   pub numbers_tell : (t u : ℕ) → t < pair_count s → u < pair_count s → (class_number s t ≡ class_number s u) ↔ (are_conjugate s (pair_at s t) (pair_at s u) ≡ true)
-  numbers_tell t u t_below u_below = (conjugate_of_number t u t_below u_below, number_of_conjugate t u t_below u_below)
+  unfolding class_number
+  numbers_tell t u t_below u_below = (
+    λ e.
+        let at_t = first_is t t_below in
+        let at_u = first_is u u_below in
+        let same : first_of_class s t ≡ first_of_class s u = firsts_apart _ _ (first_passes t t_below) (first_passes u u_below) e in
+        on u (first_of_class s u) t u_below at_u.below t_below at_u.passes (rw (← same) (back t (first_of_class s t) t_below at_t.below at_t.passes)),
+    λ e. ap (λ v. length (passing_below v (is_first_of_class s))) (first_same t u t_below u_below e),
+  )
 
 -- the numbers of the pairs below t, and the next new number
 pub record IsNumberedBelow (s : TwistedSubgroup) (t : ℕ) (numbers : List ℕ) (next : ℕ) : Type 0 where

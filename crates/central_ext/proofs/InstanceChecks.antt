@@ -1,15 +1,5 @@
 -- The worked twists are twists, by computing.
-use Rattle.std.proofs.Common.{◌≡◌, ℕ, ◌+◌, ◌%◌, ◌<◌, Bool, true, ◌&&◌, nat_eq, nat_lt, length, get_or, None, refl, lit<, lit≤, eqb-true}
-use Rattle.std.proofs.lemmas.Bool.{ltb-true}
-use Rattle.scan.specs.First.{first, all_below}
-use Rattle.scan.proofs.Places.{all_below-at, and_true}
-use Rattle.orders.specs.Group.{power}
-use Rattle.group_table.specs.Group.{product, identity_of, group_fault}
-use Rattle.group_table.specs.Numbers.{passing_below}
-use Rattle.twisted.specs.Twist.{TwistedSubgroup, size, element, phase, HasCocycle}
-use Rattle.central_ext.specs.Extension.{power_phase}
-use Rattle.central_ext.specs.ExtensionClasses.{are_conjugate, first_of_class, class_number}
-use Rattle.central_ext.specs.Instances.{two_twist, plain_twist, bits_twist, TwoIsTwist, PlainIsTwist, BitsIsTwist, TwoExtended, BitsExtended}
+use Rattle.central_ext.proofs.Names.{BitsExtended, BitsIsTwist, Bool, HasCocycle, IsGroup, IsModulus, IsSmall, IsTwist, PlainIsTwist, TwistedSubgroup, TwoExtended, TwoIsTwist, all_below, all_below-at, and_true, are_conjugate, bits_twist, class_number, element, eqb-true, first, first_of_class, get_or, group_fault, identity_of, length, lit<, lit≤, ltb-true, nat_eq, nat_lt, passing_below, phase, plain_twist, power, power_phase, product, refl, size, true, two_twist, ℕ, ◌%◌, ◌&&◌, ◌*◌, ◌+◌, ◌<◌, ◌≡◌, ◌≤◌}
 
 -- the laws of a 2-cocycle as one test
 law_holds : TwistedSubgroup → ℕ → ℕ → ℕ → Bool
@@ -38,67 +28,43 @@ cocycle_of s laws normal = record {
   at_identity_right = λ p below. eqb-true _ _ (and_true _ _ (all_below-at (size s) p _ normal below)).1;
 }
 
-ascending_of : (s : TwistedSubgroup) → ascends s ≡ true → (p r : ℕ) → p < r → r < size s → element s p < element s r
-unfolding ascends
-ascending_of s e p r less below = ltb-true _ _ (all_below-at r p _ (all_below-at (size s) r _ e below) less)
-
-below_of : (s : TwistedSubgroup) → phases_fit s ≡ true → (i : ℕ) → i < length s.phases → get_or s.phases i 0 < s.modulus
-unfolding phases_fit
-below_of s e i below = ltb-true _ _ (all_below-at (length s.phases) i _ e below)
-
-two_lawful : group_fault two_twist.group ≡ None
-unfolding group_fault first all_below
-two_lawful = refl
+-- a lawful table with elements, phases and a modulus that pass is a twist
+twist_of : (s : TwistedSubgroup) → IsGroup s.group → IsSmall s.group.order → length s.elements ≡ s.group.order → (p : ℕ) × (p < size s) × (element s p ≡ s.at)
+    → IsModulus s.modulus → length s.phases ≡ s.group.order * s.group.order → (ascends s && (phases_fit s && (laws_hold s && is_normal s))) ≡ true → IsTwist s
+unfolding ascends phases_fit
+twist_of s group small count holds_at modulus square passes =
+    let ascending = and_true _ _ passes in
+    let fit = and_true _ _ ascending.1 in
+    let lawful = and_true _ _ fit.1 in
+    record {
+      group = group;
+      small = small;
+      count = count;
+      ascending = λ p r less below. ltb-true _ _ (all_below-at r p _ (all_below-at (size s) r _ ascending.0 below) less);
+      holds_at = holds_at;
+      modulus = modulus;
+      square = square;
+      below = λ i below. ltb-true _ _ (all_below-at (length s.phases) i _ fit.0 below);
+      cocycle = cocycle_of s lawful.0 lawful.1;
+    }
 
 pub two_is_twist : TwoIsTwist
-unfolding laws_hold law_holds is_normal ascends phases_fit first all_below
-two_is_twist = record {
-  group = record { square = refl; lawful = two_lawful };
-  small = record { from_one = lit≤ tt; to_sixty = lit≤ tt };
-  count = refl;
-  ascending = ascending_of two_twist refl;
-  holds_at = (1, lit< tt, refl);
-  modulus = record { from_one = lit≤ tt; to_most = lit≤ tt };
-  square = refl;
-  below = below_of two_twist refl;
-  cocycle = cocycle_of two_twist refl refl;
-}
-
-plain_lawful : group_fault plain_twist.group ≡ None
-unfolding group_fault first all_below
-plain_lawful = refl
+unfolding laws_hold law_holds is_normal ascends phases_fit group_fault first all_below
+two_is_twist =
+    twist_of two_twist (record { square = refl; lawful = refl }) (record { from_one = lit≤ tt; to_sixty = lit≤ tt }) refl
+    (1, lit< tt, refl) (record { from_one = lit≤ tt; to_most = lit≤ tt }) refl refl
 
 pub plain_is_twist : PlainIsTwist
-unfolding laws_hold law_holds is_normal ascends phases_fit first all_below
-plain_is_twist = record {
-  group = record { square = refl; lawful = plain_lawful };
-  small = record { from_one = lit≤ tt; to_sixty = lit≤ tt };
-  count = refl;
-  ascending = ascending_of plain_twist refl;
-  holds_at = (0, lit< tt, refl);
-  modulus = record { from_one = lit≤ tt; to_most = lit≤ tt };
-  square = refl;
-  below = below_of plain_twist refl;
-  cocycle = cocycle_of plain_twist refl refl;
-}
-
-bits_lawful : group_fault bits_twist.group ≡ None
-unfolding group_fault first all_below
-bits_lawful = refl
+unfolding laws_hold law_holds is_normal ascends phases_fit group_fault first all_below
+plain_is_twist =
+    twist_of plain_twist (record { square = refl; lawful = refl }) (record { from_one = lit≤ tt; to_sixty = lit≤ tt }) refl
+    (0, lit< tt, refl) (record { from_one = lit≤ tt; to_most = lit≤ tt }) refl refl
 
 pub bits_is_twist : BitsIsTwist
-unfolding laws_hold law_holds is_normal ascends phases_fit first all_below
-bits_is_twist = record {
-  group = record { square = refl; lawful = bits_lawful };
-  small = record { from_one = lit≤ tt; to_sixty = lit≤ tt };
-  count = refl;
-  ascending = ascending_of bits_twist refl;
-  holds_at = (1, lit< tt, refl);
-  modulus = record { from_one = lit≤ tt; to_most = lit≤ tt };
-  square = refl;
-  below = below_of bits_twist refl;
-  cocycle = cocycle_of bits_twist refl refl;
-}
+unfolding laws_hold law_holds is_normal ascends phases_fit group_fault first all_below
+bits_is_twist =
+    twist_of bits_twist (record { square = refl; lawful = refl }) (record { from_one = lit≤ tt; to_sixty = lit≤ tt }) refl
+    (1, lit< tt, refl) (record { from_one = lit≤ tt; to_most = lit≤ tt }) refl refl
 
 pub two_extended : TwoExtended
 unfolding class_number first_of_class are_conjugate power_phase power passing_below first all_below

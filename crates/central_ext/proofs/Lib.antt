@@ -1,3 +1,4 @@
+pub mod Names
 pub mod Lifts
 pub mod PairLaws
 pub mod RegularLifts

@@ -1,14 +1,5 @@
 -- The extension of a group by roots of unity that a normalised 2-cocycle gives, over groups whose elements are a type (Schur 1904).
-use Rattle.std.proofs.Common.{◌≡◌, ℕ, ◌+◌, ◌-◌, ◌*◌, ◌%◌, ◌<◌, sym, ◌∙◌, arith}
-use Rattle.std.proofs.Math.Nat.{mod-lt, mod-eq_of_lt}
-use Rattle.algebra.specs.Groups.{Group}
-use Rattle.algebra.specs.Below.{Below, below_equal}
-use Rattle.algebra.specs.Congruences.{Same}
-use Rattle.algebra.specs.Convolution.{IsTwoCocycle}
-use Rattle.algebra.proofs.CongruenceLaws.{same_of, same_sym, same_trans, same_add, same_mod, same_lin, same_multiple}
-use Rattle.algebra.proofs.GroupLaws.{op_cancel_right}
-use Rattle.twisted.proofs.Carrying.{carry, carry_move}
-use Rattle.twisted.proofs.ConjugationPhases.{IsConjugationPhase}
+use Rattle.central_ext.proofs.Names.{Below, Group, IsConjugationPhase, IsTwoCocycle, Same, arith, below_equal, carry, carry_move, mod-eq_of_lt, mod-lt, op_cancel_right, same_add, same_lin, same_mod, same_multiple, same_of, same_sym, same_trans, sym, ℕ, ◌%◌, ◌*◌, ◌+◌, ◌-◌, ◌<◌, ◌∙◌, ◌≡◌}
 
 -- an element of the group, and an exponent modulo n
 pub record Lift (G : Type 0) (n : ℕ) : Type 0 where

@@ -1,19 +1,5 @@
 -- The pairs of a twist are the lifts of its places: the laws of the extension, and its conjugacy.
-use Rattle.std.proofs.Common.{◌≡◌, ℕ, ◌+◌, ◌*◌, ◌%◌, ◌<◌, ◌≤◌, Bool, true, nat_eq, cond, Some, None, refl, sym, ◌∙◌, ap, arith, eq-eqb, eqb-true}
-use Rattle.std.proofs.Math.Nat.{mod-lt, div-lt_iff_lt-mul, mul-le-mul_right}
-use Rattle.std.proofs.lemmas.Nat.{div-mul-add, mod-mul-add, div-add-mod'}
-use Rattle.scan.proofs.Places.{and_true}
-use Rattle.algebra.specs.Groups.{Group}
-use Rattle.algebra.specs.Below.{Below}
-use Rattle.classes.specs.Conjugacy.{conjugate}
-use Rattle.scan.proofs.Searches.{is_some_of, some_of, first_finds, least_passing}
-use Rattle.twisted.specs.Twist.{TwistedSubgroup, size, IsTwist}
-use Rattle.twisted.specs.Regular.{kappa}
-use Rattle.twisted.proofs.Carrying.{carry, carry_is, carry_one, carry_op, carry_back}
-use Rattle.twisted.proofs.Translation.{place_group, phase_at, kappa_at, phases_cocycle, kappa_phase, carry_value, some_root}
-use Rattle.central_ext.specs.declared.pair.Pair.{Pair}
-use Rattle.central_ext.specs.Extension.{IsPair, ext_product, ext_identity, ext_inverse}
-use Rattle.central_ext.specs.ExtensionClasses.{pair_count, pair_number, pair_at, is_same_pair, ext_conjugate, are_conjugate}
+use Rattle.central_ext.proofs.Names.{Below, Bool, Group, IsPair, IsTwist, None, Pair, Some, TwistedSubgroup, and_true, ap, are_conjugate, arith, carry, carry_back, carry_is, carry_one, carry_op, carry_value, cond, conjugate, div-add-mod', div-lt_iff_lt-mul, div-mul-add, eq-eqb, eqb-true, ext_conjugate, ext_identity, ext_inverse, ext_product, first_finds, is_same_pair, is_some_of, kappa, kappa_at, kappa_phase, least_passing, mod-lt, mod-mul-add, mul-le-mul_right, nat_eq, pair_at, pair_count, pair_number, phase_at, phases_cocycle, place_group, refl, size, some_of, some_root, sym, true, ℕ, ◌%◌, ◌*◌, ◌+◌, ◌<◌, ◌∙◌, ◌≡◌, ◌≤◌}
 use Rattle.central_ext.proofs.Lifts.{Lift, lifts, carry_lift}
 
 -- pairs with one place and one root are one

@@ -1,12 +1,5 @@
 -- Powers in the extension.
-use Rattle.std.proofs.Common.{◌≡◌, ◌≢◌, ℕ, zero, suc, ◌+◌, ◌*◌, ◌/◌, ◌%◌, ◌<◌, refl, sym, ◌∙◌, ap, arith, add-zero, add-suc, add-one}
-use Rattle.twisted.specs.Twist.{TwistedSubgroup, size, phase, IsTwist}
-use Rattle.orders.specs.Group.{power}
-use Rattle.orders.proofs.Powers.{power_below}
-use Rattle.group_table.proofs.Sentences.{group_below}
-use Rattle.twisted.proofs.Translation.{some_root}
-use Rattle.central_ext.specs.declared.pair.Pair.{Pair}
-use Rattle.central_ext.specs.Extension.{IsPair, ext_product, ext_identity, ext_power, place_power, power_phase}
+use Rattle.central_ext.proofs.Names.{IsPair, IsTwist, Pair, TwistedSubgroup, add-one, add-suc, add-zero, ap, arith, ext_identity, ext_power, ext_product, group_below, phase, place_power, power, power_below, power_phase, refl, size, some_root, suc, sym, zero, ℕ, ◌%◌, ◌*◌, ◌+◌, ◌/◌, ◌<◌, ◌∙◌, ◌≡◌, ◌≢◌}
 use Rattle.central_ext.proofs.PairLaws.{product_pair, identity_pair, product_associates, identity_product, product_identity, pair_equal}
 
 module _ (s : TwistedSubgroup) where
@@ -41,19 +34,13 @@ module _ (s : TwistedSubgroup) (twist : IsTwist s) where
       rw (add-suc i j, ext_power-suc s a (i + j), ext_power-suc s a j, power_sum a i j p)
       (product_associates s twist (ext_power s a i) (ext_power s a j) a (power_pair a i p) (power_pair a j p) p)
 
-  pub power_once : (a : Pair) → IsPair s a → ext_power s a 1 ≡ a
-  power_once a p = ext_power-suc s a 0 ∙ ap (λ b. ext_product s b a) (ext_power-zero s a) ∙ identity_product s twist a p
-
   -- (a a)^j = a^(2 j)
-  pub power_of_square : (a : Pair) (j : ℕ) → IsPair s a → ext_power s (ext_product s a a) j ≡ ext_power s a (2 * j)
+  power_of_square : (a : Pair) (j : ℕ) → IsPair s a → ext_power s (ext_product s a a) j ≡ ext_power s a (2 * j)
   power_of_square a zero p = ext_power-zero s (ext_product s a a) ∙ sym (ext_power-zero s a)
   power_of_square a (suc j) p =
-      let two : ext_power s a 2 ≡ ext_product s a a = ext_power-suc s a 1 ∙ ap (λ b. ext_product s b a) (power_once a p) in
-      ext_power-suc s (ext_product s a a) j
-      ∙ ap (λ b. ext_product s b (ext_product s a a)) (power_of_square a j p)
-      ∙ ap (λ b. ext_product s (ext_power s a (2 * j)) b) (sym two)
-      ∙ sym (power_sum a (2 * j) 2 p)
-      ∙ ap (ext_power s a) (omega arith)
+      let twice : 2 * suc j ≡ suc (suc (2 * j)) = omega arith in
+      rw (twice, ext_power-suc s a (suc (2 * j)), ext_power-suc s a (2 * j), ext_power-suc s (ext_product s a a) j, power_of_square a j p)
+      (sym (product_associates s twist (ext_power s a (2 * j)) a a (power_pair a (2 * j) p) p p))
 
   -- (a a)^(j/2) is a^j, or one factor a less
   pub power_even : (a : Pair) (j : ℕ) → IsPair s a → j % 2 ≡ 0 → ext_power s (ext_product s a a) (j / 2) ≡ ext_power s a j
@@ -70,13 +57,8 @@ module _ (s : TwistedSubgroup) (twist : IsTwist s) where
   unfolding power
   power_of_lift p zero below = ext_power-zero s (record { place = p; root = 0 }) ∙ pair_equal refl (sym (power_phase-zero s p))
   power_of_lift p (suc j) below =
-      ext_power-suc s (record { place = p; root = 0 }) j
-      ∙ ap (λ b. ext_product s b (record { place = p; root = 0 })) (power_of_lift p j below)
-      ∙ pair_equal refl
-      (ap (λ v. v % s.modulus) (by (power_phase s p j) (phase s (place_power s p j) p)) ∙ sym (power_phase-suc s p j))
-    where
-      by : (v w : ℕ) → v + 0 + w ≡ v + w
-      by v w = omega arith
+      rw (ext_power-suc s (record { place = p; root = 0 }) j, power_of_lift p j below, power_phase-suc s p j)
+      (pair_equal refl (ap (λ v. v % s.modulus) (omega arith)))
 
   pub phase_of_sum : (p i j : ℕ) → p < size s
       → power_phase s p (i + j) ≡ (power_phase s p i + power_phase s p j + phase s (place_power s p i) (place_power s p j)) % s.modulus

@@ -1,19 +1,5 @@
 -- A place is regular exactly where its lifts are pairwise not conjugate.
-use Rattle.std.proofs.Common.{◌≡◌, ℕ, ◌+◌, ◌%◌, ◌<◌, true, ◌↔◌, sym, ◌∙◌, ap, arith}
-use Rattle.std.proofs.Math.Nat.{mod-eq_of_lt}
-use Rattle.algebra.specs.Below.{Below, below_equal}
-use Rattle.algebra.specs.Congruences.{Same}
-use Rattle.algebra.proofs.CongruenceLaws.{same_of, same_sym, same_trans, same_add_left, same_mod, same_equal}
-use Rattle.classes.specs.Conjugacy.{conjugate}
-use Rattle.twisted.specs.Twist.{TwistedSubgroup, size, IsTwist}
-use Rattle.twisted.specs.Regular.{kappa, is_regular}
-use Rattle.twisted.proofs.Carrying.{carry}
-use Rattle.twisted.proofs.ConjugationPhases.{kappa_of_commuting, regular_of_kappa}
-use Rattle.twisted.proofs.PhaseLaws.{kappa_below}
-use Rattle.twisted.proofs.Translation.{place_group, phase_at, kappa_at, phases_cocycle, kappa_phase, carry_value, regular_of_test, test_of_regular, some_root}
-use Rattle.central_ext.specs.declared.pair.Pair.{Pair}
-use Rattle.central_ext.specs.Extension.{IsPair}
-use Rattle.central_ext.specs.ExtensionClasses.{ext_conjugate, are_conjugate}
+use Rattle.central_ext.proofs.Names.{Below, IsPair, IsTwist, Pair, Same, TwistedSubgroup, ap, are_conjugate, arith, below_equal, carry, carry_value, conjugate, ext_conjugate, is_regular, kappa, kappa_at, kappa_below, kappa_of_commuting, kappa_phase, mod-eq_of_lt, phase_at, phases_cocycle, place_group, regular_of_kappa, regular_of_test, same_add_left, same_equal, same_mod, same_of, same_sym, same_trans, size, some_root, sym, test_of_regular, true, ℕ, ◌%◌, ◌+◌, ◌<◌, ◌↔◌, ◌∙◌, ◌≡◌}
 use Rattle.central_ext.proofs.PairLaws.{conjugate_is, conjugate_by, carrier_of}
 
 -- the lift (p,i)

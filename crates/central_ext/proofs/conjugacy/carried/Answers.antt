@@ -1,5 +1,4 @@
-use Rattle.std.proofs.Common.{sym}
-use Rattle.twisted.proofs.Translation.{some_root}
+use Rattle.central_ext.proofs.Names.{some_root, sym}
 use Rattle.central_ext.proofs.PairLaws.{conjugate_is}
 use Rattle.central_ext.proofs.conjugacy.carried.Goals as goal
 

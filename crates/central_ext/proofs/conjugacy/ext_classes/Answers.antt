@@ -1,5 +1,4 @@
-use Rattle.std.proofs.Common.{◌≡◌, ◌*◌, ◌<◌, get_or, refl, sym, ◌∙◌, ap, arith}
-use Rattle.central_ext.specs.ExtensionClasses.{pair_count, first_of_class}
+use Rattle.central_ext.proofs.Names.{ap, arith, first_of_class, get_or, pair_count, refl, sym, ◌*◌, ◌<◌, ◌∙◌, ◌≡◌}
 use Rattle.central_ext.proofs.ClassNumbers.{numbered_none, numbered_old, numbered_new}
 use Rattle.central_ext.proofs.conjugacy.ext_classes.Goals as goal
 use Rattle.central_ext.proofs.conjugacy.ext_classes.Goals.{then-first-t+in_ok-push, else-first-t+in_ok-push-2}

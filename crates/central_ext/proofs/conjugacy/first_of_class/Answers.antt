@@ -1,6 +1,4 @@
-use Rattle.std.proofs.Common.{◌≡◌, ◌∙◌, ap, subst, arith}
-use Rattle.twisted.specs.Twist.{size}
-use Rattle.central_ext.specs.ExtensionClasses.{pair_number, ext_conjugate}
+use Rattle.central_ext.proofs.Names.{ap, arith, ext_conjugate, pair_number, size, subst, ◌∙◌, ◌≡◌}
 use Rattle.central_ext.proofs.Carriers.{IsLeastReached, reached_none, reached_more, reached_first}
 use Rattle.central_ext.proofs.conjugacy.first_of_class.Goals as goal
 

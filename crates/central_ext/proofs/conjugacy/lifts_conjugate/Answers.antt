@@ -1,4 +1,4 @@
-use Rattle.std.proofs.Common.{◌∙◌}
+use Rattle.central_ext.proofs.Names.{◌∙◌}
 use Rattle.central_ext.proofs.Carriers.{places_suffice}
 use Rattle.central_ext.proofs.conjugacy.lifts_conjugate.Goals as goal
 

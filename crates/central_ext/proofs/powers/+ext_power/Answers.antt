@@ -1,5 +1,4 @@
-use Rattle.std.proofs.Common.{◌/◌, sym, ◌∙◌, ap}
-use Rattle.central_ext.specs.Extension.{ext_product, ext_power}
+use Rattle.central_ext.proofs.Names.{ap, ext_power, ext_product, sym, ◌/◌, ◌∙◌}
 use Rattle.central_ext.proofs.PairPowers.{ext_power-zero, power_even, power_odd}
 use Rattle.central_ext.proofs.powers.+ext_power.Goals as goal
 

@@ -1,6 +1,4 @@
-use Rattle.std.proofs.Common.{◌∙◌, ap}
-use Rattle.central_ext.specs.declared.pair.Pair.{Pair}
-use Rattle.central_ext.specs.Extension.{ext_power}
+use Rattle.central_ext.proofs.Names.{Pair, ap, ext_power, ◌∙◌}
 use Rattle.central_ext.proofs.PairPowers.{power_of_lift}
 use Rattle.central_ext.proofs.powers.power_phase.Goals as goal
 
