@@ -13,14 +13,6 @@ module _ {A : Type 0} (R : CommRing A) {m : ℕ} (U : RootOfUnity R m) (s : Twis
       ∙ times_unit R (places s twist) (place_group s twist) (some_root s twist) (twist_roots R U s twist divides) (phase_at s twist) (kappa_at s twist) (phases_cocycle s twist) (kappa_phase s twist)
       (on_places R U s twist divides z) p x
 
-  algebra_power-suc : (z : ℕ → A) (j x : ℕ) → algebra_power R U s z (suc j) x ≡ twisted_product R U s (algebra_power R U s z j) z x
-  unfolding algebra_power
-  algebra_power-suc z j x = refl
-
-  algebra_power-zero : (z : ℕ → A) (x : ℕ) → algebra_power R U s z 0 x ≡ unit_vector R U s (identity_of s.group) x
-  unfolding algebra_power
-  algebra_power-zero z x = refl
-
   -- x p^-1 = q exactly where x = q p
   moved : (p q x : Below (size s)) (a : A)
       → pick R (nat_eq ((place_group s twist).op x ((place_group s twist).inv p)).value q.value) a
@@ -47,10 +39,9 @@ module _ {A : Type 0} (R : CommRing A) {m : ℕ} (U : RootOfUnity R m) (s : Twis
   -- u_p^j = e(power_phase(p,j)) u_(p^j)
   pub power_of_unit : (p j x : ℕ) → p < size s → x < size s
       → algebra_power R U s (unit_vector R U s p) j x ≡ R.mul (root R U s (power_phase s p j)) (unit_vector R U s (place_power s p j) x)
-  unfolding power
+  unfolding power algebra_power
   power_of_unit p zero x p_below x_below =
-      algebra_power-zero (unit_vector R U s p) x
-      ∙ sym (one_mul R (unit_vector R U s (identity_of s.group) x))
+      sym (one_mul R (unit_vector R U s (identity_of s.group) x))
       ∙ ap (λ c. R.mul c (unit_vector R U s (identity_of s.group) x)) (sym (ap (root R U s) (power_phase-zero s p) ∙ (twist_roots R U s twist divides).root_zero))
   power_of_unit p (suc j) x p_below x_below =
       let here : Below (size s) = record { value = p; below = p_below } in
@@ -60,8 +51,7 @@ module _ {A : Type 0} (R : CommRing A) {m : ℕ} (U : RootOfUnity R m) (s : Twis
       let v : ℕ = power_phase s p j in
       let b : Bool = nat_eq from.value power_here.value in
       let c : A = root R U s (phase s from.value p) in
-      algebra_power-suc (unit_vector R U s p) j x
-      ∙ times_unit_at (algebra_power R U s (unit_vector R U s p) j) here to
+      times_unit_at (algebra_power R U s (unit_vector R U s p) j) here to
       ∙ ap (R.mul c) (power_of_unit p j from.value p_below from.below ∙ mul_pick R b (root R U s v) R.one)
       ∙ mul_pick R b c (R.mul (root R U s v) R.one)
       ∙ pick_cong R b (R.mul c (R.mul (root R U s v) R.one)) (R.mul (root R U s (power_phase s p (suc j))) R.one)

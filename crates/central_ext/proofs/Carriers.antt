@@ -1,5 +1,5 @@
 -- The pairs (c,0) over the places c carry a pair to all its conjugates.
-use Rattle.central_ext.proofs.Names.{IsPair, IsTwist, None, Pair, Some, TwistedSubgroup, ap, are_conjugate, arith, below_more, carries_to, cases_order, cond, ext_conjugate, first, first_finds, first_of_class, inl, inr, is_some, is_some_of, least_passing, min, pair_at, pair_count, pair_number, refl, same_test, size, some_of, some_root, sym, true, ℕ, ◌+◌, ◌<◌, ◌∙◌, ◌≡◌, ◌≤◌}
+use Rattle.central_ext.proofs.Names.{IsPair, IsTwist, None, Pair, Some, TwistedSubgroup, ap, are_conjugate, arith, below_more, carries_to, cases_lt, cond, ext_conjugate, first, first_finds, first_of_class, inl, inr, is_some, is_some_of, least_passing, min, pair_at, pair_count, pair_number, refl, same_test, size, some_of, some_root, sym, true, ℕ, ◌+◌, ◌<◌, ◌∙◌, ◌≡◌, ◌≤◌}
 use Rattle.central_ext.proofs.PairLaws.{same_pair, same_pair_of, conjugate_is, conjugate_pair, conjugate_by, conjugate_itself, conjugate_back, carrier_of, pair_below, pair_of_number, number_of_pair}
 use Rattle.central_ext.proofs.ClassNumbers.{conjugate_to, first_unique}
 
@@ -57,18 +57,14 @@ module _ (s : TwistedSubgroup) (twist : IsTwist s) where
   reached_more t i u v below place e h = record {
     below = omega (arith, h.below);
     at_most = omega (arith, h.at_most);
-    conjugate = elim (cases_order u v) [
-      | inl same ↦ by u (omega arith) h.conjugate
-      | inr (inl less) ↦ by u (omega arith) h.conjugate
-      | inr (inr more) ↦ by v (omega arith) (rw e (reached_conjugate t i below place))
+    conjugate = elim (cases_lt u v) [
+      | inl less ↦ (let at : min u v ≡ u = omega arith in rw at h.conjugate)
+      | inr more ↦ (let at : min u v ≡ v = omega arith in rw (at, e) (reached_conjugate t i below place))
     ];
     least = below_more (λ c. min u v ≤ pair_number s (ext_conjugate s (over c) (pair_at s t))) i
         (λ c less. omega (arith, h.least c less))
         (omega (arith, e));
   }
-    where
-      by : (w : ℕ) → min u v ≡ w → conjugate_to s t w ≡ true → conjugate_to s t (min u v) ≡ true
-      by w at shows = ap (conjugate_to s t) at ∙ shows
 
   -- the least of all is the first of the class
   pub reached_first : (t u : ℕ) → t < pair_count s → IsLeastReached s t (size s) u → u ≡ first_of_class s t

@@ -1,5 +1,5 @@
 -- The extension of a group by roots of unity that a normalised 2-cocycle gives, over groups whose elements are a type (Schur 1904).
-use Rattle.central_ext.proofs.Names.{Below, Group, IsConjugationPhase, IsTwoCocycle, Same, arith, below_equal, carry, carry_move, mod-eq_of_lt, mod-lt, op_cancel_right, same_add, same_lin, same_mod, same_multiple, same_of, same_sym, same_trans, sym, ℕ, ◌%◌, ◌*◌, ◌+◌, ◌-◌, ◌<◌, ◌∙◌, ◌≡◌}
+use Rattle.central_ext.proofs.Names.{Below, Group, IsConjugationPhase, IsTwoCocycle, Same, arith, below_equal, carry, carry_move, mod-eq_of_lt, mod-lt, op_cancel_right, same_add, same_lin, same_mod, same_multiple, same_sym, sym, ℕ, ◌%◌, ◌*◌, ◌+◌, ◌-◌, ◌<◌, ◌∙◌, ◌≡◌}
 
 -- an element of the group, and an exponent modulo n
 pub record Lift (G : Type 0) (n : ℕ) : Type 0 where
@@ -13,13 +13,7 @@ lift_equal a b e f = λ i. record { over = e i; root = f i }
 pub negative : (n v : ℕ) → 0 < n → Same n ((n - v % n) % n + v) 0
 negative n v positive =
     let below : v % n < n = mod-lt v positive in
-    let whole : n - v % n + v % n ≡ 1 * n = by (v % n) below in
-    same_lin n ((n - v % n) % n + v) 0 _ _
-    (same_add (same_mod n (n - v % n)) (same_add (same_sym (same_mod n v)) (same_trans (same_of n whole) (same_multiple n 1))))
-    (omega arith)
-  where
-    by : (r : ℕ) → r < n → n - r + r ≡ 1 * n
-    by r below = omega arith
+    same_lin n ((n - v % n) % n + v) 0 _ _ (same_add (same_mod n (n - v % n)) (same_add (same_sym (same_mod n v)) (same_multiple n 1))) (omega arith)
 
 module _ {G : Type 0} (P : Group G) (n : ℕ) (positive : 0 < n) (t : G → G → ℕ) (T : IsTwoCocycle P n t) where
   abbrev pub reduced : ℕ → Below n

@@ -1,9 +1,9 @@
 -- The names of the standard library, of the crates below and of the definitions that the proofs use.
 pub use Rattle.std.proofs.Common.{Bool, List, None, Some, [], add-one, add-suc, add-zero, ap, arith, cond, eq-eqb, eq-or-lt_of_le, eqb-true, false, get_or, inl, inr, length, length-append, lit<, lit≤, min, nat_eq, nat_lt, refl, subst, suc, sym, true, zero, ℕ, ◌%◌, ◌&&◌, ◌*◌, ◌++◌, ◌+◌, ◌-◌, ◌/◌, ◌<◌, ◌↔◌, ◌∙◌, ◌∷◌, ◌≡◌, ◌≢◌, ◌≤◌, ◌⊎◌}
-pub use Rattle.std.proofs.Math.Nat.{div-lt_iff_lt-mul, mod-eq_of_lt, mod-lt, mul-le-mul_right}
-pub use Rattle.std.proofs.lemmas.Bool.{cases_order, ltb-true, ne_eqb}
+pub use Rattle.std.proofs.Math.Nat.{div-lt_iff_lt-mul, mod-eq_of_lt, mod-lt}
+pub use Rattle.std.proofs.lemmas.Bool.{cases_lt, cases_order, ltb-true, ne_eqb}
 pub use Rattle.std.proofs.lemmas.List.{get_or_append_left, get_or_push}
-pub use Rattle.std.proofs.lemmas.Nat.{div-add-mod', div-mul-add, mod-mul-add}
+pub use Rattle.std.proofs.lemmas.Nat.{div-add-mod', div-mul-add, mod-mul-add, mul-add-lt}
 pub use Rattle.std.specs.Prelude.{is_some, unwrap_or}
 pub use borrow.Author.Count.{below_more}
 pub use Rattle.algebra.proofs.CongruenceLaws.{same_add, same_add_left, same_equal, same_lin, same_mod, same_multiple, same_of, same_sym, same_trans}

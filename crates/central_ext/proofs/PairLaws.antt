@@ -1,5 +1,5 @@
 -- The pairs of a twist are the lifts of its places: the laws of the extension, and its conjugacy.
-use Rattle.central_ext.proofs.Names.{Below, Bool, Group, IsPair, IsTwist, None, Pair, Some, TwistedSubgroup, and_true, ap, are_conjugate, arith, carry, carry_back, carry_is, carry_one, carry_op, carry_value, cond, conjugate, div-add-mod', div-lt_iff_lt-mul, div-mul-add, eq-eqb, eqb-true, ext_conjugate, ext_identity, ext_inverse, ext_product, first_finds, is_same_pair, is_some_of, kappa, kappa_at, kappa_phase, least_passing, mod-lt, mod-mul-add, mul-le-mul_right, nat_eq, pair_at, pair_count, pair_number, phase_at, phases_cocycle, place_group, refl, size, some_of, some_root, sym, true, ℕ, ◌%◌, ◌*◌, ◌+◌, ◌<◌, ◌∙◌, ◌≡◌, ◌≤◌}
+use Rattle.central_ext.proofs.Names.{Below, Bool, Group, IsPair, IsTwist, None, Pair, Some, TwistedSubgroup, and_true, ap, are_conjugate, arith, carry, carry_back, carry_is, carry_one, carry_op, carry_value, cond, conjugate, div-add-mod', div-lt_iff_lt-mul, div-mul-add, eq-eqb, eqb-true, ext_conjugate, ext_identity, ext_inverse, ext_product, first_finds, is_same_pair, is_some_of, kappa, kappa_at, kappa_phase, least_passing, mod-lt, mod-mul-add, mul-add-lt, nat_eq, pair_at, pair_count, pair_number, phase_at, phases_cocycle, place_group, refl, size, some_of, some_root, sym, true, ℕ, ◌%◌, ◌*◌, ◌+◌, ◌<◌, ◌∙◌, ◌≡◌, ◌≤◌}
 use Rattle.central_ext.proofs.Lifts.{Lift, lifts, carry_lift}
 
 -- pairs with one place and one root are one
@@ -68,9 +68,7 @@ module _ (s : TwistedSubgroup) (twist : IsTwist s) where
 
   -- pairs and their numbers
   pub number_below : (a : Pair) → IsPair s a → pair_number s a < pair_count s
-  number_below a p =
-      let rows : (a.place + 1) * s.modulus ≤ size s * s.modulus = mul-le-mul_right s.modulus (omega (arith, p.place_below)) in
-      omega (arith, rows, p.root_below)
+  number_below a p = omega (arith, mul-add-lt a.place s.modulus a.root (size s) p.place_below p.root_below)
 
   pub pair_of_number : (a : Pair) → IsPair s a → pair_at s (pair_number s a) ≡ a
   pair_of_number a p = pair_equal (div-mul-add a.place s.modulus a.root p.root_below) (mod-mul-add a.place s.modulus a.root p.root_below)

@@ -43,6 +43,9 @@ module _ (s : TwistedSubgroup) (twist : IsTwist s) where
       (sym (product_associates s twist (ext_power s a (2 * j)) a a (power_pair a (2 * j) p) p p))
 
   -- (a a)^(j/2) is a^j, or one factor a less
+  pub power_none : (a : Pair) (j : ℕ) → j ≡ 0 → ext_power s a j ≡ ext_identity s
+  power_none a j e = rw e (ext_power-zero s a)
+
   pub power_even : (a : Pair) (j : ℕ) → IsPair s a → j % 2 ≡ 0 → ext_power s (ext_product s a a) (j / 2) ≡ ext_power s a j
   power_even a j p e = power_of_square a (j / 2) p ∙ ap (ext_power s a) (omega arith)
 
@@ -63,9 +66,6 @@ module _ (s : TwistedSubgroup) (twist : IsTwist s) where
   pub phase_of_sum : (p i j : ℕ) → p < size s
       → power_phase s p (i + j) ≡ (power_phase s p i + power_phase s p j + phase s (place_power s p i) (place_power s p j)) % s.modulus
   phase_of_sum p i j below =
-      let lift : Pair = record { place = p; root = 0 } in
       ap (λ (a : Pair). a.root)
-      (sym (power_of_lift p (i + j) below)
-      ∙ power_sum lift i j (record { place_below = below; root_below = some_root s twist })
-      ∙ ap (λ a. ext_product s a (ext_power s lift j)) (power_of_lift p i below)
-      ∙ ap (ext_product s (record { place = place_power s p i; root = power_phase s p i })) (power_of_lift p j below))
+      (rw (power_of_lift p (i + j) below, power_of_lift p i below, power_of_lift p j below) at
+      (power_sum (record { place = p; root = 0 }) i j (record { place_below = below; root_below = some_root s twist })))

@@ -9,6 +9,7 @@ use crate::pair::Pair;
 use twisted::Twist;
 
 /// The product of `j` factors `a`.
+#[tactic(auto, using(crate::proofs::PairPowers::power_none, crate::proofs::PairPowers::power_even, crate::proofs::PairPowers::power_odd))]
 fn ext_power(twist: &Twist, a: Pair, j: u32) -> Pair
     requires a { IsPair twist.now a }
     ensures power { result ≡ ext_power twist.now a j }
@@ -28,6 +29,7 @@ fn ext_power(twist: &Twist, a: Pair, j: u32) -> Pair
 
 /// The phase of the power `u_p^j` in the twisted group algebra: `u_p^j` is the root with this exponent times `u_q`, where `q` is the place
 /// `p^j`. It is below the modulus, and 0 for `j = 0`.
+#[tactic(auto, using(crate::proofs::PairPowers::power_of_lift))]
 pub fn power_phase(twist: &Twist, p: u32, j: u32) -> u32
     requires p_below { p < size twist.now }
     ensures phase { result ≡ power_phase twist.now p j }
