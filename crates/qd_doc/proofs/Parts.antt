@@ -130,25 +130,13 @@ module _ (phi : ℕ) (s : State) (text : List ℕ) (part : Part) where
     pub same : (words : List (List ℕ)) → whole phi s (text ∷ words) ≡ whole phi next words
     pub place : HasPlace part (blocks_in s)
 
--- ---- what a word says
-
-module _ (phi start : ℕ) where
-  abbrev token_of : List ℕ → Lexeme
-  token_of text = record { start = start; text = text }
-
-  pub class_fits : (stage : Stage) → IsWordStage stage → refusal (kind_after phi stage) (token_of (codes "class")) ≡ None
-  unfolding refusal
-  class_fits stages.Conductor other = refl
-  class_fits stages.Class other = absurd (other refl)
-  class_fits stages.Number other = refl
-  class_fits stages.Row other = refl
-
-  pub end_fits : (stage : Stage) → IsWordStage stage → refusal (kind_after phi stage) (token_of (codes "end")) ≡ None
-  unfolding refusal
-  end_fits stages.Conductor other = refl
-  end_fits stages.Class other = absurd (other refl)
-  end_fits stages.Number other = refl
-  end_fits stages.Row other = refl
+pub words_fit : (phi start : ℕ) (stage : Stage) → IsWordStage stage
+    → (refusal (kind_after phi stage) (record { start = start; text = codes "class" }) ≡ None) × (refusal (kind_after phi stage) (record { start = start; text = codes "end" }) ≡ None)
+unfolding refusal
+words_fit phi start stages.Conductor is = (refl, refl)
+words_fit phi start stages.Class is = absurd (is refl)
+words_fit phi start stages.Number is = (refl, refl)
+words_fit phi start stages.Row is = (refl, refl)
 
 -- ---- one token
 

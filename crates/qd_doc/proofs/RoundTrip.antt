@@ -6,7 +6,7 @@ use Rattle.qd_doc.specs.declared.part.Stage.TheVariants as stages
 use Rattle.qd_doc.specs.declared.part.Part.TheVariants as parts
 use Rattle.qd_doc.proofs.Entries.{small_entry}
 use Rattle.qd_doc.proofs.Loops.{blocks_step}
-use Rattle.qd_doc.proofs.Parts.{IsWordStage, word_said, class_fits, end_fits}
+use Rattle.qd_doc.proofs.Parts.{IsWordStage, word_said, words_fit}
 use Rattle.qd_doc.proofs.LastRows.{with_row_is, with_value_is}
 use Rattle.qd_doc.specs.declared.refusal.DocRefusal.TheVariants as refusals
 use Rattle.qd_doc.proofs.Places.{Reads}
@@ -142,12 +142,11 @@ word-same [] = refl
 word-same (byte ∷ word) = rw (eq-eqb byte byte refl, word-same word) refl
 
 -- a token with this text is plain, and isn't refused, wherever it stands
-record Fits (kind : What) (word : List ℕ) : Type 0 where
-  word_plain : is_plain word ≡ true
-  fits : (start : ℕ) → refusal kind (record { start = start; text = word }) ≡ None
+abbrev Fits : What → List ℕ → Type 0
+Fits kind word = (is_plain word ≡ true) × ((start : ℕ) → refusal kind (record { start = start; text = word }) ≡ None)
 
 number_fits : (kind : What) (n : ℕ) → n < 2 ^ 32 → ((start : ℕ) → refusal kind (record { start = start; text = decimal n }) ≡ None) → Fits kind (decimal n)
-number_fits kind n small fits = record { word_plain = plain-decimal n (omega arith); fits = fits }
+number_fits kind n small fits = (plain-decimal n (omega arith), fits)
 
 natural_fits : (n : ℕ) → n < 2 ^ 32 → Fits Natural (decimal n)
 unfolding refusal
@@ -164,19 +163,19 @@ module _ (offset : ℕ) where
   token_by view kind word words fits [] e = absurd cc
   token_by view kind word words fits (token ∷ left) e =
       let same : token.text ≡ word = cc in
-      let fit : refusal kind token ≡ None = subst (λ (v : List ℕ). refusal kind (record { start = token.start; text = v }) ≡ None) (sym same) (fits.fits token.start) in
+      let fit : refusal kind token ≡ None = subst (λ (v : List ℕ). refusal kind (record { start = token.start; text = v }) ≡ None) (sym same) (fits.1 token.start) in
       (left, rw (fit, same) refl, cc)
 
   token_taken : {A : Type 0} (view : List ℕ → A) (kind : What) (word : List ℕ) (words : List (List ℕ)) → Fits kind word
       → Takes (λ left. read view offset kind left) (word ∷ words) words (λ rest. (view word, rest))
-  token_taken view kind word words fits = record { took = token_by view kind word words fits; all_plain = λ all. rw (fits.word_plain, all) refl }
+  token_taken view kind word words fits = record { took = token_by view kind word words fits; all_plain = λ all. rw (fits.0, all) refl }
 
   skip_taken : (kind : What) (word : List ℕ) (words : List (List ℕ)) → Fits kind word → Takes (λ left. skip offset kind left) (word ∷ words) words (λ rest. rest)
   skip_taken kind word words fits = takes_then _ (token_taken (λ text. text) kind word words fits) (takes_none words (λ rest. rest))
 
   word_taken : (expected : Expected) (words : List (List ℕ)) → is_plain (word_of expected) ≡ true → Takes (λ left. skip offset (Word expected) left) (word_of expected ∷ words) words (λ rest. rest)
   unfolding refusal
-  word_taken expected words plain = skip_taken (Word expected) (word_of expected) words (record { word_plain = plain; fits = λ start. rw (word-same (word_of expected)) refl })
+  word_taken expected words plain = skip_taken (Word expected) (word_of expected) words (plain, λ start. rw (word-same (word_of expected)) refl)
 
   number_taken : (kind : What) (n : ℕ) (words : List (List ℕ)) → n < 2 ^ 32 → ((start : ℕ) → refusal kind (record { start = start; text = decimal n }) ≡ None)
       → Takes (λ left. read_number offset kind left) (decimal n ∷ words) words (λ rest. (n, rest))
@@ -187,7 +186,7 @@ module _ (offset : ℕ) where
   unfolding read_numbers
   numbers_taken [] words small = takes_none words (λ rest. ([], rest))
   numbers_taken (n ∷ numbers) words small =
-      takes_then _ (number_taken Natural n (map decimal numbers ++ words) small.0 (natural_fits n small.0).fits)
+      takes_then _ (number_taken Natural n (map decimal numbers ++ words) small.0 (natural_fits n small.0).1)
       (takes_then _ (numbers_taken numbers words small.1) (takes_none words (λ rest. (n ∷ numbers, rest))))
 
   order_taken : (n : ℕ) (words : List (List ℕ)) → IsBetween 1 60 n
@@ -212,11 +211,11 @@ module _ (offset : ℕ) where
       → Takes (λ left. read_exponents offset n left) (exponent_words b roots exponents ++ words) words (λ rest. (reduced roots exponents, rest))
   unfolding read_exponents exponent_words refusal
   exponents_taken n roots exponents true words trivial len within =
-      takes_then _ (token_taken listing_of FormWord (codes "trivial") words (record { word_plain = refl; fits = λ start. refl }))
+      takes_then _ (token_taken listing_of FormWord (codes "trivial") words (refl, λ start. refl))
       (rw (reduced-trivial roots exponents trivial, len) (takes_none words (λ rest. (replicate (n * n * n) 0, rest))))
   exponents_taken n roots exponents false words trivial len within =
       let count : length (reduced roots exponents) ≡ n * n * n = length-map exponents (λ exponent. exponent % roots) ∙ len in
-      takes_then _ (token_taken listing_of FormWord (codes "dense") (map decimal (reduced roots exponents) ++ words) (record { word_plain = refl; fits = λ start. refl }))
+      takes_then _ (token_taken listing_of FormWord (codes "dense") (map decimal (reduced roots exponents) ++ words) (refl, λ start. refl))
       (rw count at (numbers_taken (reduced roots exponents) words (small-reduced roots exponents within)))
 
   nothing_by : (left : List Lexeme) → map text left ≡ [] → (rest : List Lexeme) × (skip offset NoToken left ≡ Ok []) × (map text rest ≡ [])
@@ -251,7 +250,7 @@ module _ (offset : ℕ) where
     values_taken front number rows done [] words all are on = rw append-nil at on
     values_taken front number rows done (v ∷ values) words all are on =
         let is = All-head (IsValueOf k) v values are in
-        part_taken stages.Row _ all (value_text v) (map value_text values ++ words) (parts.Value (plain v)) (record { word_plain = plain-value v; fits = value_fits k entry v is }) (value_said k entry v is)
+        part_taken stages.Row _ all (value_text v) (map value_text values ++ words) (parts.Value (plain v)) (plain-value v, value_fits k entry v is) (value_said k entry v is)
         (rw (with_value_is front number rows done v)
         (values_taken front number rows (done ++ v ∷ []) values words all (All-tail (IsValueOf k) v values are) (rw (append_assoc done (v ∷ []) values) on)))
 
@@ -268,7 +267,7 @@ module _ (offset : ℕ) where
         (part_taken stage _ all (codes "row") _ parts.Row fits (word_said phi stage (codes "row") is refl)
         (rw (with_row_is front number done)
         (values_taken front number done [] row (words_in (map row_words rows) ++ words) all (All-head each row rows are)
-        (rows_taken stages.Row front number (done ++ row ∷ []) rows words all (λ e. absurd cc) (record { word_plain = refl; fits = λ start. refl }) (All-tail each row rows are)
+        (rows_taken stages.Row front number (done ++ row ∷ []) rows words all (λ e. absurd cc) (refl, λ start. refl) (All-tail each row rows are)
         (rw (append_assoc done (row ∷ []) rows) on)))))
 
     -- the blocks up to the end
@@ -276,7 +275,7 @@ module _ (offset : ℕ) where
         → Grows stage front (words_in (flat_map block_lines blocks) ++ codes "end" ∷ []) (front ++ blocks)
     unfolding refusal
     blocks_taken stage front [] is small are =
-        part_taken stage front _ (codes "end") [] parts.End (record { word_plain = refl; fits = λ start. end_fits phi start stage is }) (word_said phi stage (codes "end") is refl)
+        part_taken stage front _ (codes "end") [] parts.End (refl, λ start. (words_fit phi start stage is).1) (word_said phi stage (codes "end") is refl)
         (rw (append-nil front) (takes_none [] (λ rest. (front, rest))))
     blocks_taken stage front (b ∷ blocks) is small are =
         let n = b.representative in
@@ -284,16 +283,16 @@ module _ (offset : ℕ) where
         let number : parts.Number (value (decimal n)) ≡ parts.Number n = ap parts.Number (decimal_spells n (omega (arith, narrow))).value_is in
         let rest = words_in (flat_map block_lines blocks) ++ codes "end" ∷ [] in
         rw (words_in-append (map row_words b.rows) (flat_map block_lines blocks), append_assoc (words_in (map row_words b.rows)) (words_in (flat_map block_lines blocks)) (codes "end" ∷ []))
-        (part_taken stage front _ (codes "class") _ parts.Class (record { word_plain = refl; fits = λ start. class_fits phi start stage is }) (word_said phi stage (codes "class") is refl)
+        (part_taken stage front _ (codes "class") _ parts.Class (refl, λ start. (words_fit phi start stage is).0) (word_said phi stage (codes "class") is refl)
         (part_taken stages.Class front _ (decimal n) _ (parts.Number n) (natural_fits n narrow) number
-        (rows_taken stages.Number front n [] b.rows rest _ (λ e. absurd cc) (record { word_plain = refl; fits = λ start. refl }) (All-head (HasValues k) b blocks are)
+        (rows_taken stages.Number front n [] b.rows rest _ (λ e. absurd cc) (refl, λ start. refl) (All-head (HasValues k) b blocks are)
         (λ later word. rw (append_assoc front (b ∷ []) blocks) at (blocks_taken later (front ++ b ∷ []) blocks word (All-tail HasSmallNumber b blocks small) (All-tail (HasValues k) b blocks are))))))
 
   characters_taken : (characters : Option Given) → IfSome characters IsGivenInRange → IfSome characters (λ given. All HasSmallNumber given.blocks)
       → Takes (λ left. read_characters offset (form_of characters) left) (last_words characters) [] (λ rest. characters)
   unfolding read_characters read_end read_given last_words characters_lines refusal
   characters_taken None in_range small =
-      takes_then _ (takes_then _ (skip_taken EndWord (codes "end") [] (record { word_plain = refl; fits = λ start. refl })) nothing_taken) (takes_none [] (λ rest. None))
+      takes_then _ (takes_then _ (skip_taken EndWord (codes "end") [] (refl, λ start. refl)) nothing_taken) (takes_none [] (λ rest. None))
   characters_taken (Some given) in_range small =
       let k = given.conductor in
       let narrow : k < 2 ^ 32 = omega (arith, small_entry k in_range.conductor) in

@@ -1,5 +1,5 @@
 -- What is read has the shape of a document: its numbers are in their ranges, and its lists have their lengths.
-use Rattle.qd_doc.proofs.Names.{All, Bare, Block, DocRefusal, Document, Err, Form, IfSome, IsGivenInRange, IsInRange, IsRead, IsValueOf, Lexeme, List, None, Ok, Plain, Result, Some, ValueFault, WithCharacters, [], ap, arith, block_of, blocks_of, characters_of, codes, coefficients, document_of, drop, drop-replicate, eq-eqb, exponents_end, is_array, is_conductor, is_nought, length, list_all, map, nought_small, number_at, phi_of, pieces, plain_or_zeros, pos, read, read_document, refl, replicate, stop_of, subst, suc, sym, tokens, true, value_of, words_before, zero, ℕ, ℤ, ◌+◌, ◌-◌, ◌==◌, ◌∙◌, ◌∷◌, ◌≡◌}
+use Rattle.qd_doc.proofs.Names.{All, All-map, Bare, Block, DocRefusal, Document, Err, Form, IfSome, IsGivenInRange, IsInRange, IsRead, IsValueOf, Lexeme, List, None, Ok, Plain, Result, Some, ValueFault, WithCharacters, [], arith, block, block_of, blocks_of, characters_of, codes, coefficients, document_of, drop, drop-replicate, eq-eqb, exponents_end, get_or, is_array, is_conductor, is_nought, length, list_all, map, nought_small, number_at, phi_of, pieces, plain_or_zeros, pos, read, read_document, refl, replicate, rows, stop_of, subst, suc, sym, text, tokens, true, value_of, words_before, zero, ℕ, ℤ, ◌+◌, ◌-◌, ◌∙◌, ◌∷◌, ◌≡◌}
 use Rattle.qd_doc.proofs.Entries.{few_coefficients}
 use Rattle.qd_doc.proofs.ValueWords.{value_read}
 use Rattle.qd_doc.proofs.Places.{Reads}
@@ -13,21 +13,13 @@ shape_of form bytes (Err stop) read lawful = absurd (let wrong : None ≡ Some s
 
 -- ---- values
 
-all_map : {X Y : Type 0} (P : Y → Type 0) (f : X → Y) → ((x : X) → P (f x)) → (xs : List X) → All P (map f xs)
-all_map P f each [] k d within = absurd (omega arith)
-all_map P f each (x ∷ xs) zero d within = each x
-all_map P f each (x ∷ xs) (suc k) d within = all_map P f each xs k d (omega arith)
-
 noughts : (n : ℕ) → list_all is_nought (replicate n (pos 0)) ≡ true
 noughts zero = refl
 noughts (suc n) = noughts n
 
 array_by : (k : ℕ) (cs : List ℤ) → length cs ≡ 42 → drop (phi_of k) cs ≡ replicate (42 - phi_of k) (pos 0) → is_array k cs ≡ true
 unfolding is_array
-array_by k cs count ends =
-    let long : length cs == 42 ≡ true = eq-eqb (length cs) 42 count in
-    let zeros : list_all is_nought (drop (phi_of k) cs) ≡ true = ap (list_all is_nought) ends ∙ noughts (42 - phi_of k) in
-    rw (long, zeros) refl
+array_by k cs count ends = rw (eq-eqb (length cs) 42 count, ends) (noughts (42 - phi_of k))
 
 module _ (k : ℕ) (entry : is_conductor k ≡ true) where
   value_by : (text : List ℕ) (r : Result Plain ValueFault) → IsRead text (phi_of k) r → IsValueOf k (plain_or_zeros r)
@@ -37,16 +29,20 @@ module _ (k : ℕ) (entry : is_conductor k ≡ true) where
   is_value : (text : List ℕ) → IsValueOf k (coefficients (phi_of k) text)
   is_value text = value_by text (value_of (phi_of k) text) (value_read (phi_of k) text (few_coefficients k entry))
 
+  row_values : (row : List (List ℕ)) → All (IsValueOf k) (map (coefficients (phi_of k)) row)
+  row_values row = All-map (IsValueOf k) (coefficients (phi_of k)) row (λ i d within. is_value (get_or row i d))
+
   block_values : (words : List (List ℕ)) → All (λ row. All (IsValueOf k) row) (block_of (phi_of k) words).rows
   block_values [] = λ i d within. absurd (omega arith)
   block_values (number ∷ words) =
-      all_map (λ row. All (IsValueOf k) row) (λ row. map (coefficients (phi_of k)) row)
-      (λ row. all_map (IsValueOf k) (coefficients (phi_of k)) is_value row) (pieces (codes "row") words)
+      let rows = pieces (codes "row") words in
+      All-map (λ row. All (IsValueOf k) row) (λ row. map (coefficients (phi_of k)) row) rows (λ i d within. row_values (get_or rows i d))
 
   blocks_values : (words : List (List ℕ)) → All (λ (block : Block). All (λ row. All (IsValueOf k) row) block.rows) (blocks_of (phi_of k) words)
   unfolding blocks_of
   blocks_values words =
-      all_map (λ (block : Block). All (λ row. All (IsValueOf k) row) block.rows) (block_of (phi_of k)) block_values (pieces (codes "class") (words_before (codes "end") words))
+      let blocks = pieces (codes "class") (words_before (codes "end") words) in
+      All-map (λ (block : Block). All (λ row. All (IsValueOf k) row) block.rows) (block_of (phi_of k)) blocks (λ i d within. block_values (get_or blocks i d))
 
 characters_in_range : (form : Form) (all : List Lexeme) → HasConductor (characters_of form all) → IfSome (characters_of form all) IsGivenInRange
 unfolding characters_of
