@@ -1,5 +1,5 @@
 -- Lines of numbers, written one after the other.
-use Rattle.qd_doc.proofs.Names.{Block, Document, List, [], ap, append-nil, append_assoc, arith, block_lines, canonical_lines, canonical_text, characters_lines, codes, decimal, drop, flat_map, flat_map-append, flat_map-cons, get_or, length, line, map, map-append, omega_lines, refl, row_words, rows, suc, sym, take, take_all, take_more, value_text, ℕ, ℤ, ◌*◌, ◌++◌, ◌+◌, ◌-◌, ◌<◌, ◌∙◌, ◌∷◌, ◌≡◌, ◌≤◌}
+use Rattle.qd_doc.proofs.Names.{Block, Document, List, [], ap, append-nil, append_assoc, arith, block_lines, canonical_lines, canonical_text, characters_lines, codes, decimal, drop, flat_map, flat_map-append, flat_map-cons, get_or, length, line, map, map-append, omega_lines, row_words, rows, suc, sym, take, take_all, take_more, text, value_text, ℕ, ℤ, ◌*◌, ◌++◌, ◌+◌, ◌-◌, ◌<◌, ◌∙◌, ◌∷◌, ◌≡◌, ◌≤◌}
 
 -- numbers that follow another in a line
 abbrev pub spaced : List ℕ → List ℕ
@@ -22,34 +22,23 @@ spaced_more old text numbers i within so_far =
 pub spaced_all : (old text numbers : List ℕ) (i : ℕ) → length numbers ≤ i → text ≡ old ++ spaced (take i numbers) → text ≡ old ++ spaced numbers
 spaced_all old text numbers i all so_far = rw (take_all i numbers all) at so_far
 
-rows-suc : (count width : ℕ) (numbers : List ℕ) → rows (suc count) width numbers ≡ map decimal (take width numbers) ∷ rows count width (drop width numbers)
-unfolding rows
-rows-suc count width numbers = refl
-
-rows-zero : (width : ℕ) (numbers : List ℕ) → rows 0 width numbers ≡ []
-unfolding rows
-rows-zero width numbers = refl
-
 -- one more row
 pub rows_more : (text total : List ℕ) (count i width : ℕ) (numbers : List ℕ) → i < count
     → text ++ flat_map line (rows (count - i) width numbers) ≡ total
     → (text ++ line (map decimal (take width numbers))) ++ flat_map line (rows (count - (i + 1)) width (drop width numbers)) ≡ total
+unfolding rows
 rows_more text total count i width numbers listed so_far =
     let k : count - i ≡ suc (count - (i + 1)) = omega arith in
-    append_assoc text (line (map decimal (take width numbers))) (flat_map line (rows (count - (i + 1)) width (drop width numbers)))
-    ∙ ap (λ lines. text ++ lines) (sym (flat_map-cons line (map decimal (take width numbers)) (rows (count - (i + 1)) width (drop width numbers))))
-    ∙ ap (λ lines. text ++ flat_map line lines) (sym (rows-suc (count - (i + 1)) width numbers))
-    ∙ ap (λ n. text ++ flat_map line (rows n width numbers)) (sym k)
-    ∙ so_far
+    let row = map decimal (take width numbers) in
+    append_assoc text (line row) (flat_map line (rows (count - (i + 1)) width (drop width numbers)))
+    ∙ (rw (k, flat_map-cons line row (rows (count - (i + 1)) width (drop width numbers))) at so_far)
 
 pub rows_all : (text total : List ℕ) (count i width : ℕ) (numbers : List ℕ) → count ≤ i
     → text ++ flat_map line (rows (count - i) width numbers) ≡ total → text ≡ total
+unfolding rows
 rows_all text total count i width numbers all so_far =
     let k : count - i ≡ 0 = omega arith in
-    sym (append-nil text)
-    ∙ ap (λ lines. text ++ flat_map line lines) (sym (rows-zero width numbers))
-    ∙ ap (λ n. text ++ flat_map line (rows n width numbers)) (sym k)
-    ∙ so_far
+    sym (append-nil text) ∙ (rw k at so_far)
 
 -- how many numbers are left after a row
 pub rows_left : (left width count i : ℕ) → i < count → left ≡ (count - i) * width → left - width ≡ (count - (i + 1)) * width

@@ -1,5 +1,6 @@
 -- What may stand at each place of a document, run after run.
-use Rattle.qd_doc.proofs.Names.{Bool, Form, Lexeme, List, Natural, One, OrderNumber, Qdouble, Run, Table, What, Word, [], ap, append_assoc, arith, codes, cond, ending, entry_runs, expected, exponent_runs, false, front_runs, get_or-take, inl, inr, is_word, kind_at, le-ltb, length, length-take-le, lt-ltb, ltb-false, nat_lt, number_at, once, refl, runs_after, suc, sum_by, sum_by-append, sum_by-cons, sym, take, text_at, times, true, value, ℕ, ◌*◌, ◌++◌, ◌+◌, ◌-◌, ◌<◌, ◌∙◌, ◌∷◌, ◌≡◌, ◌≤◌, ◌⊎◌}
+use Rattle.qd_doc.proofs.Names.{Bool, Form, Lexeme, List, Natural, One, OrderNumber, Qdouble, Run, Table, What, Word, [], ap, append_assoc, arith, codes, cond, ending, entry_runs, expected, exponent_runs, false, front_runs, get_or-take, inl, inr, is_word, kind_at, le-ltb, length, length-take-le, lt-ltb, ltb-false, nat_lt, number_at, once, refl, runs_after, suc, sum_by, sum_by-append, sum_by-cons, sym, take, text, text_at, times, true, value, ℕ, ◌*◌, ◌++◌, ◌+◌, ◌-◌, ◌<◌, ◌∙◌, ◌∷◌, ◌≡◌, ◌≤◌, ◌⊎◌}
+use Rattle.std.proofs.lemmas.Bool.Decides.{nat_tests}
 use Rattle.qd_text.specs.declared.expected.Expected.TheVariants.{Order}
 
 -- how many tokens these runs are
@@ -36,12 +37,10 @@ below_or_not place n = grind arith
 -- a place past the first token of the first run
 pub kind_at-next : (count k : ℕ) (kind : What) (runs : List Run) (later : ℕ → What)
     → kind_at (times (suc count) kind ∷ runs) later (suc k) ≡ kind_at (times count kind ∷ runs) later k
-kind_at-next count k kind runs later = elim (below_or_not k count) [
-  | inl within ↦
-      kind_at-within (suc count) kind runs later (suc k) (omega arith) ∙ sym (kind_at-within count kind runs later k within)
-  | inr past ↦
-      past_by (suc k) (suc count) (k - count) kind runs later (omega arith) ∙ sym (past_by k count (k - count) kind runs later (omega arith))
-]
+kind_at-next count k kind runs later =
+    let test : nat_lt (suc k) (suc count) ≡ nat_lt k count = grind (arith, nat_tests) in
+    let rest : suc k - suc count ≡ k - count = omega arith in
+    rw (kind_at-cons (times (suc count) kind) runs later (suc k), kind_at-cons (times count kind) runs later k, test, rest) refl
 
 cond_same : {A : Type 0} (b : Bool) (x y z : A) → (b ≡ false → y ≡ z) → cond b x y ≡ cond b x z
 cond_same true x y z h = refl

@@ -1,12 +1,8 @@
 -- Entries of a sparse list, put one after the other into a list of exponents.
-use Rattle.qd_doc.proofs.Names.{Bool, Lexeme, List, None, Option, ap, arith, entry_at, eq-eqb, eqb-false, eqb-true, false, fill_by_all, get_or-map-range_with_len, get_or-set_at, get_or-set_other, inl, inr, last_below, length, length-map-range_with_len, length-set, map, nat_eq, ne_eqb, number_at, option_or, range_with_len, refl, replicate, slice_set, sparse_exponents, suc, sym, true, unwrap_or, zero, zero-add, ℕ, ◌*◌, ◌+◌, ◌<◌, ◌∙◌, ◌≡◌, ◌≢◌, ◌⊎◌}
-
-by_test : (p k : ℕ) (b : Bool) → nat_eq p k ≡ b → (p ≡ k) ⊎ (p ≢ k)
-by_test p k true e = inl (eqb-true p k e)
-by_test p k false e = inr (eqb-false p k e)
+use Rattle.qd_doc.proofs.Names.{Lexeme, List, ap, arith, entry_at, eq-eqb, fill_by_all, get_or-map-range_with_len, get_or-set_at, get_or-set_other, inl, inr, last_below, length, length-map-range_with_len, length-set, map, ne_eqb, number_at, range_with_len, refl, replicate, slice_set, sparse_exponents, suc, sym, unwrap_or, zero, zero-add, ℕ, ◌*◌, ◌+◌, ◌<◌, ◌∙◌, ◌≡◌, ◌≢◌, ◌⊎◌}
 
 same_or_other : (p k : ℕ) → (p ≡ k) ⊎ (p ≢ k)
-same_or_other p k = by_test p k (nat_eq p k) refl
+same_or_other p k = grind arith
 
 -- a list made from a function, with one item set, is made from the function that differs there
 set-map_range : (f g : ℕ → ℕ) (m k v : ℕ) → g k ≡ v → ((p : ℕ) → p ≢ k → g p ≡ f p) → slice_set (map f (range_with_len 0 m)) k v ≡ map g (range_with_len 0 m)
@@ -22,25 +18,14 @@ set-map_range f g m k v here others =
           get_or-set_other made k p v 0 other ∙ get_or-map-range_with_len f 0 m p p 0 within (zero-add p) ∙ sym (others p other)
     ])
 
-last_below-suc : {A : Type 0} (n : ℕ) (at : ℕ → Option A) → last_below (suc n) at ≡ option_or (at n) (last_below n at)
-unfolding last_below
-last_below-suc n at = refl
-
-last_below-zero : {A : Type 0} (at : ℕ → Option A) → last_below 0 at ≡ None
-unfolding last_below
-last_below-zero at = refl
-
 -- the place that entry i names
 abbrev pub place_of : List Lexeme → ℕ → ℕ → ℕ
 place_of all n at = (number_at all at * n + number_at all (at + 1)) * n + number_at all (at + 2)
 
-other_key : (key place : ℕ) → place ≢ key → nat_eq key place ≡ false
-other_key key place other = ne_eqb key place (λ e. other (sym e))
-
 -- one more entry sets its place
 pub sparse_exponents-suc : (all : List Lexeme) (n start i : ℕ)
     → slice_set (sparse_exponents all n start i) (place_of all n (start + 4 * i)) (number_at all (start + 4 * i + 3)) ≡ sparse_exponents all n start (suc i)
-unfolding sparse_exponents
+unfolding sparse_exponents last_below
 sparse_exponents-suc all n start i =
     let at = start + 4 * i in
     let key = place_of all n at in
@@ -48,11 +33,8 @@ sparse_exponents-suc all n start i =
     (λ place. unwrap_or (last_below i (entry_at all n start place)) 0)
     (λ place. unwrap_or (last_below (suc i) (entry_at all n start place)) 0)
     (n * n * n) key (number_at all (at + 3))
-    (let e : nat_eq key key ≡ true = eq-eqb key key refl in
-    rw (last_below-suc i (entry_at all n start key), e) refl)
-    (λ place other.
-    let e : nat_eq key place ≡ false = other_key key place other in
-    rw (last_below-suc i (entry_at all n start place), e) refl)
+    (rw (eq-eqb key key refl) refl)
+    (λ place other. rw (ne_eqb key place (λ e. other (sym e))) refl)
 
 -- no entry, and all exponents are 0
 zeros-range : (a m : ℕ) (f : ℕ → ℕ) → ((p : ℕ) → f p ≡ 0) → replicate m 0 ≡ map f (range_with_len a m)
@@ -60,7 +42,7 @@ zeros-range a zero f zeros = refl
 zeros-range a (suc m) f zeros = rw (zeros a, zeros-range (a + 1) m f zeros) refl
 
 pub sparse_exponents-zero : (all : List Lexeme) (n start : ℕ) → replicate (n * n * n) 0 ≡ sparse_exponents all n start 0
-unfolding sparse_exponents
+unfolding sparse_exponents last_below
 sparse_exponents-zero all n start =
     zeros-range 0 (n * n * n) (λ place. unwrap_or (last_below 0 (entry_at all n start place)) 0)
-    (λ place. ap (λ o. unwrap_or o 0) (last_below-zero (entry_at all n start place)))
+    (λ place. refl)
