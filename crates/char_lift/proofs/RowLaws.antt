@@ -1,21 +1,7 @@
 -- Rows that are put together value after value.
 use Rattle.char_lift.proofs.Names.{◌≡◌, ℕ, ◌+◌, ◌-◌, ◌<◌, List, [], ◌∷◌, ◌++◌, length, set, refl, ap, ◌∙◌, length-append, arith, set-append_seam, row_at, with_value, tabulated, tabulated-more}
+use Rattle.qd_ring.proofs.LastRows.{last_row, with_value_last}
 use Rattle.std.proofs.lemmas.List.{get_or_push}
-
-module _ {A : Type 0} (front : List (List A)) (row : List A) where
-  -- where the last row stands
-  pub last_place : length (front ++ row ∷ []) - 1 ≡ length front
-  last_place = omega (arith, length-append front (row ∷ []))
-
-  pub last_row : row_at (front ++ row ∷ []) (length (front ++ row ∷ []) - 1) ≡ row
-  last_row = ap (row_at (front ++ row ∷ [])) last_place ∙ get_or_push front row [] (length front) refl
-
-  -- a value at the end of the last row
-  pub with_value_last : (v : A) → with_value (front ++ row ∷ []) v ≡ front ++ (row ++ v ∷ []) ∷ []
-  with_value_last v =
-      ap (λ r. set (front ++ row ∷ []) (length (front ++ row ∷ []) - 1) (r ++ v ∷ [])) last_row
-      ∙ ap (λ n. set (front ++ row ∷ []) n (row ++ v ∷ [])) last_place
-      ∙ set-append_seam front row [] (row ++ v ∷ [])
 
 -- one more value of a row
 pub value_added : {A : Type 0} (front before after : List (List A)) (n : ℕ) (f : ℕ → A) (v : A) → before ≡ front ++ tabulated n f ∷ [] → after ≡ with_value before v → v ≡ f n

@@ -11,6 +11,7 @@ pub mod ValueLaws
 pub mod ValueOutcomeLaws
 pub mod BufferLaws
 pub mod RowSteps
+pub mod LastRows
 pub mod ReduceLaws
 pub mod SpreadLaws
 pub mod ProductLaws
