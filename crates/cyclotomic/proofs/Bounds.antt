@@ -73,40 +73,35 @@ module _ (k : ℕ) (entry : is_conductor k ≡ true) where
 pub sizes_overflow-front : {n : ℕ} (xs ys : List (Value n)) → sizes_overflow (xs ++ ys) ≡ false → sizes_overflow xs ≡ false
 unfolding sizes_overflow
 sizes_overflow-front {n} xs ys e =
-    let size : Value n → ℕ = λ u. value_size u in
-    le-ltb greatest_magnitude (sum_by size xs)
-    (omega (arith, ltb-false greatest_magnitude (sum_by size (xs ++ ys)) e, sum_by-append size xs ys))
+    le-ltb greatest_magnitude (sum_by value_size xs)
+    (omega (arith, ltb-false greatest_magnitude (sum_by value_size (xs ++ ys)) e, sum_by-append value_size xs ys))
 
 pub sizes_overflow-order : {n : ℕ} (xs ys : List (Value n)) → IsPermutation xs ys → sizes_overflow xs ≡ false → sizes_overflow ys ≡ false
 unfolding sizes_overflow
 sizes_overflow-order {n} xs ys same e =
-    let size : Value n → ℕ = λ u. value_size u in
-    ap (nat_lt greatest_magnitude) (sum_by-IsPermutation size xs ys same) ∙ e
+    ap (nat_lt greatest_magnitude) (sum_by-IsPermutation value_size xs ys same) ∙ e
 
 pub size-sum_list : (m : List ℤ) (xs : List (Value (degree m))) → value_size (sum_list (remainder_ring m) xs) ≤ sum_by (λ u. value_size u) xs
 unfolding value_sum value_nought
 size-sum_list m [] = omega (arith, ap (λ u. value_size u) (sum_list_nil (remainder_ring m)), size-zeros (degree m))
 size-sum_list m (x ∷ xs) =
-    let size : Value (degree m) → ℕ = λ u. value_size u in
     let rest = sum_list (remainder_ring m) xs in
     omega
-    (arith, ap (λ u. value_size u) (sum_list_cons (remainder_ring m) x xs), size-plus x.coefficients rest.coefficients, size-sum_list m xs, sum_by-cons size x xs)
+    (arith, ap (λ u. value_size u) (sum_list_cons (remainder_ring m) x xs), size-plus x.coefficients rest.coefficients, size-sum_list m xs, sum_by-cons value_size x xs)
 
 -- the sum of terms whose sizes don't overflow fits
 pub sizes_overflow-sum_fits : (m : List ℤ) (xs : List (Value (degree m))) → sizes_overflow xs ≡ false → value_fits (sum_list (remainder_ring m) xs) ≡ true
 unfolding sizes_overflow value_fits
 sizes_overflow-sum_fits m xs e =
-    let size : Value (degree m) → ℕ = λ u. value_size u in
     le-leb (value_size (sum_list (remainder_ring m) xs)) greatest_magnitude
-    (omega (arith, ltb-false greatest_magnitude (sum_by size xs) e, size-sum_list m xs))
+    (omega (arith, ltb-false greatest_magnitude (sum_by value_size xs) e, size-sum_list m xs))
 
 -- one term alone overflows exactly where it doesn't fit
 pub sizes_overflow-one : {n : ℕ} (u : Value n) → sizes_overflow (u ∷ []) ≡ not (value_fits u)
 unfolding sizes_overflow value_fits
 sizes_overflow-one {n} u =
-    let size : Value n → ℕ = λ v. value_size v in
-    let same : sum_by size (u ∷ []) ≡ size u = omega (arith, sum_by-cons size u []) in
-    ap (nat_lt greatest_magnitude) same ∙ not_above (size u) greatest_magnitude
+    let same : sum_by value_size (u ∷ []) ≡ value_size u = omega (arith, sum_by-cons value_size u []) in
+    ap (nat_lt greatest_magnitude) same ∙ not_above (value_size u) greatest_magnitude
   where
     not_above : (a b : ℕ) → nat_lt b a ≡ not (nat_le a b)
     not_above a b = grind (arith, nat_tests)

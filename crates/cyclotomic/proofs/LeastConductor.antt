@@ -21,12 +21,9 @@ module _ (m : ℕ) (first : ℕ × ℕ) (rest : List (ℕ × ℕ)) where
   later : (first.0 % m == 0) ≡ false → (j : ℕ) → stands j (first ∷ rest) ≡ true → j % m ≡ 0 → stands j rest ≡ true
   unfolding stands
   later not_first j found divides = elim (cases_eq first.0 j) [
-    | inl same ↦ absurd (clash (sym (eq-eqb (first.0 % m) 0 (ap (λ i. i % m) same ∙ divides)) ∙ not_first))
+    | inl same ↦ absurd (let passes = eq-eqb (first.0 % m) 0 (ap (λ i. i % m) same ∙ divides) in cc)
     | inr apart ↦ sym (ap (λ b. b || list_any (λ (e : ℕ × ℕ). e.0 == j) rest) (ne_eqb first.0 j apart)) ∙ found
   ]
-    where
-      clash : true ≡ false → ⊥
-      clash e = cc
 
   searched_later : (found : Option ℕ) → (first.0 % m == 0) ≡ false → Searched m rest found → Searched m (first ∷ rest) found
   unfolding Searched stands

@@ -11,7 +11,7 @@ pub use Rattle.cyclotomic.specs.Division.{degree}
 unfoldable pub use Rattle.cyclotomic.specs.Fit.{product_fits, size_of, sizes_overflow, value_fits}
 pub use Rattle.cyclotomic.specs.Fit.{greatest_magnitude, value_size}
 unfoldable pub use Rattle.cyclotomic.specs.Laws.Action.{horner, iterate}
-pub use Rattle.cyclotomic.specs.Laws.Action.{LinearMap, act, act-at_power, act-cons, act-iterate, act-map, act-nil, act-nothing, act-nought, act-one, act-plus, act-power_power, act-remainder, act-same_map, act-scaled, act-times, act-x_to, act_comm, division-sum, iterate-add, iterate-inner, iterate-power, iterate-scale, iterate-suc, iterate-sum, iterate-zero, map_power}
+pub use Rattle.cyclotomic.specs.Laws.Action.{LinearMap, act, act-at_power, act-cons, act-iterate, act-map, act-nil, act-nothing, act-nought, act-one, act-plus, act-power_power, act-remainder, act-same_map, act-scaled, act-times, act-x_to, act_comm, division-sum, iterate-add, iterate-inner, iterate-power, iterate-scale, iterate-suc, iterate-sum, iterate-zero, map_nought, map_power}
 pub use Rattle.cyclotomic.specs.Laws.Polynomials.{leading-last, leading-nil, length-lower, lower-last}
 pub use Rattle.cyclotomic.specs.Laws.Remainders.{length-remainder, zero_not_one}
 unfoldable pub use Rattle.cyclotomic.specs.Laws.Values.{value_shift}

@@ -22,23 +22,20 @@ cancel_factor d a h e =
     let down_is : d * down a ≡ 0 = omega (arith, product.1, ap down e) in
     same_in a (pos 0) (omega (arith, zero_factor d (up a) h up_is, zero_factor d (down a) h down_is))
 
-tail_of : List ℤ → List ℤ
-tail_of [] = []
-tail_of (a ∷ p) = p
-
-cancel_scaled : (d n : ℕ) (p : List ℤ) → 0 < d → length p ≡ n → scaled (pos d) p ≡ zeros n → p ≡ zeros n
-unfolding scaled tail_of head_of
-cancel_scaled d zero [] h same e = refl
-cancel_scaled d zero (a ∷ p) h same e = absurd (omega (arith, same))
-cancel_scaled d (suc n) [] h same e = absurd (omega (arith, same))
-cancel_scaled d (suc n) (a ∷ p) h same e =
-    ap₂ (λ x y. x ∷ y) (cancel_factor d a h (ap head_of e)) (cancel_scaled d n p h (omega (arith, same)) (ap tail_of e))
+cancel_scaled : (d : ℕ) (p : List ℤ) → 0 < d → scaled (pos d) p ≡ zeros (length p) → p ≡ zeros (length p)
+unfolding scaled
+cancel_scaled d [] h e = refl
+cancel_scaled d (a ∷ p) h e =
+    let first : pos d *ℤ a ≡ pos 0 = cc in
+    let rest : scaled (pos d) p ≡ zeros (length p) = cc in
+    ap₂ (λ x y. x ∷ y) (cancel_factor d a h first) (cancel_scaled d p h rest)
 
 -- a whole multiple, by a number from 1, that is 0 comes from 0
 pub cancel_multiple : {n : ℕ} (d : ℕ) (u : Value n) → 0 < d → value_multiple (pos d) u ≡ value_nought → u ≡ value_nought
 unfolding value_multiple value_nought
 cancel_multiple {n} d u h e =
-    same_value _ _ (cancel_scaled d n u.coefficients h u.count (ap (λ v. v.coefficients) e))
+    let same = ap zeros u.count in
+    same_value _ _ (cancel_scaled d u.coefficients h (ap (λ v. v.coefficients) e ∙ sym same) ∙ same)
 
 module _ (m : List ℤ) where
   pub multiple-is : (d : ℕ) (u : Value (degree m)) → multiple (remainder_ring m) d u ≡ value_multiple (pos d) u
