@@ -1,5 +1,5 @@
--- An element whose n-th power is one gives roots with exponents modulo n.
-use Rattle.algebra.proofs.Names.{◌≡◌, ◌≢◌, ℕ, zero, suc, ◌*◌, ◌/◌, ◌%◌, sym, ◌∙◌, ap, zero-mul, suc-mul, div-add-mod, CommRing, power, Same, Roots, RootOfUnity}
+-- Powers of an element whose n-th power is one, by exponents modulo n.
+use Rattle.algebra.proofs.Names.{◌≡◌, ◌≢◌, ℕ, zero, suc, ◌*◌, ◌/◌, ◌%◌, sym, ◌∙◌, ap, zero-mul, suc-mul, div-add-mod, CommRing, power, Same, RootOfUnity}
 use Rattle.algebra.proofs.RingLaws.{one_mul, nought_mul}
 use Rattle.algebra.proofs.SumLaws.{sum_constant, sum_ext, sum_mul, power_zero, power_add, power_mul, one_power}
 
@@ -13,10 +13,6 @@ module _ {A : Type 0} (R : CommRing A) (z : A) (n : ℕ) (cycle : power R z n �
 
   pub power_same : (v w : ℕ) → Same n v w → power R z v ≡ power R z w
   power_same v w h = power_mod v ∙ ap (λ k. power R z k) h.same ∙ sym (power_mod w)
-
-  -- the powers of z
-  abbrev pub roots_of_power : Roots R n
-  roots_of_power = record { root = λ v. power R z v; root_zero = power_zero R z; root_add = power_add R z; root_same = power_same }
 
 -- what z^e leaves as it is, each power of z^e leaves as it is
 pub fixed_again : {A : Type 0} (R : CommRing A) (z : A) (e : ℕ) (x : A) → R.mul (power R z e) x ≡ x → (j : ℕ) → R.mul (power R z (j * e)) x ≡ x
