@@ -1,5 +1,5 @@
 -- The canonical text of a document is read as the document.
-use Rattle.qd_doc.proofs.Names.{All, All-head, All-tail, AllByRecursion, Block, Bool, Characters, ConductorNumber, DocRefusal, Document, EndWord, Err, Expected, FormWord, Given, IfSome, IsGivenInRange, IsInRange, IsNarrow, IsValueOf, Lexeme, List, MatchResult, Natural, NoToken, None, Ok, Omega, One, Option, OrderNumber, Parses, Part, PrintedIsRead, Qdouble, Result, RootsNumber, Some, Stage, Table, What, Word, [], and-true, ap, append-nil, append_assoc, are_trivial, arith, block, block_lines, canonical_lines, canonical_text, characters_lines, codes, cond, decimal, decimal_spells, digits_are_word, document_of, drop, eq-eqb, eqb-true, expected, false, first, flat_map, flat_map-append, form_of, is_blank, is_conductor, is_end, is_plain, is_token_byte, is_word, kind_after, le-leb, length, length-drop, length-map, line, list_all, list_all-append, listing_of, lt-ltb, ltb-true, map, map-append, missing, nat_eq, nat_lt, number_of-decimal, omega_lines, part_of, phi_of, plain, read, read_blocks, read_characters, read_document, read_end, read_exponents, read_given, read_number, read_numbers, read_order, read_roots, recursion_from_All, reduced, reduced_document, refl, refusal, replicate, row_words, rows, skip, stage_of, stop_of, subst, suc, sym, take, take-append-drop, text, tokens, true, value, value_text, with_part, word_of, words_of, words_of-blank, words_of-nil, words_of-word, zero, ℕ, ℤ, ◌%◌, ◌*◌, ◌++◌, ◌<◌, ◌==◌, ◌>>=◌, ◌^◌, ◌∙◌, ◌∷◌, ◌≡◌}
+use Rattle.qd_doc.proofs.Names.{All, All-head, All-tail, AllByRecursion, Block, Bool, Characters, ConductorNumber, DocRefusal, Document, EndWord, Err, Expected, FormWord, Given, IfSome, IsGivenInRange, IsInRange, IsNarrow, IsValueOf, Lexeme, List, MatchResult, Natural, NoToken, None, Ok, Omega, One, Option, OrderNumber, Parses, Part, PrintedIsRead, Qdouble, Result, RootsNumber, Some, Stage, Table, What, Word, [], and-true, ap, append-nil, append_assoc, are_trivial, arith, block, block_lines, canonical_lines, canonical_text, characters_lines, codes, cond, decimal, decimal_spells, digits_are_word, document_of, drop, eq-eqb, eqb-true, expected, false, flat_map, flat_map-append, form_of, is_blank, is_conductor, is_end, is_plain, is_token_byte, is_word, kind_after, le-leb, length, length-drop, length-map, line, list_all, list_all-append, listing_of, lt-ltb, ltb-true, map, map-append, missing, nat_eq, nat_lt, number_of-decimal, omega_lines, part_of, phi_of, plain, read, read_blocks, read_characters, read_document, read_end, read_exponents, read_given, read_number, read_numbers, read_order, read_roots, recursion_from_All, reduced, reduced_document, refl, refusal, replicate, row_words, rows, skip, stage_of, stop_of, subst, suc, sym, take, take-append-drop, text, tokens, true, value, value_text, with_part, word_of, words_of, words_of-blank, words_of-nil, words_of-word, zero, ℕ, ℤ, ◌%◌, ◌*◌, ◌++◌, ◌<◌, ◌==◌, ◌>>=◌, ◌^◌, ◌∙◌, ◌∷◌, ◌≡◌}
 use Rattle.qd_text.specs.declared.expected.Expected.TheVariants.{Order, Roots}
 use Rattle.qd_doc.proofs.Ranges.{IsBetween}
 use Rattle.qd_doc.specs.declared.part.Stage.TheVariants as stages

@@ -1,5 +1,5 @@
 -- What is read has the shape of a document: its numbers are in their ranges, and its lists have their lengths.
-use Rattle.qd_doc.proofs.Names.{All, All-map, Bare, Block, DocRefusal, Document, Err, Form, IfSome, IsGivenInRange, IsInRange, IsRead, IsValueOf, Lexeme, List, None, Ok, Plain, Result, Some, ValueFault, WithCharacters, [], arith, block, block_of, blocks_of, characters_of, codes, coefficients, document_of, drop, drop-replicate, eq-eqb, exponents_end, get_or, is_array, is_conductor, is_nought, length, list_all, map, nought_small, number_at, phi_of, pieces, plain_or_zeros, pos, read, read_document, refl, replicate, rows, stop_of, subst, suc, sym, text, tokens, true, value_of, words_before, zero, ℕ, ℤ, ◌+◌, ◌-◌, ◌∙◌, ◌∷◌, ◌≡◌}
+use Rattle.qd_doc.proofs.Names.{All, All-map, Bare, Block, DocRefusal, Document, Err, Form, IfSome, IsGivenInRange, IsInRange, IsRead, IsValueOf, Lexeme, List, None, Ok, Plain, Result, Some, ValueFault, WithCharacters, [], arith, block_of, blocks_of, characters_of, codes, coefficients, document_of, drop, drop-replicate, eq-eqb, exponents_end, get_or, is_array, is_conductor, is_nought, length, list_all, map, nought_small, number_at, phi_of, pieces, plain_or_zeros, pos, read, read_document, refl, replicate, stop_of, subst, suc, sym, text, tokens, true, value_of, words_before, zero, ℕ, ℤ, ◌+◌, ◌-◌, ◌∙◌, ◌∷◌, ◌≡◌}
 use Rattle.qd_doc.proofs.Entries.{few_coefficients}
 use Rattle.qd_doc.proofs.ValueWords.{value_read}
 use Rattle.qd_doc.proofs.Places.{Reads}

@@ -94,6 +94,7 @@ impl Blocks {
     }
 
     /// How many blocks there are.
+    #[tactic(auto, using(crate::proofs::BlockLists::blocks_count))]
     pub fn blocks(&self) -> u32
         ensures count { result ≡ length self.now }
         ensures small { length self.now < 2 ^ 32 }

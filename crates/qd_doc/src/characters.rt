@@ -223,7 +223,7 @@ fn blocks(alloc: Global, bytes: &Vec<u8>, at: u32, phi: u32) -> Result<(Blocks, 
 }
 
 /// The section of characters, and the offset after the word `end`.
-#[tactic(auto, unfolding(crate::specs::Reading::read_given))]
+#[tactic(auto, using(crate::proofs::Entries::few_coefficients), unfolding(crate::specs::Reading::read_given))]
 pub fn given(alloc: Global, bytes: &Vec<u8>, at: u32) -> Result<(Given, u32), DocRefusal>
     requires offset { IsOffset bytes.now.items at }
     ensures gives { Gives (λ found. (found.0, tokens_from found.1 bytes.now.items)) result

@@ -24,6 +24,7 @@ fn rows_end(heads: &[Head], b: u32, all: u32) -> u32
 }
 
 /// How many rows block `b` has, of `all` rows.
+#[tactic(auto, using(crate::proofs::BlockLists::block_inside))]
 pub fn rows_in(heads: &[Head], b: u32, all: u32) -> u32
     requires order { AreInOrder (λ (head : Head). head.start) heads.now all }
     requires listed { b < length heads.now }
@@ -33,6 +34,7 @@ pub fn rows_in(heads: &[Head], b: u32, all: u32) -> u32
 }
 
 /// Which of `all` rows is row `r` of block `b`.
+#[tactic(auto, using(crate::proofs::BlockLists::block_inside))]
 pub fn place_of_row(heads: &[Head], b: u32, r: u32, all: u32) -> u32
     requires order { AreInOrder (λ (head : Head). head.start) heads.now all }
     requires listed { b < length heads.now }

@@ -70,6 +70,7 @@ pub fn word(bytes: &Vec<u8>, at: u32, expected: Expected) -> Result<u32, DocRefu
 }
 
 /// Whether a number is an entry of the table of conductors: it is its own least multiple there.
+#[tactic(auto, using(crate::proofs::Entries::entry_found, crate::proofs::Entries::entry_missing))]
 fn is_conductor(k: u32) -> bool
     ensures entry { result ≡ is_conductor k }
 {

@@ -28,6 +28,7 @@ fn end_of(starts: &[u32], i: u32, all: usize) -> usize
 }
 
 /// Where stretch `i` starts and ends.
+#[tactic(auto, using(crate::proofs::StretchLaws::stretch_inside))]
 pub fn range_of(starts: &[u32], i: u32, all: usize) -> (usize, usize)
     requires order { AreInOrder (λ start. start) starts.now all }
     requires listed { i < length starts.now }

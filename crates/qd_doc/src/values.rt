@@ -50,6 +50,7 @@ impl Values {
     }
 
     /// How many values there are.
+    #[tactic(auto, using(crate::proofs::ValueLists::values_length))]
     pub fn len(&self) -> u32
         ensures count { result ≡ length self.now }
         ensures small { length self.now < 2 ^ 32 }
