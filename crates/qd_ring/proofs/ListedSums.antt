@@ -1,6 +1,7 @@
 -- Steps of a loop that adds up a listed sum.
 use Rattle.qd_ring.proofs.Names.{◌≡◌, ◌+◌, ◌<◌, ℕ, Bool, true, false, List, [], ◌∷◌, ◌++◌, map, take, drop, length, get_or, refl, sym, ◌∙◌, ap, false≢true, take_more, map-append, take-append-drop, IfSome, is_some, ◌&&◌, Option, Some, None, subst, ◌≤◌, suc, ◌||◌, not, arith, zero-add, add-one, range_with_len, take-map-range_with_len, all_below, all_below-fails, all_below-at, all_below-all, ap₂, sum_list, sum_below, sum_list_push, sum_list_range, sum_ext, sum_suc, cyclotomic_ring, value_fits, sizes_overflow, sizes_overflow-one, cyclotomic_fit, Formed, listed, FitRules, sum_overflows, IsTerm}
 use Rattle.std.proofs.Math.Bool.{or-true}
+use Rattle.std.proofs.lemmas.Bool.{not-true, true_from_ne_false}
 use Rattle.algebra.specs.Structures.{CommRing}
 
 module _ {A E : Type 0} (R : CommRing A) (of : E → A) (xs : List E) where
@@ -18,11 +19,8 @@ module _ {A E : Type 0} (R : CommRing A) (of : E → A) (xs : List E) where
 
   -- where a partial sum doesn't fit, the listed sum overflows
   pub overflow_shown : (rules : FitRules R) (i : ℕ) (s : A) (x : E) → i < length xs → x ≡ get_or xs i x → s ≡ sum_list R (map of (take i xs)) → rules.fits (R.add s (of x)) ≡ false → rules.overflows (map of xs) ≡ true
-  overflow_shown rules i s x h e is unfit = shown (rules.overflows (map of xs)) refl
-    where
-      shown : (b : Bool) → rules.overflows (map of xs) ≡ b → b ≡ true
-      shown true o = refl
-      shown false o = absurd (false≢true (sym unfit ∙ ap rules.fits (sum_taken i s x h e is) ∙ front_fits rules (i + 1) o))
+  overflow_shown rules i s x h e is unfit =
+      true_from_ne_false _ (λ o. false≢true (sym unfit ∙ ap rules.fits (sum_taken i s x h e is) ∙ front_fits rules (i + 1) o))
 
 -- terms with numbers below n
 module _ {A : Type 0} (R : CommRing A) (rules : FitRules R) (value : ℕ → A) where
@@ -46,11 +44,7 @@ module _ {A : Type 0} (R : CommRing A) (rules : FitRules R) (value : ℕ → A) 
     -- a listed sum overflows where its terms are too great, whether or not their steps fit
     pub overflow_unless : (rules.overflows (map value (range_with_len 0 n)) ≡ false → ⊥) → sum_overflows R rules n steps_fit value ≡ true
     unfolding sum_overflows
-    overflow_unless great = shown (rules.overflows (map value (range_with_len 0 n))) refl
-      where
-        shown : (b : Bool) → rules.overflows (map value (range_with_len 0 n)) ≡ b → (not (all_below n steps_fit) || b) ≡ true
-        shown true o = or-true (not (all_below n steps_fit))
-        shown false o = absurd (great o)
+    overflow_unless great = rw (true_from_ne_false _ great) (or-true _)
 
     -- where it doesn't overflow all steps fit, and its terms aren't too great
     pub listed_parts : sum_overflows R rules n steps_fit value ≡ false
@@ -89,11 +83,7 @@ term_missing of steps_fit value answer t e = sym t.there ∙ ap is_some e
 -- ---- listed sums of values of the cyclotomic ring
 module _ (k n : ℕ) (term : ℕ → Formed k) (fit : (listed k n term).fits ≡ true) where
   parts : (all_below n (λ i. (term i).fits) ≡ true) × (sizes_overflow (map (λ i. (term i).value) (range_with_len 0 n)) ≡ false)
-  parts = listed_parts (cyclotomic_ring k) (cyclotomic_fit k) (λ i. (term i).value) n (λ i. (term i).fits) (not_true _ fit)
-    where
-      not_true : (b : Bool) → not b ≡ true → b ≡ false
-      not_true true e = cc
-      not_true false e = refl
+  parts = listed_parts (cyclotomic_ring k) (cyclotomic_fit k) (λ i. (term i).value) n (λ i. (term i).fits) (not-true _ fit)
 
   pub listed_formed : (i : ℕ) → i < n → (term i).fits ≡ true
   listed_formed i inside = all_below-at n i (λ j. (term j).fits) parts.0 inside

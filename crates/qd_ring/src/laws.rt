@@ -18,6 +18,7 @@ ghost use Rattle.qd_ring.specs.RootSums.{IsSumOfRoots};
 /// How great the results of the operations are, by the sizes of what they are formed of: a reduced
 /// power of x has size at most 1, so a value of size s has phi(K) s as a bound for its images and
 /// root multiples.
+#[tactic(auto, using(crate::proofs::SizeLaws::size_sum, crate::proofs::SizeLaws::size_multiple, crate::proofs::SizeLaws::size_image, crate::proofs::SizeLaws::size_turned, crate::proofs::SizeLaws::size_product, crate::proofs::SizeLaws::listed_fits))]
 pub fn size_laws()
     ensures sum { (k : ℕ) (u v : CyclotomicValue k)
         → value_size (value_sum u v) ≤ value_size u + value_size v }
@@ -41,6 +42,7 @@ pub fn size_laws()
 /// Listed sums as they are formed: where one doesn't overflow, each term is formed, the sizes of
 /// the terms don't overflow together, a front of it doesn't overflow, and the sum fits. A sum of
 /// one term is formed exactly where that term is formed and fits.
+#[tactic(auto, using(crate::proofs::ListedSums::listed_sizes, crate::proofs::ListedSums::listed_front, crate::proofs::ListedSums::listed_value_fits, crate::proofs::ListedSums::listed_one))]
 pub fn listed_sum_laws()
     ensures formed { (k n : ℕ) (term : ℕ → Formed k) → (listed k n term).fits ≡ true
         → (i : ℕ) → i < n → (term i).fits ≡ true }
@@ -57,6 +59,7 @@ pub fn listed_sum_laws()
 /// Sums of roots of unity: a sum of r roots has size at most r; conjugates, Galois images and root
 /// multiples of sums of r roots are sums of r roots again; a sum has as many roots as its terms
 /// together, and a product as many as those of its factors multiplied.
+#[tactic(auto, using(crate::proofs::RootSumLaws::no_root, crate::proofs::RootSumLaws::one_root, crate::proofs::RootSumLaws::roots_whole, crate::proofs::RootSumLaws::roots_together, crate::proofs::RootSumLaws::roots_multiplied, crate::proofs::RootSumLaws::roots_turned, crate::proofs::RootSumLaws::roots_copied, crate::proofs::RootSumLaws::roots_below, crate::proofs::RootSumLaws::roots_imaged, crate::proofs::RootSumLaws::roots_conjugated, crate::proofs::RootSumLaws::roots_fit))]
 pub fn root_sum_laws()
     ensures size { (k : ℕ) → is_conductor k ≡ true → (r : ℕ) (u : CyclotomicValue k)
         → IsSumOfRoots k r u
