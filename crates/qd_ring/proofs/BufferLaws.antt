@@ -1,5 +1,5 @@
 -- Buffers of coefficients: adding a multiple of a power of x at a place, and one step of long division in place.
-use Rattle.qd_ring.proofs.Names.{◌≡◌, ℕ, zero, suc, pred, ◌+◌, ◌*◌, ◌^◌, ◌≤◌, ◌<◌, max, List, [], ◌∷◌, ◌++◌, length, get_or, set, take, take_all, length-scaled, refl, sym, ap, ◌∙◌, subst, arith, add-one, ℤ, pos, negsuc, ◌+ℤ◌, ◌*ℤ◌, neg_ℤ, nat_abs, to_z-of_z, ap₂, w8, w128, SFits, to_z, of_z, plus, scaled, leading, lower, cancelled, size_of, value_sum, value_multiple, value_of, value_one, value_root, lower-last, LinearMap, iterate, act, act-nil, act-cons, iterate-zero, iterate-suc, map_nought, times_x, value_of-act, root_steps, total_of, magnitude-sum, magnitude-product, magnitude-negative}
+use Rattle.qd_ring.proofs.Names.{◌≡◌, ℕ, zero, suc, pred, ◌+◌, ◌^◌, ◌≤◌, ◌<◌, List, [], ◌∷◌, ◌++◌, length, get_or, set, take, take_all, length-scaled, refl, sym, ap, ◌∙◌, arith, add-one, ℤ, pos, negsuc, ◌+ℤ◌, ◌*ℤ◌, neg_ℤ, nat_abs, to_z-of_z, ap₂, w8, w128, SFits, to_z, of_z, plus, scaled, leading, lower, cancelled, size_of, value_sum, value_multiple, value_of, value_one, value_root, lower-last, LinearMap, iterate, act, act-nil, act-cons, iterate-zero, iterate-suc, map_nought, times_x, value_of-act, root_steps, total_of, magnitude-sum}
 use Rattle.cyclotomic.specs.Laws.Integers as Z
 
 -- ---- numbers of 128 bits

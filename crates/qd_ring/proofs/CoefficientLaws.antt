@@ -1,5 +1,5 @@
 -- Lists of coefficients, written and read.
-use Rattle.qd_ring.proofs.Names.{◌≡◌, ℕ, zero, suc, ◌+◌, ◌<◌, ◌≤◌, min, Bool, true, false, ◌&&◌, List, [], ◌∷◌, ◌++◌, length, drop, map, refl, ap, sym, subst, ◌∙◌, inl, inr, arith, eqb, cond, replicate, length-append, zero-add, Option, Some, None, add-zero, suc-add, ℤ, pos, negsuc, nat_abs, option_and_then, option_map, ap₂, and_parts, cases_Bool, eqb-true, eqb-false, eq-eqb, ne_eqb, true≢false, Term, term_text, terms_text, term_after_sign, term_of, term_here, coefficients_of}
+use Rattle.qd_ring.proofs.Names.{◌≡◌, ℕ, zero, suc, ◌+◌, ◌<◌, ◌≤◌, min, Bool, true, false, ◌&&◌, List, [], ◌∷◌, ◌++◌, length, drop, map, refl, ap, sym, subst, ◌∙◌, inl, inr, arith, eqb, cond, replicate, length-append, zero-add, Option, Some, None, add-zero, suc-add, ℤ, pos, negsuc, nat_abs, option_map, ap₂, and_parts, cases_Bool, eqb-true, eqb-false, eq-eqb, ne_eqb, true≢false, Term, term_text, terms_text, term_after_sign, term_of, coefficients_of}
 use Rattle.std.proofs.Math.Seq.{drop-append_seam}
 use Rattle.std.proofs.lemmas.List.{nil_from_length}
 use Rattle.std.proofs.lemmas.Option.{cond_some}

@@ -1,5 +1,5 @@
 -- Sizes of arrays and of the values that they stand for, and the special images.
-use Rattle.qd_ring.proofs.Names.{cyclotomic_value, root_size, array_length, size-padded, ◌≡◌, ℕ, ◌-◌, ◌*◌, ◌^◌, ◌%◌, ◌≤◌, ◌<◌, true, false, List, length, sym, ap, ◌∙◌, subst, arith, nat_le, ℤ, leb-true, le-leb, lt-leb, lt-ltb, le-ltb, ap₂, cyclotomic, is_conductor, size_of, value_size, value_fits, product_fits, greatest_magnitude, Value, value_product, CyclotomicValue, galois_image, root, remainder_ring, one_mul, root-zero, image-one_power, galois_modulo, total_of, total-size, product_that_fits, array_of, is_array, is_small}
+use Rattle.qd_ring.proofs.Names.{cyclotomic_value, root_size, array_length, size-padded, ◌≡◌, ℕ, ◌-◌, ◌*◌, ◌^◌, ◌%◌, ◌≤◌, ◌<◌, true, false, List, length, sym, ap, ◌∙◌, subst, arith, nat_le, ℤ, leb-true, le-leb, lt-leb, lt-ltb, le-ltb, ap₂, cyclotomic, is_conductor, size_of, value_size, value_fits, product_fits, greatest_magnitude, Value, value_product, CyclotomicValue, galois_image, root, remainder_ring, one_mul, root-zero, image-one_power, galois_modulo, total_of, total-size, array_of, is_array, is_small}
 use Rattle.qd_ring.specs.ArrayLaws.{value_fits-small}
 
 pub small_means : (xs : List ℤ) → is_small xs ≡ true → size_of xs ≤ greatest_magnitude

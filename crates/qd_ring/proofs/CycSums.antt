@@ -1,5 +1,5 @@
 -- Sums, differences and constants as arrays.
-use Rattle.qd_ring.proofs.Names.{value_of-plus, all_noughts, array_length, array_parts, size-value, value_of-padded, value_of-zeros, zeros_noughts, ◌≡◌, ℕ, zero, suc, pred, ◌-◌, ◌%◌, ◌≤◌, ◌<◌, true, false, List, [], ◌∷◌, ◌++◌, length, take, drop, refl, sym, ap, ◌∙◌, arith, ◌&&◌, eq-eqb, length-drop, get_or, take-length, drop-replicate, ℤ, pos, negsuc, ◌+ℤ◌, ◌*ℤ◌, nat_abs, list_all, ap₂, zeros, plus, scaled, coefficient, cyclotomic, is_conductor, phi_of, size_of, value_size, value_fits, greatest_magnitude, le-leb, value_sum, value_multiple, value_negative, value_nought, value_product, CyclotomicValue, cyclotomic_ring, cyclotomic_value, root, power, root_modulo, length-zeros, length-scaled, length-plus, scaled-one, scaled-zeros, plus-zeros, size-scaled, size-zeros, size-cons, root_size, array_of, is_array, is_nought, is_small, conductor_bounds}
+use Rattle.qd_ring.proofs.Names.{value_of-plus, all_noughts, array_length, array_parts, size-value, value_of-padded, value_of-zeros, zeros_noughts, ◌≡◌, ℕ, zero, suc, pred, ◌-◌, ◌%◌, ◌≤◌, ◌<◌, true, false, List, [], ◌∷◌, ◌++◌, length, take, drop, refl, sym, ap, ◌∙◌, arith, ◌&&◌, eq-eqb, length-drop, get_or, take-length, drop-replicate, ℤ, pos, negsuc, ◌+ℤ◌, ◌*ℤ◌, nat_abs, list_all, ap₂, zeros, plus, scaled, coefficient, cyclotomic, is_conductor, phi_of, size_of, value_size, value_fits, greatest_magnitude, le-leb, value_sum, value_multiple, value_negative, value_nought, value_product, CyclotomicValue, cyclotomic_ring, cyclotomic_value, root, power, root_modulo, length-zeros, length-scaled, length-plus, scaled-one, scaled-zeros, plus-zeros, size-scaled, size-zeros, size-cons, array_of, is_array, is_nought, is_small, conductor_bounds}
 use Rattle.qd_ring.specs.ArrayLaws.{coefficients_of}
 use Rattle.cyclotomic.proofs.Orthogonality.{power-root}
 use Rattle.cyclotomic.specs.Laws.Values.{value_of-scaled}

@@ -1,5 +1,5 @@
 -- Steps of adding up products in one buffer.
-use Rattle.qd_ring.proofs.Names.{◌≡◌, ◌+◌, ◌*◌, ◌^◌, ◌<◌, ◌≤◌, ℕ, true, not, ◌||◌, ◌&&◌, Some, List, ◌++◌, length, take, map, refl, sym, ◌∙◌, ap, subst, arith, zero-add, sum_by, ℤ, range_with_len, mul-le-mul, le-ltb, sum_by-map-range_with_len_more, le-leb, lt-ltb, ap₂, all_below-zero, all_below-step, one_mul, sum_zero, is_conductor, cyclotomic, value_sum, value_nought, value_product, CyclotomicValue, cyclotomic_ring, cyclotomic_value, value_size, value_fits, product_fits, greatest_magnitude, sizes_overflow, root-zero, total_of, Cyc, Monomial, sum_overflows, Formed, Forms, listed, multiplied, turned, value_of_terms, total_of_terms, turned_product, IsSparseOf, IsTurnedProduct, IsFolded, take-append_seam, length-take-le, value_of, size_of, array_of, is_small, conductor_bounds}
+use Rattle.qd_ring.proofs.Names.{◌≡◌, ◌+◌, ◌*◌, ◌^◌, ◌<◌, ◌≤◌, ℕ, true, not, ◌||◌, ◌&&◌, Some, List, ◌++◌, length, take, map, sym, ◌∙◌, ap, subst, arith, zero-add, sum_by, ℤ, range_with_len, mul-le-mul, le-ltb, sum_by-map-range_with_len_more, le-leb, lt-ltb, ap₂, all_below-zero, all_below-step, one_mul, sum_zero, is_conductor, cyclotomic, value_sum, value_nought, value_product, CyclotomicValue, cyclotomic_ring, cyclotomic_value, value_size, value_fits, product_fits, greatest_magnitude, sizes_overflow, root-zero, total_of, Cyc, Monomial, sum_overflows, Formed, Forms, listed, multiplied, turned, value_of_terms, total_of_terms, turned_product, IsSparseOf, IsTurnedProduct, IsFolded, take-append_seam, length-take-le, value_of, conductor_bounds}
 use Rattle.qd_ring.proofs.ReduceLaws.{remainder_size}
 use Rattle.qd_ring.proofs.ListedSums.{sum_below_more}
 use Rattle.qd_ring.proofs.SparseLaws.{size-turned, size-turned_product}

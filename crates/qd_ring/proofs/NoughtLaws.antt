@@ -1,7 +1,5 @@
 -- Terms that are 0 may be left out of a sum.
-use Rattle.qd_ring.proofs.Names.{◌≡◌, ◌+◌, ◌-◌, ◌*◌, ◌^◌, ◌<◌, ◌&&◌, ℕ, zero, suc, Bool, true, false, refl, sym, ◌∙◌, ap, subst, arith, zero-add, le-leb, lt-ltb, ap₂, sum_by-map-range_with_len_more, all_below-step, nought_map, cyclotomic, CyclotomicValue, cyclotomic_ring, conjugate, value_size, value_fits, product_fits, greatest_magnitude, sum_nought, product_comm, Value, value_nought, value_product, value_sum, image-sum, size-zeros, Formed, conjugated, multiplied, where_so, IsTotal, IsFolded}
-use Rattle.qd_ring.proofs.SpreadLaws.{product-nought}
-use Rattle.qd_ring.proofs.ListedSums.{sum_below_more}
+use Rattle.qd_ring.proofs.Names.{◌≡◌, ◌+◌, ◌-◌, ◌&&◌, ℕ, Bool, true, false, refl, sym, ◌∙◌, ap, subst, arith, le-leb, ap₂, nought_map, cyclotomic, CyclotomicValue, cyclotomic_ring, conjugate, value_size, value_fits, greatest_magnitude, sum_nought, Value, value_nought, value_sum, image-sum, size-zeros, Formed, conjugated, where_so, IsTotal}
 use Rattle.qd_ring.proofs.TotalLaws.{total_more}
 
 -- it fits, and is 0

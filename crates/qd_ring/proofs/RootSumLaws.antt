@@ -1,5 +1,5 @@
 -- Sums of roots of unity: what is made of them, and how great they are.
-use Rattle.qd_ring.proofs.Names.{◌≡◌, ℕ, zero, suc, ◌+◌, ◌-◌, ◌*◌, ◌^◌, ◌<◌, ◌≤◌, true, List, [], ◌∷◌, ◌++◌, length, map, refl, sym, ap, ◌∙◌, arith, length-append, sum_by, add-one, zero-add, pos, range_with_len, mul-le-mul, map-append, length-map, sum_by-cons, sum_by-map-range_with_len_more, le-leb, lt-ltb, ap₂, sum_list, sum_below, multiple, nought_mul, add_mul, mul_nought, mul_add, sum_list_nil, sum_list_cons, sum_list_append, sum_list_single, sum_zero, sum_suc, multiple_zero, multiple_suc, nought_map, is_conductor, cyclotomic, plus, x_to, degree, value_of-plus, value_sum, value_nought, value_product, CyclotomicValue, cyclotomic_ring, cyclotomic_value, root, conjugate, galois_image, value_size, value_fits, product_fits, greatest_magnitude, root-sum, image-sum, galois_root, conjugation_prime, size-plus, size-zeros, root_size, value_of-zeros}
+use Rattle.qd_ring.proofs.Names.{◌≡◌, ℕ, zero, suc, ◌+◌, ◌-◌, ◌*◌, ◌^◌, ◌<◌, ◌≤◌, true, List, [], ◌∷◌, ◌++◌, length, map, refl, sym, ap, ◌∙◌, arith, length-append, sum_by, add-one, zero-add, pos, range_with_len, mul-le-mul, map-append, length-map, sum_by-map-range_with_len_more, le-leb, lt-ltb, ap₂, sum_below, multiple, nought_mul, add_mul, mul_nought, mul_add, sum_list_nil, sum_list_cons, sum_list_append, sum_list_single, sum_zero, sum_suc, multiple_zero, multiple_suc, nought_map, is_conductor, cyclotomic, plus, x_to, degree, value_of-plus, value_sum, value_nought, value_product, CyclotomicValue, cyclotomic_ring, cyclotomic_value, root, conjugate, galois_image, value_size, value_fits, product_fits, greatest_magnitude, root-sum, image-sum, galois_root, conjugation_prime, size-plus, size-zeros, root_size, value_of-zeros}
 use Rattle.std.specs.Int.{IsGcd}
 use Rattle.std.proofs.lemmas.List.{map-id}
 use Rattle.qd_ring.specs.RootSums.{sum_of_roots, IsSumOfRoots}

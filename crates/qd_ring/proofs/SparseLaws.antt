@@ -1,5 +1,5 @@
 -- Sparse values: one more term, sizes, and the terms of a product.
-use Rattle.qd_ring.proofs.Names.{◌≡◌, ℕ, zero, suc, ◌+◌, ◌*◌, ◌^◌, ◌%◌, ◌<◌, ◌≤◌, true, List, [], ◌∷◌, ◌++◌, length, take, get_or, refl, sym, ap, ◌∙◌, arith, mul-le-mul, mul-le-mul_left, mul-le-mul_right, take_more, ℤ, pos, ◌*ℤ◌, nat_abs, to_z-of_z, w128, SFits, to_z, of_z, ap₂, add_mul, mul_add, mul_assoc, mul_nought, nought_mul, add_assoc, nought_add, add_nought, is_conductor, cyclotomic, degree, value_sum, value_multiple, value_nought, value_product, CyclotomicValue, cyclotomic_ring, root, value_size, scale_nought, times_x, sum_assoc, root-sum, root_modulo, size-zeros, magnitude-product, root_size, Monomial, value_of_terms, total_of_terms, IsSparse, turned_product, nought_map, sum_list_nil, sum_list_cons, sum_list_push, map-append, sum_by-cons}
+use Rattle.qd_ring.proofs.Names.{◌≡◌, ℕ, ◌+◌, ◌*◌, ◌^◌, ◌%◌, ◌<◌, ◌≤◌, true, List, [], ◌∷◌, ◌++◌, length, take, get_or, refl, sym, ap, ◌∙◌, arith, mul-le-mul, mul-le-mul_left, take_more, ℤ, pos, ◌*ℤ◌, nat_abs, to_z-of_z, w128, SFits, to_z, of_z, ap₂, add_mul, mul_add, mul_assoc, add_nought, is_conductor, cyclotomic, degree, value_sum, value_multiple, value_nought, value_product, CyclotomicValue, cyclotomic_ring, root, value_size, times_x, sum_assoc, root-sum, root_modulo, size-zeros, magnitude-product, root_size, Monomial, value_of_terms, total_of_terms, IsSparse, turned_product, nought_map, sum_list_nil, sum_list_cons, sum_list_push, map-append, sum_by-cons}
 use Rattle.std.proofs.lemmas.List.Sums.{sum_by_push, sum_by_more, sum_by_more_le}
 use Rattle.qd_ring.proofs.BufferLaws.{read_128}
 use Rattle.qd_ring.proofs.SpreadLaws.{product-multiple}

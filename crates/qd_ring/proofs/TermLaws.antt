@@ -1,5 +1,5 @@
 -- Terms of a value, written and read.
-use Rattle.qd_ring.proofs.Names.{◌≡◌, ℕ, zero, suc, ◌+◌, ◌^◌, ◌<◌, min, Bool, true, false, ◌&&◌, List, [], ◌∷◌, ◌++◌, length, take, drop, get_or, refl, ap, sym, subst, ◌∙◌, arith, leb, eqb, cond, length-append, take-append-drop, Option, Some, None, one-add, zero-add, ℤ, pos, negsuc, nat_abs, option_and_then, prefix_len, and_parts, and_from, le-leb, leb-true, eqb-true, ne_eqb, append_assoc, drop-drop, Term, numeral, sign_text, power_text, term_text, is_digit, number, signed, numeral_len, power_of, term_after_sign, term_of}
+use Rattle.qd_ring.proofs.Names.{◌≡◌, ℕ, zero, suc, ◌+◌, ◌^◌, ◌<◌, min, Bool, true, false, ◌&&◌, List, [], ◌∷◌, ◌++◌, length, take, drop, get_or, refl, ap, sym, subst, ◌∙◌, arith, leb, eqb, cond, length-append, take-append-drop, Some, None, one-add, zero-add, ℤ, pos, negsuc, nat_abs, option_and_then, prefix_len, and_parts, and_from, le-leb, leb-true, eqb-true, ne_eqb, append_assoc, drop-drop, Term, numeral, sign_text, power_text, term_text, is_digit, number, signed, numeral_len, power_of, term_after_sign, term_of}
 use Rattle.std.proofs.Math.Nat.{add_assoc}
 use Rattle.std.proofs.Math.Seq.{drop-append-add, drop-append_seam, take-append_seam}
 use Rattle.std.proofs.lemmas.List.{get_or_append_left}
@@ -137,19 +137,19 @@ after_sign_read : (negative : Bool) (sign : ℕ) (rest : List ℕ) (term : Term)
 unfolding term_after_sign
 after_sign_read negative sign rest term h =
     option_and_then_some _ (numeral_len rest) term h (λ digits n k. option_and_then_some _ (power_of (drop digits rest)) term k (λ power q m.
-      let front = numeral_read rest digits n in
-      let back = power_read (drop digits rest) power q in
-      subst (AfterSign negative sign rest) (same_Some _ term m) (record {
-        magnitude = number (take digits rest);
-        power = back.exact;
-        taken = digits + power.1;
-        spelled = simp (front.spelled, ← (drop-drop power.1 digits rest), ← back.spelled, take-append-drop);
-        positive = front.positive;
-        coefficient_is = refl;
-        power_is = back.is;
-        len_is = omega arith;
-        longer = omega (arith, front.filled);
-      })))
+    let front = numeral_read rest digits n in
+    let back = power_read (drop digits rest) power q in
+    subst (AfterSign negative sign rest) (same_Some _ term m) (record {
+      magnitude = number (take digits rest);
+      power = back.exact;
+      taken = digits + power.1;
+      spelled = simp (front.spelled, ← (drop-drop power.1 digits rest), ← back.spelled, take-append-drop);
+      positive = front.positive;
+      coefficient_is = refl;
+      power_is = back.is;
+      len_is = omega arith;
+      longer = omega (arith, front.filled);
+    })))
 
 -- a term with the sign of c
 assembled : (later negative : Bool) (rest : List ℕ) (c : ℤ) (term : Term) (a : AfterSign negative (length (sign_text later c)) rest term)

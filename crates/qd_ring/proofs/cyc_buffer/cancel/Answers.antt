@@ -1,5 +1,5 @@
 -- Each number is changed as in a step of long division, and every number on the way fits.
-use Rattle.qd_ring.proofs.Names.{◌^◌, ◌<◌, ◌≤◌, ◌+ℤ◌, ◌*ℤ◌, ap, ap₂, subst, sym, ◌∙◌, refl, arith, rules, get_or, length, nat_abs, neg_ℤ, pos, w128, SFits, to_z, of_z, leading}
+use Rattle.qd_ring.proofs.Names.{◌≤◌, ◌+ℤ◌, ◌*ℤ◌, ap, ap₂, sym, ◌∙◌, arith, rules, get_or, nat_abs, neg_ℤ, pos, w128, SFits, to_z, of_z, leading}
 use Rattle.qd_ring.proofs.BufferLaws.{size_at, read_8, plus_none, small_now, one_added, all_added, cancel_last, leading_small, cancels, cancel_nothing}
 use Rattle.qd_ring.proofs.cyc_buffer.cancel.Goals as goal
 

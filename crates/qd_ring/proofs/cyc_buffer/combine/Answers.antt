@@ -1,5 +1,5 @@
 -- Each number is changed, and every number on the way fits.
-use Rattle.qd_ring.proofs.Names.{◌≡◌, ◌^◌, ◌<◌, ◌≤◌, ◌+ℤ◌, ◌*ℤ◌, ap, sym, subst, ◌∙◌, refl, arith, rules, get_or, length, nat_abs, neg_ℤ, pos, to_z-of_z, w8, w128, SFits, to_z, of_z, plus, scaled}
+use Rattle.qd_ring.proofs.Names.{◌+ℤ◌, ◌*ℤ◌, ap, sym, ◌∙◌, arith, rules, get_or, neg_ℤ, pos, to_z-of_z, w8, w128, SFits, to_z, of_z, plus, scaled}
 use Rattle.qd_ring.proofs.BufferLaws.{size_at, read_at, plus_none, small_now, one_added, all_added, sign_swaps}
 use Rattle.qd_ring.proofs.cyc_buffer.combine.Goals as goal
 

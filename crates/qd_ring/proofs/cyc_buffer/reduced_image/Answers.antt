@@ -1,5 +1,5 @@
 -- From an empty buffer the value is what is added.
-use Rattle.qd_ring.proofs.Names.{ap, ◌∙◌, cyclotomic, cyclotomic_value}
+use Rattle.qd_ring.proofs.Names.{◌∙◌}
 use Rattle.qd_ring.proofs.ProductLaws.{added_to_empty}
 use Rattle.qd_ring.proofs.cyc_buffer.reduced_image.Goals as goal
 

@@ -1,5 +1,5 @@
 -- One more number.
-use Rattle.qd_ring.proofs.Names.{◌≡◌, ◌∙◌, ◌+◌, ap, arith, add-one, drop, drop-cons, drop_all, get_or, max, nat_abs, pos, rules, to_z-of_z, w128, SFits, size-cons, size-nil, size_of}
+use Rattle.qd_ring.proofs.Names.{◌≡◌, ◌+◌, ap, arith, add-one, drop, drop-cons, drop_all, get_or, max, nat_abs, pos, rules, to_z-of_z, w128, SFits, size-cons, size-nil, size_of}
 use Rattle.qd_ring.proofs.cyc_buffer.size.Goals as goal
 
 pub loop-a-preserved : goal.loop-a-preserved

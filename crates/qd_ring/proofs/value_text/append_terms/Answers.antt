@@ -1,4 +1,4 @@
-use Rattle.qd_ring.proofs.Names.{◌≡◌, ◌≤◌, ◌+◌, ◌∙◌, ap, sym, ◌++◌, arith, rules, drop, le-ltb, length-take, ltb, take, take-length, length, get_or, pos, to_z-of_z, SFits, ap₂, term_text, terms_text}
+use Rattle.qd_ring.proofs.Names.{◌≤◌, ◌+◌, ◌∙◌, ap, sym, ◌++◌, arith, rules, drop, le-ltb, length-take, ltb, take, take-length, length, get_or, pos, to_z-of_z, SFits, ap₂, term_text, terms_text}
 use Rattle.std.proofs.Common.{to_z, of_z}
 use Rattle.std.specs.Int.{w128}
 use Rattle.qd_ring.proofs.Fronts.{front_trans}

@@ -1,5 +1,5 @@
 -- The sizes decide, and what they let through fits.
-use Rattle.qd_ring.proofs.Names.{◌≡◌, ◌*◌, ap, sym, ◌∙◌, arith, ap₂, cyclotomic, value_product, product_fits, product_that_fits, cyclotomic_value, array_of, value_of_terms, total_of_terms}
+use Rattle.qd_ring.proofs.Names.{◌*◌, sym, ◌∙◌, arith, ap₂, cyclotomic, value_product, product_fits, product_that_fits, value_of_terms, total_of_terms}
 use Rattle.qd_ring.proofs.CycLaws.{small_value, fits_by_sizes, unfit_by_sizes}
 use Rattle.qd_ring.proofs.SparseLaws.{sparse_room}
 use Rattle.qd_ring.proofs.terms.Terms.try_mul.Goals as goal
