@@ -1,5 +1,5 @@
 -- Powers of u_p in the twisted group algebra.
-use Rattle.central_ext.proofs.Names.{Below, Bool, CommRing, IsTwist, RootOfUnity, TwistedSubgroup, algebra_power, ap, below_equal, eq-eqb, eqb-true, equals, identity_of, kappa_at, kappa_phase, mul_pick, nat_eq, on_places, one_mul, op_inv_cancel, op_op_inv, phase, phase_at, phases_cocycle, pick, pick_cong, pick_same, place_group, place_power, places, power, power_phase, product, product_on_places, refl, root, same_mod, same_sym, size, some_root, suc, sym, times_unit, twist_roots, twisted_product, unit_vector, zero, ℕ, ◌%◌, ◌+◌, ◌<◌, ◌∙◌, ◌≡◌}
+use Rattle.central_ext.proofs.Names.{Below, Bool, CommRing, IsTwist, RootOfUnity, TwistedSubgroup, algebra_power, ap, below_equal, eq-eqb, eqb-true, equals, identity_of, kappa_at, kappa_phase, mul_pick, nat_eq, on_places, one_mul, op_inv_cancel, op_op_inv, phase, phase_at, phases_cocycle, pick, pick_cong, pick_same, place_group, place_power, places, power, power_phase, product, product_on_places, root, same_mod, same_sym, size, some_root, suc, sym, times_unit, twist_roots, twisted_product, unit_vector, zero, ℕ, ◌%◌, ◌+◌, ◌<◌, ◌∙◌, ◌≡◌}
 use Rattle.central_ext.proofs.PairPowers.{power_phase-zero, power_phase-suc, place_power_below}
 
 module _ {A : Type 0} (R : CommRing A) {m : ℕ} (U : RootOfUnity R m) (s : TwistedSubgroup) (twist : IsTwist s) (divides : m % s.modulus ≡ 0) where

@@ -1,5 +1,5 @@
 -- First pairs of classes, and class numbers by first appearance.
-use Rattle.central_ext.proofs.Names.{Bool, IsLeastPassing, IsTwist, List, None, Some, TwistedSubgroup, [], add-one, ap, are_conjugate, arith, below_more, cases_order, class_number, cond, eq-eqb, eq-or-lt_of_le, false, first-ext, first_of_class, get_or, get_or_append_left, get_or_push, inl, inr, is_first_of_class, least_passing, least_passing_found, length, length-append, ne_eqb, pair_at, pair_count, passing_below, passing_below-fails, passing_below-passes, passing_below-suc, passing_below-zero, refl, same_test, subst, suc, sym, true, unwrap_or, zero, ℕ, ◌++◌, ◌+◌, ◌<◌, ◌↔◌, ◌∙◌, ◌∷◌, ◌≡◌, ◌≤◌, ◌⊎◌}
+use Rattle.central_ext.proofs.Names.{Bool, IsLeastPassing, IsTwist, List, TwistedSubgroup, [], ap, are_conjugate, arith, below_more, cases_order, class_number, cond, eq-eqb, eq-or-lt_of_le, false, first_of_class, get_or, get_or_append_left, get_or_push, inl, inr, is_first_of_class, least_passing, least_passing_found, length, length-append, ne_eqb, pair_at, pair_count, passing_below, passing_below-fails, passing_below-passes, passing_below-suc, passing_below-zero, refl, suc, sym, true, zero, ℕ, ◌++◌, ◌+◌, ◌<◌, ◌↔◌, ◌∙◌, ◌∷◌, ◌≡◌, ◌≤◌}
 use Rattle.central_ext.proofs.PairLaws.{pair_below, conjugate_itself, conjugate_back, conjugate_on}
 
 count_step : (b : ℕ) (test : ℕ → Bool) → length (passing_below b test) ≤ length (passing_below (suc b) test)
@@ -13,10 +13,10 @@ count_step b test = rw (passing_below-suc b test) (by (test b))
 count_grows : (a b : ℕ) (test : ℕ → Bool) → a < b → test a ≡ true → length (passing_below a test) < length (passing_below b test)
 count_grows a zero test less passes = absurd (omega arith)
 count_grows a (suc b) test less passes =
-  let within : a ≤ b = omega arith in elim (eq-or-lt_of_le within) [
-  | inl equal ↦ rw (equal, passing_below-suc b test, ap test (sym equal) ∙ passes, length-append (passing_below b test) (b ∷ [])) (omega arith)
-  | inr before ↦ let front = count_grows a b test before passes in let step = count_step b test in omega (arith, front, step)
-]
+    let within : a ≤ b = omega arith in elim (eq-or-lt_of_le within) [
+      | inl equal ↦ rw (equal, passing_below-suc b test, ap test (sym equal) ∙ passes, length-append (passing_below b test) (b ∷ [])) (omega arith)
+      | inr before ↦ let front = count_grows a b test before passes in let step = count_step b test in omega (arith, front, step)
+    ]
 
 -- the test by which the first pair of the class of the pair t is found
 abbrev pub conjugate_to : TwistedSubgroup → ℕ → ℕ → Bool

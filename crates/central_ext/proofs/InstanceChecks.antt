@@ -1,5 +1,5 @@
 -- The worked twists are twists, by computing.
-use Rattle.central_ext.proofs.Names.{BitsExtended, BitsIsTwist, Bool, HasCocycle, IsGroup, IsModulus, IsSmall, IsTwist, PlainIsTwist, TwistedSubgroup, TwoExtended, TwoIsTwist, all_below, all_below-at, and_true, are_conjugate, bits_twist, class_number, element, eqb-true, first, first_of_class, get_or, group_fault, identity_of, length, lit<, lit≤, ltb-true, nat_eq, nat_lt, passing_below, phase, plain_twist, power, power_phase, product, refl, size, true, two_twist, ℕ, ◌%◌, ◌&&◌, ◌*◌, ◌+◌, ◌<◌, ◌≡◌, ◌≤◌}
+use Rattle.central_ext.proofs.Names.{BitsExtended, BitsIsTwist, Bool, HasCocycle, IsGroup, IsModulus, IsSmall, IsTwist, PlainIsTwist, TwistedSubgroup, TwoExtended, TwoIsTwist, all_below, all_below-at, and_true, are_conjugate, bits_twist, class_number, element, eqb-true, first, first_of_class, get_or, group_fault, identity_of, length, lit<, lit≤, ltb-true, nat_eq, nat_lt, passing_below, phase, plain_twist, power, power_phase, product, refl, size, true, two_twist, ℕ, ◌%◌, ◌&&◌, ◌*◌, ◌+◌, ◌<◌, ◌≡◌}
 
 -- the laws of a 2-cocycle as one test
 law_holds : TwistedSubgroup → ℕ → ℕ → ℕ → Bool

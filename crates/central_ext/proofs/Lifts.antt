@@ -1,5 +1,5 @@
 -- The extension of a group by roots of unity that a normalised 2-cocycle gives, over groups whose elements are a type (Schur 1904).
-use Rattle.central_ext.proofs.Names.{Below, Group, IsConjugationPhase, IsTwoCocycle, Same, arith, below_equal, carry, carry_move, mod-eq_of_lt, mod-lt, op_cancel_right, same_add, same_lin, same_mod, same_multiple, same_sym, sym, ℕ, ◌%◌, ◌*◌, ◌+◌, ◌-◌, ◌<◌, ◌∙◌, ◌≡◌}
+use Rattle.central_ext.proofs.Names.{Below, Group, IsConjugationPhase, IsTwoCocycle, Same, arith, below_equal, carry, carry_move, mod-eq_of_lt, mod-lt, op_cancel_right, same_add, same_lin, same_mod, same_multiple, same_sym, sym, ℕ, ◌%◌, ◌+◌, ◌-◌, ◌<◌, ◌∙◌, ◌≡◌}
 
 -- an element of the group, and an exponent modulo n
 pub record Lift (G : Type 0) (n : ℕ) : Type 0 where

@@ -1,10 +1,10 @@
 -- The names of the standard library, of the crates below and of the definitions that the proofs use.
-pub use Rattle.std.proofs.Common.{Bool, List, None, Some, [], add-one, add-suc, add-zero, ap, arith, cond, eq-eqb, eq-or-lt_of_le, eqb-true, false, get_or, inl, inr, length, length-append, lit<, lit≤, min, nat_eq, nat_lt, refl, subst, suc, sym, true, zero, ℕ, ◌%◌, ◌&&◌, ◌*◌, ◌++◌, ◌+◌, ◌-◌, ◌/◌, ◌<◌, ◌↔◌, ◌∙◌, ◌∷◌, ◌≡◌, ◌≢◌, ◌≤◌, ◌⊎◌}
+pub use Rattle.std.proofs.Common.{Bool, List, None, Some, [], add-one, add-suc, add-zero, ap, arith, cond, eq-eqb, eq-or-lt_of_le, eqb-true, false, get_or, inl, inr, length, length-append, lit<, lit≤, min, nat_eq, nat_lt, refl, subst, suc, sym, true, zero, ℕ, ◌%◌, ◌&&◌, ◌*◌, ◌++◌, ◌+◌, ◌-◌, ◌/◌, ◌<◌, ◌↔◌, ◌∙◌, ◌∷◌, ◌≡◌, ◌≢◌, ◌≤◌}
 pub use Rattle.std.proofs.Math.Nat.{div-lt_iff_lt-mul, mod-eq_of_lt, mod-lt}
 pub use Rattle.std.proofs.lemmas.Bool.{cases_lt, cases_order, ltb-true, ne_eqb}
 pub use Rattle.std.proofs.lemmas.List.{get_or_append_left, get_or_push}
 pub use Rattle.std.proofs.lemmas.Nat.{div-add-mod', div-mul-add, mod-mul-add, mul-add-lt}
-pub use Rattle.std.specs.Prelude.{is_some, unwrap_or}
+pub use Rattle.std.specs.Prelude.{is_some}
 pub use borrow.Author.Count.{below_more}
 pub use Rattle.algebra.proofs.CongruenceLaws.{same_add, same_add_left, same_equal, same_lin, same_mod, same_multiple, same_of, same_sym, same_trans}
 pub use Rattle.algebra.proofs.GroupLaws.{op_cancel_right, op_inv_cancel, op_op_inv}
@@ -26,7 +26,7 @@ unfoldable pub use Rattle.group_table.specs.Group.{group_fault}
 unfoldable pub use Rattle.group_table.specs.Numbers.{passing_below}
 pub use Rattle.orders.proofs.Powers.{power_below}
 unfoldable pub use Rattle.orders.specs.Group.{power}
-pub use Rattle.scan.proofs.Places.{all_below-at, and_true, first-ext}
+pub use Rattle.scan.proofs.Places.{all_below-at, and_true}
 pub use Rattle.scan.proofs.Searches.{IsLeastPassing, first_finds, is_some_of, least_passing, least_passing_found, same_test, some_of}
 unfoldable pub use Rattle.scan.specs.First.{all_below, first}
 pub use Rattle.twisted.proofs.AlgebraLaws.{on_places, product_on_places, twist_roots}

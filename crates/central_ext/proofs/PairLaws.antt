@@ -1,5 +1,5 @@
 -- The pairs of a twist are the lifts of its places: the laws of the extension, and its conjugacy.
-use Rattle.central_ext.proofs.Names.{Below, Bool, Group, IsPair, IsTwist, None, Pair, Some, TwistedSubgroup, and_true, ap, are_conjugate, arith, carry, carry_back, carry_is, carry_one, carry_op, carry_value, cond, conjugate, div-add-mod', div-lt_iff_lt-mul, div-mul-add, eq-eqb, eqb-true, ext_conjugate, ext_identity, ext_inverse, ext_product, first_finds, is_same_pair, is_some_of, kappa, kappa_at, kappa_phase, least_passing, mod-lt, mod-mul-add, mul-add-lt, nat_eq, pair_at, pair_count, pair_number, phase_at, phases_cocycle, place_group, refl, size, some_of, some_root, sym, true, ℕ, ◌%◌, ◌*◌, ◌+◌, ◌<◌, ◌∙◌, ◌≡◌, ◌≤◌}
+use Rattle.central_ext.proofs.Names.{Below, Bool, Group, IsPair, IsTwist, None, Pair, Some, TwistedSubgroup, and_true, ap, are_conjugate, arith, carry, carry_back, carry_is, carry_one, carry_op, carry_value, cond, conjugate, div-add-mod', div-lt_iff_lt-mul, div-mul-add, eq-eqb, eqb-true, ext_conjugate, ext_identity, ext_inverse, ext_product, first_finds, is_same_pair, is_some_of, kappa, kappa_at, kappa_phase, least_passing, mod-lt, mod-mul-add, mul-add-lt, nat_eq, pair_at, pair_count, pair_number, phase_at, phases_cocycle, place_group, refl, size, some_of, some_root, sym, true, ℕ, ◌%◌, ◌+◌, ◌<◌, ◌∙◌, ◌≡◌}
 use Rattle.central_ext.proofs.Lifts.{Lift, lifts, carry_lift}
 
 -- pairs with one place and one root are one

@@ -1,6 +1,6 @@
 -- Powers in the extension.
 use Rattle.central_ext.proofs.Names.{IsPair, IsTwist, Pair, TwistedSubgroup, add-one, add-suc, add-zero, ap, arith, ext_identity, ext_power, ext_product, group_below, phase, place_power, power, power_below, power_phase, refl, size, some_root, suc, sym, zero, ℕ, ◌%◌, ◌*◌, ◌+◌, ◌/◌, ◌<◌, ◌∙◌, ◌≡◌, ◌≢◌}
-use Rattle.central_ext.proofs.PairLaws.{product_pair, identity_pair, product_associates, identity_product, product_identity, pair_equal}
+use Rattle.central_ext.proofs.PairLaws.{product_pair, identity_pair, product_associates, product_identity, pair_equal}
 
 module _ (s : TwistedSubgroup) where
   pub ext_power-zero : (a : Pair) → ext_power s a 0 ≡ ext_identity s

@@ -1,5 +1,5 @@
 -- Each conductor has a modulus over 60: it is 1 modulo the conductor, and the cyclotomic polynomial has a root modulo it.
-use Rattle.prime_field.proofs.Names.{◌≡◌, ◌≢◌, ℕ, ◌%◌, ◌≤◌, ◌<◌, ◌∷◌, true, Bool, Some, None, refl, ap, ◌∙◌, arith, nat_tests, ne_eqb, ltb-true, eqb-true, ◌==◌, ◌&&◌, not, nat_lt, is_some, if◌then◌else◌, list_all, list_any, first, and_true, least_passing, conductors, is_conductor, reductions, reduction_of, at_each_conductor, listed, cyclotomic_is, whole_modulo, reduced, value_at, is_root, moduli, is_modulus, modulus_fault, least_root, ServesConductor, some_value, modulus_bound}
+use Rattle.prime_field.proofs.Names.{◌≡◌, ◌≢◌, ℕ, ◌%◌, ◌<◌, true, Bool, Some, None, refl, ap, ◌∙◌, arith, nat_tests, ne_eqb, ltb-true, eqb-true, ◌==◌, ◌&&◌, not, nat_lt, is_some, if◌then◌else◌, list_all, first, and_true, least_passing, conductors, is_conductor, reductions, reduction_of, at_each_conductor, listed, cyclotomic_is, whole_modulo, reduced, value_at, is_root, moduli, is_modulus, modulus_fault, least_root, ServesConductor, some_value, modulus_bound}
 
 -- no condition fails where all hold
 no_fault : (q above k r : ℕ) → above < q → q < 65536 → is_modulus q ≡ true → k % q ≢ 0 → least_root q k ≡ Some r → modulus_fault q above k ≡ None

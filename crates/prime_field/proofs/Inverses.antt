@@ -11,7 +11,12 @@ pub inverse_is : (q : ℕ) → is_modulus q ≡ true → (a : ℕ) (o : Option �
 inverse_is q listed a (Some b) e =
     let means = inverse_means q a b (sym e) in
     (means.0, means.1, (λ zero. let none : Some b ≡ None = e ∙ inverse_absent q listed a zero in cc), tt)
-inverse_is q listed a None e = (tt, tt, tt, elim (cases_eq (a % q) 0) [
-  | inl zero ↦ zero
-  | inr apart ↦ let there = inverse_there q listed a apart in let some : None ≡ Some there.0 = e ∙ there.1 in absurd cc
-])
+inverse_is q listed a None e = (
+  tt,
+  tt,
+  tt,
+  elim (cases_eq (a % q) 0) [
+    | inl zero ↦ zero
+    | inr apart ↦ let there = inverse_there q listed a apart in let some : None ≡ Some there.0 = e ∙ there.1 in absurd cc
+  ],
+)

@@ -1,5 +1,5 @@
 -- The lists that the search of a minimal polynomial goes through.
-use Rattle.prime_field.proofs.Names.{◌≡◌, ◌⊎◌, inl, inr, ℕ, suc, ◌+◌, ◌-◌, ◌*◌, ◌/◌, ◌%◌, ◌<◌, Bool, true, false, get_or, List, ◌++◌, length, length-append, add-one, refl, sym, ◌∙◌, ap, arith, slice_range, nat_eq, not, if◌then◌else◌, cases_eq, cases_lt, ne_eqb, eq-eqb, eqb-true, div-lt_iff_lt-mul, div-add-mod', row_below, column_below, get_or_append_left, get_or-append_right, CommRing, pick, pick_same, is_modulus, field, field_residue, dot, matrix_power, IsMinimal, IsFree, IsGone, IsSolved, power_equations, IsLastNonzero, AreBelow, column_of, matrix_of, IsTabulated, ListsPowers}
+use Rattle.prime_field.proofs.Names.{◌≡◌, ◌⊎◌, inl, inr, ℕ, suc, ◌+◌, ◌-◌, ◌*◌, ◌/◌, ◌%◌, ◌<◌, true, get_or, List, ◌++◌, length, length-append, refl, sym, ◌∙◌, ap, arith, slice_range, nat_eq, not, if◌then◌else◌, cases_eq, cases_lt, ne_eqb, eq-eqb, eqb-true, div-lt_iff_lt-mul, div-add-mod', row_below, column_below, get_or_append_left, get_or-append_right, pick_same, is_modulus, field, field_residue, dot, matrix_power, IsMinimal, IsFree, IsGone, IsSolved, power_equations, IsLastNonzero, AreBelow, column_of, matrix_of, IsTabulated, ListsPowers}
 use Rattle.prime_field.proofs.EliminationSteps.{dot_ext}
 use Rattle.prime_field.proofs.KernelBasis.{IsTold}
 use Rattle.prime_field.proofs.KernelLists.{begins_at, told}

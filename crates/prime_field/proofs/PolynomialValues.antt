@@ -1,5 +1,5 @@
 -- Values of polynomials modulo q, coefficient by coefficient from the last, and how many roots there are.
-use Rattle.prime_field.proofs.Names.{◌≡◌, ◌≢◌, ℕ, zero, suc, ◌+◌, ◌-◌, ◌*◌, ◌%◌, ◌<◌, ◌≤◌, Bool, true, false, List, [], ◌∷◌, length, get_or, drop, drop-cons, refl, sym, ◌∙◌, ap, subst, arith, eqb-true, mod-lt, mod-add-mod, mod-eq_of_lt, zero-mod, add-mod-mod, mul-le-mul_right, mul-mod_second, eq-eqb, map, ◌==◌, unwrap_or, length-map, Below, below_equal, Field, value, AllNought, value_nil, value_cons, passing_below, passing_below-ext, is_modulus, inverse_modulo, field, field_residue, value_at, reduced, ℤ, polynomial_value, polynomial_at, is_root, HasCoefficient, modulus_positive, modulus_bound, modulus_over_one, inverse_there, inverse_means, nought_value, value_nought}
+use Rattle.prime_field.proofs.Names.{◌≡◌, ◌≢◌, ℕ, zero, suc, ◌+◌, ◌-◌, ◌*◌, ◌%◌, ◌<◌, ◌≤◌, true, List, [], ◌∷◌, length, get_or, drop, drop-cons, sym, ◌∙◌, ap, subst, arith, eqb-true, mod-lt, mod-add-mod, mod-eq_of_lt, zero-mod, mul-le-mul_right, mul-mod_second, eq-eqb, map, ◌==◌, unwrap_or, length-map, Below, below_equal, Field, value, AllNought, value_nil, value_cons, passing_below, passing_below-ext, is_modulus, inverse_modulo, field, field_residue, value_at, reduced, ℤ, polynomial_value, polynomial_at, is_root, HasCoefficient, modulus_positive, modulus_bound, modulus_over_one, inverse_there, inverse_means, nought_value, value_nought}
 use Rattle.prime_field.proofs.PolynomialRoots.{fewer_roots}
 use Rattle.prime_field.proofs.ResidueSums.{inner_remainders, same_residue}
 

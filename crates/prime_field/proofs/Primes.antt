@@ -1,5 +1,5 @@
 -- Each modulus is a prime, and the residues modulo it are a field.
-use Rattle.prime_field.proofs.Names.{◌≡◌, ◌≢◌, ℕ, ◌%◌, ◌<◌, true, Bool, refl, sym, ap, ◌∙◌, arith, nat_tests, ◌⊎◌, inl, inr, cases_eq, cases_order, mod-eq_of_lt, ◌==◌, ◌||◌, not, list_all, all_below, Below, below_equal, all_below_means, moduli, is_modulus, field, at_each_modulus, modulus_over_one, modulus_positive, inverse_unique, nought_value, value_nought, residue_product}
+use Rattle.prime_field.proofs.Names.{◌≡◌, ℕ, ◌%◌, true, Bool, refl, sym, ap, ◌∙◌, arith, nat_tests, ◌⊎◌, inl, inr, cases_eq, cases_order, mod-eq_of_lt, ◌==◌, ◌||◌, not, list_all, all_below, Below, below_equal, all_below_means, moduli, is_modulus, field, at_each_modulus, modulus_over_one, modulus_positive, inverse_unique, nought_value, value_nought, residue_product}
 
 -- d is 1, or doesn't divide q
 is_no_divisor : ℕ → ℕ → Bool

@@ -1,4 +1,4 @@
-use Rattle.prime_field.proofs.Names.{◌<◌, ◌*◌, ◌/◌, ◌%◌, arith, mod-lt, div-lt_iff_lt-mul}
+use Rattle.prime_field.proofs.Names.{◌<◌, ◌/◌, ◌%◌, arith, mod-lt, div-lt_iff_lt-mul}
 use Rattle.prime_field.proofs.ResidueRows.{place_in}
 use Rattle.prime_field.proofs.kernels.gathered.Goals as goal
 
