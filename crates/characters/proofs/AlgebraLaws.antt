@@ -1,6 +1,6 @@
 -- The twisted group algebra of an element: by elements, and by the places of its centraliser.
 use Rattle.characters.proofs.Names.{◌≡◌, refl, sym, ◌∙◌, ap, pick, multiple, Finite, equals, total, Group, inv_op_op, total_ext, total_constant, Setting, Commuting, commute, slant_root, conjugation_root, centraliser_order, centraliser_product, IsSubgroup}
-use Rattle.characters.proofs.SettingLaws.{commute_of, commute_true, commuting_product, cancel_unit, slant_root_bar, conjugation_root_is}
+use Rattle.characters.proofs.SettingLaws.{commute_of, commuting_product, cancel_unit, slant_root_bar, conjugation_root_is}
 use Rattle.characters.proofs.PartLaws.{element_inv, element_quotient, element_conjugate, at_elements, equals_at_places, total_places}
 
 module _ {A G : Type 0} (T : Setting A G) (a : G) where
@@ -34,26 +34,13 @@ module _ {A G : Type 0} (T : Setting A G) (a : G) where
 
 -- the centraliser of a by its places
 module _ {A G K : Type 0} (T : Setting A G) (a : G) (Q : Group K) (element : K → G) (I : IsSubgroup T.group (λ x. commute T x a) Q element) where
-  pub place_commutes : (p : K) → Commuting T (element p) a
-  place_commutes p = commute_true T (element p) a (I.part.within p)
-
   -- what holds at every place holds at every element that commutes with a
   pub at_commuting : (holds : G → Type 0) → ((p : K) → holds (element p)) → (x : G) → Commuting T x a → holds x
   at_commuting holds at x h = at_elements (λ y. commute T y a) element I.part holds at x (commute_of T x a h)
 
-  -- what is carried by conjugation at places is at elements
-  pub carried_at_places : (z : G → A)
-      → ((c p : K) → z (element (Q.op (Q.op c p) (Q.inv c))) ≡ T.ring.mul (conjugation_root T a (element c) (element p)) (z (element p)))
-      → (c x : G) → Commuting T c a → Commuting T x a
-      → z (T.group.op (T.group.op c x) (T.group.inv c)) ≡ T.ring.mul (conjugation_root T a c x) (z x)
-  carried_at_places z at_places c x commuting_c commuting_x =
-      at_commuting
-      (λ c. z (T.group.op (T.group.op c x) (T.group.inv c)) ≡ T.ring.mul (conjugation_root T a c x) (z x))
-      (λ q. at_commuting
-      (λ x. z (T.group.op (T.group.op (element q) x) (T.group.inv (element q))) ≡ T.ring.mul (conjugation_root T a (element q) x) (z x))
-      (λ p. ap z (sym (element_conjugate T.group (λ y. commute T y a) Q element I q p)) ∙ at_places q p)
-      x commuting_x)
-      c commuting_c
+  -- and what holds at every two places
+  pub at_commuting_pairs : (holds : G → G → Type 0) → ((p q : K) → holds (element p) (element q)) → (x y : G) → Commuting T x a → Commuting T y a → holds x y
+  at_commuting_pairs holds at x y h k = at_commuting (λ x. holds x y) (λ p. at_commuting (holds (element p)) (at p) y k) x h
 
   -- an element that commutes with each u_y, as an equation of places, is carried by conjugation
   pub central_at_places : (z : G → A)
@@ -64,28 +51,21 @@ module _ {A G K : Type 0} (T : Setting A G) (a : G) (Q : Group K) (element : K �
       → z (T.group.op (T.group.op c x) (T.group.inv c)) ≡ T.ring.mul (conjugation_root T a c x) (z x)
   central_at_places z at_places =
       central_of_commuting T a z
-      (λ y x commuting_y commuting_x. at_commuting
-      (λ u. T.ring.mul (slant_root T a u (T.group.op (T.group.inv u) x)) (z (T.group.op (T.group.inv u) x)) ≡ T.ring.mul (slant_root T a (T.group.op x (T.group.inv u)) u) (z (T.group.op x (T.group.inv u))))
-      (λ p. at_commuting
-      (λ v. T.ring.mul (slant_root T a (element p) (T.group.op (T.group.inv (element p)) v)) (z (T.group.op (T.group.inv (element p)) v))
-      ≡ T.ring.mul (slant_root T a (T.group.op v (T.group.inv (element p))) (element p)) (z (T.group.op v (T.group.inv (element p)))))
-      (λ q.
+      (at_commuting_pairs
+      (λ u v. T.ring.mul (slant_root T a u (T.group.op (T.group.inv u) v)) (z (T.group.op (T.group.inv u) v))
+      ≡ T.ring.mul (slant_root T a (T.group.op v (T.group.inv u)) u) (z (T.group.op v (T.group.inv u))))
+      (λ p q.
       let left : element (Q.op (Q.inv p) q) ≡ T.group.op (T.group.inv (element p)) (element q) = element_quotient T.group (λ y. commute T y a) Q element I p q in
       let right : element (Q.op q (Q.inv p)) ≡ T.group.op (element q) (T.group.inv (element p)) =
       I.respects q (Q.inv p) ∙ ap (T.group.op (element q)) (element_inv T.group (λ y. commute T y a) Q element I p) in
-      sym (ap (λ u. T.ring.mul (slant_root T a (element p) u) (z u)) left) ∙ at_places p q ∙ ap (λ u. T.ring.mul (slant_root T a u (element p)) (z u)) right)
-      x commuting_x)
-      y commuting_y)
+      sym (ap (λ u. T.ring.mul (slant_root T a (element p) u) (z u)) left) ∙ at_places p q ∙ ap (λ u. T.ring.mul (slant_root T a u (element p)) (z u)) right))
 
 -- sums over its places
 module _ {A G K : Type 0} (T : Setting A G) (a : G) (Q : Group K) (E : Finite K) (element : K → G) (I : IsSubgroup T.group (λ x. commute T x a) Q element) where
-  -- the order of the centraliser counts places
-  pub order_at_places : centraliser_order T a ≡ total T.ring E (λ p. T.ring.one)
-  order_at_places = centraliser_order_is T a ∙ sym (total_places (λ x. commute T x a) element I.part T.ring T.finite E (λ x. T.ring.one))
-
-  -- and is a whole number
+  -- the order of the centraliser is the number of places
   pub order_of_places : centraliser_order T a ≡ multiple T.ring E.size T.ring.one
-  order_of_places = order_at_places ∙ total_constant T.ring E T.ring.one
+  order_of_places =
+      centraliser_order_is T a ∙ sym (total_places (λ x. commute T x a) element I.part T.ring T.finite E (λ x. T.ring.one)) ∙ total_constant T.ring E T.ring.one
 
   -- the product is taken over places
   pub product_at_places : (p r : G → A) (x : K) →

@@ -1,6 +1,6 @@
 -- Full characters do not depend on the carrier, and are covariant.
-use Rattle.characters.proofs.Names.{◌≡◌, Bool, true, false, refl, sym, ◌∙◌, ap, subst, ap₂, pick, equals, conj, mul_nought, pick_of, pick_off, pick_nought, group_rules, conj_is, conj_op, conj_of_commuting, commuting_of_conj, op_inv_op, equals_true, equals_of, Setting, Classes, Commuting, commute, transport_root, conjugation_root, Simples, in_class, full_character}
-use Rattle.characters.proofs.SettingLaws.{commute_of, commuting_conj, conjugation_root_bar, transport_root_composes}
+use Rattle.characters.proofs.Names.{◌≡◌, Bool, true, false, refl, sym, ◌∙◌, ap, subst, ap₂, pick, equals, conj, mul_nought, pick_of, pick_off, group_rules, conj_is, conj_op, conj_of_commuting, commuting_of_conj, op_inv_op, equals_true, equals_of, Setting, Classes, Commuting, commute, transport_root, conjugation_root, Simples, in_class, full_character, mul_pick, nought_mul, bar_nought}
+use Rattle.characters.proofs.SettingLaws.{commute_of, commuting_conj, conjugation_root_bar, transport_root_composes, pick_both}
 
 module _ {A G S : Type 0} (T : Setting A G) (C : Classes T.group) (X : Simples T C S) where
   pub full_character_is : (i : S) (g x : G) →
@@ -33,9 +33,6 @@ module _ {A G S : Type 0} (T : Setting A G) (C : Classes T.group) (X : Simples T
   -- nought out of the class, and where the two do not commute
   pub full_character_off : (i : S) (g x : G) → in_class T C X i g ≡ false → full_character T C X i g x ≡ T.ring.nought
   full_character_off i g x e = full_character_is i g x ∙ pick_off T.ring _ _ e
-
-  pub full_character_apart : (i : S) (g x : G) → commute T g x ≡ false → full_character T C X i g x ≡ T.ring.nought
-  full_character_apart i g x e = full_character_is i g x ∙ ap (pick T.ring (in_class T C X i g)) (pick_off T.ring _ _ e) ∙ pick_nought T.ring _
 
   -- what is carried to the representative is in its class
   pub in_class_carried : (i : S) (g k : G) → conj T.group g k ≡ X.at i → in_class T C X i g ≡ true
@@ -85,18 +82,30 @@ module _ {A G S : Type 0} (T : Setting A G) (C : Classes T.group) (X : Simples T
   -- at a conjugate pair: the value there times a root
   pub covariance : (i : S) (g x c : G) → Commuting T g x →
       full_character T C X i g x ≡ T.ring.mul (transport_root T g x c) (full_character T C X i (conj T.group g c) (conj T.group x c))
-  covariance i g x c commuting = by (in_class T C X i g) refl
+  covariance i g x c commuting =
+      full_character_at i g x commuting ∙ pick_both T.ring _ _ _ _ (sym (in_class_conj i g c)) moved ∙ sym (mul_pick T.ring _ (transport_root T g x c) _)
+      ∙ ap (T.ring.mul (transport_root T g x c)) (sym (full_character_at i (conj T.group g c) (conj T.group x c) (commuting_conj T g x c commuting)))
     where
-      by : (b : Bool) → in_class T C X i g ≡ b → full_character T C X i g x ≡ T.ring.mul (transport_root T g x c) (full_character T C X i (conj T.group g c) (conj T.group x c))
-      by true e =
-          let k : G = C.carrier g in
-          let l : G = T.group.op (T.group.inv c) k in
-          let whole : T.group.op c l ≡ k = op_inv_op T.group c k in
-          let along : conj T.group g k ≡ X.at i = C.carries g ∙ in_class_true i g e in
-          let along_l : conj T.group (conj T.group g c) l ≡ X.at i = sym (conj_op T.group g c l) ∙ ap (conj T.group g) whole ∙ along in
-          transporter_independent i g x k along commuting
-          ∙ ap₂ (λ r y. T.ring.mul r (X.value i y)) (ap (transport_root T g x) (sym whole) ∙ transport_root_composes T g x c l commuting) (ap (conj T.group x) (sym whole) ∙ conj_op T.group x c l)
+      moved : in_class T C X i g ≡ true →
+          T.ring.mul (transport_root T g x (C.carrier g)) (X.value i (conj T.group x (C.carrier g)))
+          ≡ T.ring.mul (transport_root T g x c)
+          (T.ring.mul (transport_root T (conj T.group g c) (conj T.group x c) (C.carrier (conj T.group g c))) (X.value i (conj T.group (conj T.group x c) (C.carrier (conj T.group g c)))))
+      moved e =
+          let l : G = C.carrier (conj T.group g c) in
+          let own : C.representative g ≡ X.at i = in_class_true i g e in
+          carriers_agree i g x (C.carrier g) (T.group.op c l) (C.carries g ∙ own) (conj_op T.group g c l ∙ C.carries (conj T.group g c) ∙ C.constant g c ∙ own) commuting
+          ∙ ap₂ (λ r y. T.ring.mul r (X.value i y)) (transport_root_composes T g x c l commuting) (conj_op T.group x c l)
           ∙ T.ring.mul_assoc _ _ _
-          ∙ ap (T.ring.mul (transport_root T g x c)) (sym (transporter_independent i (conj T.group g c) (conj T.group x c) l along_l (commuting_conj T g x c commuting)))
-      by false e =
-          full_character_off i g x e ∙ sym (ap (T.ring.mul (transport_root T g x c)) (full_character_off i (conj T.group g c) (conj T.group x c) (in_class_conj i g c ∙ e)) ∙ mul_nought T.ring _)
+
+  -- the full character of i at one pair times the conjugate of that of j at another is nought where a class is not met
+  pub product_off : (i j : S) (g x h y : G) → (C.representative g ≡ X.at i → C.representative h ≡ X.at j → ⊥) →
+      T.ring.mul (full_character T C X i g x) (T.involution.bar (full_character T C X j h y)) ≡ T.ring.nought
+  product_off i j g x h y none = by (in_class T C X i g) (in_class T C X j h) refl refl
+    where
+      by : (b c : Bool) → in_class T C X i g ≡ b → in_class T C X j h ≡ c →
+          T.ring.mul (full_character T C X i g x) (T.involution.bar (full_character T C X j h y)) ≡ T.ring.nought
+      by true true e f = absurd (none (in_class_true i g e) (in_class_true j h f))
+      by false c e f = ap (λ z. T.ring.mul z (T.involution.bar (full_character T C X j h y))) (full_character_off i g x e) ∙ nought_mul T.ring _
+      by true false e f =
+          ap (λ z. T.ring.mul (full_character T C X i g x) (T.involution.bar z)) (full_character_off j h y f)
+          ∙ ap (T.ring.mul (full_character T C X i g x)) (bar_nought T.ring T.involution) ∙ mul_nought T.ring _

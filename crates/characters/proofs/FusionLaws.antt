@@ -1,10 +1,10 @@
 -- Tensor products decompose into simples.
-use Rattle.characters.proofs.Names.{◌≡◌, refl, sym, ◌∙◌, ap, ap₂, pick, Finite, equals, total, conj, product_rules, one_mul, mul_left_comm, pick_of, mul_pick, pick_mul, pick_swap, op_conj, conj_injective, conj_inv, conj_of_inv, one_conj, total_ext, total_exchange, total_pick, total_reindex, mul_total, total_mul, pick_total, equals_true, equals_of, Setting, Classes, Commuting, commute, transport_root, coproduct_root, Simples, group_order, GoodTables, pair_sum, inner_product, IsCovariant, full_character, dimension, tensor_character, fusion_sum}
-use Rattle.characters.proofs.SettingLaws.{same_test, commute_of, commute_true, commute_conj, coproduct_root_at_one, coproduct_root_carried, transport_root_of_one, commutes_one}
-use Rattle.characters.proofs.PairLaws.{pair_sum_is, pair_sum_ext, mul_pair_sum, total_pair_sum, inner_product_is}
+use Rattle.characters.proofs.Names.{◌≡◌, refl, sym, ◌∙◌, ap, ap₂, pick, Finite, equals, total, conj, product_rules, one_mul, mul_left_comm, pick_of, mul_pick, pick_mul, op_conj, conj_injective, conj_inv, conj_of_inv, one_conj, total_ext, total_exchange, total_pick, total_reindex, mul_total, total_mul, pick_total, equals_true, equals_of, Setting, Classes, Commuting, commute, transport_root, coproduct_root, Simples, group_order, GoodTables, inner_product, IsCovariant, full_character, dimension, tensor_character, fusion_sum}
+use Rattle.characters.proofs.SettingLaws.{same_test, commute_of, commute_true, commute_conj, coproduct_root_at_one, coproduct_root_carried, transport_root_of_one, commutes_one, pick_both}
+use Rattle.characters.proofs.PairLaws.{pair_sum_ext, mul_pair_sum, total_pair_sum, inner_product_is, pair_sum_at_one}
 use Rattle.characters.proofs.CharacterLaws.{covariance}
 use Rattle.characters.proofs.SLaws.{dimension_is, full_character_at_one}
-use Rattle.characters.proofs.OrthogonalityLaws.{pick_both, group_order_is}
+use Rattle.characters.proofs.OrthogonalityLaws.{group_order_is}
 use Rattle.characters.proofs.SecondOrthogonality.{second_orthogonality}
 use Rattle.characters.proofs.Expansion.{expansion}
 
@@ -19,15 +19,6 @@ module _ {A G : Type 0} (T : Setting A G) where
   -- a total over all elements, taken over their conjugates
   total_conj : (c : G) (f : G → A) → total T.ring T.finite (λ g. f (conj T.group g c)) ≡ total T.ring T.finite f
   total_conj c f = total_reindex T.ring T.finite T.finite (λ g. conj T.group g c) (λ g. conj T.group g (T.group.inv c)) (λ g. conj_inv T.group g c) (λ g. conj_of_inv T.group g c) f
-
-  -- a sum over pairs whose second element is the identity
-  pub pair_sum_at_one : (f : G → G → A) → pair_sum T (λ g x. pick T.ring (equals T.finite x T.group.one) (f g x)) ≡ total T.ring T.finite (λ g. f g T.group.one)
-  pair_sum_at_one f =
-      pair_sum_is T _
-      ∙ total_ext T.ring T.finite _ _
-      (λ g. total_ext T.ring T.finite _ _ (λ x. pick_swap T.ring (commute T g x) (equals T.finite x T.group.one) (f g x))
-      ∙ total_pick T.ring T.finite T.group.one (λ x. pick T.ring (commute T g x) (f g x))
-      ∙ pick_of T.ring _ _ (commute_of T g T.group.one (commutes_one T g)))
 
 module _ {A G S : Type 0} (T : Setting A G) (C : Classes T.group) (X : Simples T C S) where
   -- the term of a tensor product at h and k

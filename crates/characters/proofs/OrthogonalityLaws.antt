@@ -1,9 +1,9 @@
 -- The orthogonality of rows and of full characters.
-use Rattle.characters.proofs.Names.{◌≡◌, ℕ, ◌≤◌, Bool, true, false, refl, sym, ◌∙◌, ap, ap₂, CommRing, IsTorsionFree, pick, multiple, Finite, equals, total, conj, mul_nought, nought_mul, pick_mul, pick_of, pick_off, pick_nought, pick_cong, pick_true, pick_false, mul_multiple, multiple_is_mul, conj_op, conj_inv, conj_of_inv, inv_op_op, op_inv_op, conj_of_commuting, commuting_of_conj, total_ext, total_exchange, total_pick, total_reindex, total_nought, total_constant, equals_true, equals_of, equals_false, bar_nought, neg_unique, neg_neg, multiple_of_add, multiple_neg, Setting, Classes, commute, slant_root, transport_root, Simples, group_order, centraliser_order, centraliser_product, GoodTable, GoodTables, inner_product, in_class, full_character}
-use Rattle.characters.proofs.SettingLaws.{same_test, commute_of, commute_true, commute_symmetric, commute_conj, slant_root_bar, transport_root_bar, cancel_pair, one_commutes}
+use Rattle.characters.proofs.Names.{◌≡◌, ℕ, ◌≤◌, Bool, true, refl, sym, ◌∙◌, ap, ap₂, CommRing, IsTorsionFree, pick, multiple, Finite, equals, total, conj, pick_mul, pick_of, pick_off, pick_nought, pick_cong, mul_multiple, multiple_is_mul, conj_op, conj_inv, conj_of_inv, inv_op_op, op_inv_op, total_ext, total_exchange, total_pick, total_reindex, total_constant, equals_of, equals_false, neg_unique, neg_neg, multiple_of_add, multiple_neg, Setting, Classes, commute, slant_root, transport_root, Simples, group_order, centraliser_order, centraliser_product, GoodTable, GoodTables, inner_product, full_character}
+use Rattle.characters.proofs.SettingLaws.{commute_true, commute_symmetric, commute_conj, slant_root_bar, transport_root_bar, cancel_pair, one_commutes, pick_both, pick_where_equal, by_equality, total_none, fixed_test, carried_test}
 use Rattle.characters.proofs.PairLaws.{pair_sum_is, inner_product_is}
 use Rattle.characters.proofs.AlgebraLaws.{centraliser_order_is, centraliser_product_is}
-use Rattle.characters.proofs.CharacterLaws.{full_character_is, full_character_off, in_class_is, in_class_true}
+use Rattle.characters.proofs.CharacterLaws.{product_off, transporter_independent}
 use Rattle.characters.proofs.SLaws.{degree_bar}
 
 -- equal multiples by a whole number from 1 on are those of equal elements
@@ -17,10 +17,6 @@ cancel_multiple R free n x y from_one e =
 -- a product with a whole number
 pub of_whole : {A : Type 0} (R : CommRing A) (n : ℕ) (x : A) → R.mul (multiple R n R.one) x ≡ multiple R n x
 of_whole R n x = sym (multiple_is_mul R n x)
-
--- picks by equal tests of elements that are equal where the tests hold
-pub pick_both : {A : Type 0} (R : CommRing A) (b c : Bool) (x y : A) → b ≡ c → (b ≡ true → x ≡ y) → pick R b x ≡ pick R c y
-pick_both R b c x y e h = pick_cong R b x y h ∙ ap (λ d. pick R d y) e
 
 -- a factor that is picked may be used under the test
 pub pick_factor : {A : Type 0} (R : CommRing A) (b : Bool) (u v w : A) → (b ≡ true → v ≡ w) → R.mul (pick R b u) v ≡ R.mul (pick R b u) w
@@ -37,36 +33,23 @@ module _ {A G : Type 0} (T : Setting A G) where
 
 -- the class equation
 module _ {A G : Type 0} (T : Setting A G) (C : Classes T.group) where
-  -- the representative of a representative's conjugate
-  pub representative_carried : (g a k : G) → C.representative a ≡ a → conj T.group g k ≡ a → C.representative g ≡ a
-  representative_carried g a k own carried = sym (C.constant g k) ∙ ap C.representative carried ∙ own
-
   pub representative_of_itself : (g : G) → C.representative (C.representative g) ≡ C.representative g
   representative_of_itself g = ap C.representative (sym (C.carries g)) ∙ C.constant g (C.carrier g)
 
   -- how many carry g to a
   carriers_count : (a g : G) → C.representative a ≡ a →
       total T.ring T.finite (λ k. pick T.ring (equals T.finite (conj T.group g k) a) T.ring.one) ≡ pick T.ring (equals T.finite (C.representative g) a) (centraliser_order T a)
-  carriers_count a g own = by (equals T.finite (C.representative g) a) refl
-    where
-      by : (b : Bool) → equals T.finite (C.representative g) a ≡ b → total T.ring T.finite (λ k. pick T.ring (equals T.finite (conj T.group g k) a) T.ring.one) ≡ pick T.ring b (centraliser_order T a)
-      by true e =
-          let l : G = C.carrier g in
-          let along : conj T.group g l ≡ a = C.carries g ∙ equals_true T.finite (C.representative g) a e in
-          sym (total_reindex T.ring T.finite T.finite (λ c. T.group.op l c) (λ k. T.group.op (T.group.inv l) k) (inv_op_op T.group l) (op_inv_op T.group l) (λ k. pick T.ring (equals T.finite (conj T.group g k) a) T.ring.one))
-          ∙ total_ext T.ring T.finite _ _
-          (λ c. ap (λ b. pick T.ring b T.ring.one)
-          (ap (λ z. equals T.finite z a) (conj_op T.group g l c ∙ ap (λ z. conj T.group z c) along)
-          ∙ same_test (equals T.finite (conj T.group a c) a) (commute T c a)
-          (λ h. commute_of T c a (sym (commuting_of_conj T.group a c (equals_true T.finite (conj T.group a c) a h))))
-          (λ h. equals_of T.finite (conj T.group a c) a (conj_of_commuting T.group a c (sym (commute_true T c a h))))))
-          ∙ sym (centraliser_order_is T a) ∙ sym (pick_true T.ring _)
-      by false e =
-          total_ext T.ring T.finite _ (λ k. T.ring.nought)
-          (λ k. pick_off T.ring _ T.ring.one
-          (equals_false T.finite (conj T.group g k) a
-          (λ h. absurd (let wrong : true ≡ false = sym (equals_of T.finite (C.representative g) a (representative_carried g a k own h)) ∙ e in cc))))
-          ∙ total_nought T.ring T.finite ∙ sym (pick_false T.ring _)
+  carriers_count a g own =
+      pick_where_equal T.ring T.finite (C.representative g) a _ (centraliser_order T a)
+      (λ e.
+      let l : G = C.carrier g in
+      sym (total_reindex T.ring T.finite T.finite (T.group.op l) (T.group.op (T.group.inv l)) (inv_op_op T.group l) (op_inv_op T.group l) (λ k. pick T.ring (equals T.finite (conj T.group g k) a) T.ring.one))
+      ∙ total_ext T.ring T.finite _ _
+      (λ c. ap (λ b. pick T.ring b T.ring.one)
+      (ap (λ z. equals T.finite z a) (conj_op T.group g l c ∙ ap (λ z. conj T.group z c) (C.carries g ∙ e)) ∙ fixed_test T a c))
+      ∙ sym (centraliser_order_is T a))
+      (λ apart. total_none T.ring T.finite _
+      (λ k. pick_off T.ring _ T.ring.one (equals_false T.finite (conj T.group g k) a (λ h. apart (sym (C.constant g k) ∙ ap C.representative h ∙ own)))))
 
   -- the order of the centraliser over all elements of the class adds up to the order of the group
   pub class_equation : (a : G) → C.representative a ≡ a →
@@ -75,11 +58,7 @@ module _ {A G : Type 0} (T : Setting A G) (C : Classes T.group) where
       total_ext T.ring T.finite _ _ (λ g. sym (carriers_count a g own))
       ∙ total_exchange T.ring T.finite T.finite (λ g k. pick T.ring (equals T.finite (conj T.group g k) a) T.ring.one)
       ∙ total_ext T.ring T.finite _ _
-      (λ k. total_ext T.ring T.finite _ (λ g. pick T.ring (equals T.finite g (conj T.group a (T.group.inv k))) T.ring.one)
-      (λ g. ap (λ b. pick T.ring b T.ring.one)
-      (same_test (equals T.finite (conj T.group g k) a) (equals T.finite g (conj T.group a (T.group.inv k)))
-      (λ h. equals_of T.finite g (conj T.group a (T.group.inv k)) (sym (conj_inv T.group g k) ∙ ap (λ z. conj T.group z (T.group.inv k)) (equals_true T.finite (conj T.group g k) a h)))
-      (λ h. equals_of T.finite (conj T.group g k) a (ap (λ z. conj T.group z k) (equals_true T.finite g (conj T.group a (T.group.inv k)) h) ∙ conj_of_inv T.group a k))))
+      (λ k. total_ext T.ring T.finite _ _ (λ g. ap (λ b. pick T.ring b T.ring.one) (carried_test T g a k))
       ∙ total_pick T.ring T.finite (conj T.group a (T.group.inv k)) (λ g. T.ring.one))
       ∙ sym (group_order_is T)
 
@@ -102,46 +81,33 @@ module _ {A G S : Type 0} (T : Setting A G) (C : Classes T.group) (X : Simples T
       ∙ ap (λ z. T.ring.mul r (T.ring.mul (T.involution.bar (X.value i y)) z)) last
       ∙ sym (T.ring.mul_assoc r _ _) ∙ cancel_pair T r (T.involution.bar r) (T.involution.bar (X.value i y)) (X.value j y) (slant_root_bar T (X.at i) y (T.group.inv y))))
 
-  -- rows of one table: that of i with itself
-  pub row_orthogonality_self : (i : S) →
-      total T.ring T.finite (λ y. pick T.ring (commute T y (X.at i)) (T.ring.mul (T.involution.bar (X.value i y)) (X.value i y))) ≡ centraliser_order T (X.at i)
-  row_orthogonality_self i =
-      cancel_multiple T.ring free (X.degree i) _ _ (X.degree_from_one i)
-      (ap (multiple T.ring (X.degree i)) (sym (product_at_one i i refl))
-      ∙ (good.table (X.at i) (X.at_representative i)).product_self i T.group.one refl (one_commutes T (X.at i))
-      ∙ ap (T.ring.mul (centraliser_order T (X.at i))) (degree_bar T C X i ∙ X.degree_is i)
-      ∙ mul_multiple T.ring (X.degree i) (centraliser_order T (X.at i)) T.ring.one
-      ∙ ap (multiple T.ring (X.degree i)) (T.ring.mul_one (centraliser_order T (X.at i))))
-
-  -- and that of i with another
-  pub row_orthogonality_other : (i j : S) → X.at i ≡ X.at j → (i ≡ j → ⊥) →
-      total T.ring T.finite (λ y. pick T.ring (commute T y (X.at i)) (T.ring.mul (T.involution.bar (X.value i y)) (X.value j y))) ≡ T.ring.nought
-  row_orthogonality_other i j same apart = sym (product_at_one i j same) ∙ (good.table (X.at i) (X.at_representative i)).product_other i j T.group.one refl (sym same) apart (one_commutes T (X.at i))
-
-  -- both at once
+  -- that of i with itself is the order of the centraliser, and that with another nought
   pub row_orthogonality : (i j : S) → X.at i ≡ X.at j →
       total T.ring T.finite (λ y. pick T.ring (commute T y (X.at i)) (T.ring.mul (T.involution.bar (X.value i y)) (X.value j y)))
       ≡ pick T.ring (equals E i j) (centraliser_order T (X.at i))
-  row_orthogonality i j same = by (equals E i j) refl
-    where
-      by : (b : Bool) → equals E i j ≡ b →
-          total T.ring T.finite (λ y. pick T.ring (commute T y (X.at i)) (T.ring.mul (T.involution.bar (X.value i y)) (X.value j y))) ≡ pick T.ring b (centraliser_order T (X.at i))
-      by true e =
-          total_ext T.ring T.finite _ _ (λ y. ap (λ l. pick T.ring (commute T y (X.at i)) (T.ring.mul (T.involution.bar (X.value i y)) (X.value l y))) (sym (equals_true E i j e)))
-          ∙ row_orthogonality_self i ∙ sym (pick_true T.ring _)
-      by false e =
-          row_orthogonality_other i j same (λ h. absurd (let wrong : true ≡ false = sym (equals_of E i j h) ∙ e in cc)) ∙ sym (pick_false T.ring _)
+  row_orthogonality i j same =
+      let table : GoodTable X E (X.at i) = good.table (X.at i) (X.at_representative i) in
+      sym (product_at_one i j same)
+      ∙ pick_where_equal T.ring E i j _ _
+      (λ e. cancel_multiple T.ring free (X.degree i) _ _ (X.degree_from_one i)
+      (ap (λ l. multiple T.ring (X.degree i) (centraliser_product T (X.at i) (λ y. T.involution.bar (X.value i y)) (λ y. T.involution.bar (X.value l y)) T.group.one)) (sym e)
+      ∙ table.product_self i T.group.one refl (one_commutes T (X.at i))
+      ∙ ap (T.ring.mul (centraliser_order T (X.at i))) (degree_bar T C X i ∙ X.degree_is i)
+      ∙ mul_multiple T.ring (X.degree i) (centraliser_order T (X.at i)) T.ring.one
+      ∙ ap (multiple T.ring (X.degree i)) (T.ring.mul_one (centraliser_order T (X.at i)))))
+      (λ apart. table.product_other i j T.group.one refl (sym same) apart (one_commutes T (X.at i)))
 
-  nought_at : (i j : S) (g : G) → ((x : G) → T.ring.mul (full_character T C X i g x) (T.involution.bar (full_character T C X j g x)) ≡ T.ring.nought) →
-      total T.ring T.finite (λ x. pick T.ring (commute T g x) (T.ring.mul (full_character T C X i g x) (T.involution.bar (full_character T C X j g x)))) ≡ T.ring.nought
-  nought_at i j g none =
-      total_ext T.ring T.finite _ (λ x. T.ring.nought) (λ x. ap (pick T.ring (commute T g x)) (none x) ∙ pick_nought T.ring (commute T g x)) ∙ total_nought T.ring T.finite
+  -- the products of two full characters at the pairs with one first element
+  abbrev pair_product : S → S → G → G → A
+  pair_product i j g x = pick T.ring (commute T g x) (T.ring.mul (full_character T C X i g x) (T.involution.bar (full_character T C X j g x)))
 
-  -- the pairs with one first element add up to what the rows do
-  pairs_at : (i j : S) (g : G) → in_class T C X i g ≡ true → in_class T C X j g ≡ true →
-      total T.ring T.finite (λ x. pick T.ring (commute T g x) (T.ring.mul (full_character T C X i g x) (T.involution.bar (full_character T C X j g x))))
-      ≡ total T.ring T.finite (λ y. pick T.ring (commute T y (X.at j)) (T.ring.mul (T.involution.bar (X.value j y)) (X.value i y)))
-  pairs_at i j g inside_i inside_j =
+  pairs_off : (i j : S) (g : G) → (C.representative g ≡ X.at i → C.representative g ≡ X.at j → ⊥) → total T.ring T.finite (pair_product i j g) ≡ T.ring.nought
+  pairs_off i j g none = total_none T.ring T.finite _ (λ x. ap (pick T.ring (commute T g x)) (product_off T C X i j g x g x none) ∙ pick_nought T.ring _)
+
+  -- add up to what the rows do
+  pairs_at : (i j : S) (g : G) → C.representative g ≡ X.at i → C.representative g ≡ X.at j →
+      total T.ring T.finite (pair_product i j g) ≡ total T.ring T.finite (λ y. pick T.ring (commute T y (X.at j)) (T.ring.mul (T.involution.bar (X.value j y)) (X.value i y)))
+  pairs_at i j g at_i at_j =
       total_ext T.ring T.finite _ (λ x. f (conj T.group x k)) (λ x. pick_both T.ring _ _ _ _ (test x) (term x))
       ∙ total_reindex T.ring T.finite T.finite (λ x. conj T.group x k) (λ y. conj T.group y (T.group.inv k)) (λ x. conj_inv T.group x k) (λ y. conj_of_inv T.group y k) f
     where
@@ -154,54 +120,31 @@ module _ {A G S : Type 0} (T : Setting A G) (C : Classes T.group) (X : Simples T
       test : (x : G) → commute T g x ≡ commute T (conj T.group x (C.carrier g)) (X.at j)
       test x =
           commute_symmetric T g x ∙ sym (commute_conj T x g (C.carrier g))
-          ∙ ap (λ a. commute T (conj T.group x (C.carrier g)) a) (C.carries g ∙ in_class_true T C X j g inside_j)
-
-      value_here : (l : S) (x : G) → in_class T C X l g ≡ true → commute T g x ≡ true → full_character T C X l g x ≡ T.ring.mul (transport_root T g x (C.carrier g)) (X.value l (conj T.group x (C.carrier g)))
-      value_here l x inside commutes = full_character_is T C X l g x ∙ pick_of T.ring _ _ inside ∙ pick_of T.ring _ _ commutes
+          ∙ ap (λ a. commute T (conj T.group x (C.carrier g)) a) (C.carries g ∙ at_j)
 
       term : (x : G) → commute T g x ≡ true →
           T.ring.mul (full_character T C X i g x) (T.involution.bar (full_character T C X j g x))
           ≡ T.ring.mul (T.involution.bar (X.value j (conj T.group x (C.carrier g)))) (X.value i (conj T.group x (C.carrier g)))
       term x commutes =
           let r : A = transport_root T g x (C.carrier g) in
-          ap₂ T.ring.mul (value_here i x inside_i commutes) (ap T.involution.bar (value_here j x inside_j commutes) ∙ T.involution.bar_mul r (X.value j (conj T.group x (C.carrier g))))
+          ap₂ (λ u v. T.ring.mul u (T.involution.bar v)) (transporter_independent T C X i g x k (C.carries g ∙ at_i) (commute_true T g x commutes))
+          (transporter_independent T C X j g x k (C.carries g ∙ at_j) (commute_true T g x commutes))
+          ∙ ap (T.ring.mul _) (T.involution.bar_mul r (X.value j (conj T.group x k)))
           ∙ cancel_pair T r (T.involution.bar r) _ _ (transport_root_bar T g x (C.carrier g)) ∙ T.ring.mul_comm _ _
 
-  -- the full character of i with itself
-  pub first_orthogonality_self : (i : S) → inner_product T (full_character T C X i) (full_character T C X i) ≡ group_order T
-  first_orthogonality_self i =
-      inner_product_is T (full_character T C X i) (full_character T C X i) ∙ pair_sum_is T _
-      ∙ total_ext T.ring T.finite _ _ (λ g. by g (in_class T C X i g) refl ∙ ap (λ b. pick T.ring b (centraliser_order T (X.at i))) (in_class_is T C X i g))
-      ∙ class_equation T C (X.at i) (X.at_representative i)
-    where
-      by : (g : G) (b : Bool) → in_class T C X i g ≡ b →
-          total T.ring T.finite (λ x. pick T.ring (commute T g x) (T.ring.mul (full_character T C X i g x) (T.involution.bar (full_character T C X i g x)))) ≡ pick T.ring (in_class T C X i g) (centraliser_order T (X.at i))
-      by g true e = pairs_at i i g e e ∙ row_orthogonality_self i ∙ sym (pick_of T.ring _ _ e)
-      by g false e = nought_at i i g (λ x. ap (λ z. T.ring.mul z (T.involution.bar (full_character T C X i g x))) (full_character_off T C X i g x e) ∙ nought_mul T.ring _) ∙ sym (pick_off T.ring _ _ e)
-
-  -- and with that of another
-  pub first_orthogonality_other : (i j : S) → (i ≡ j → ⊥) → inner_product T (full_character T C X i) (full_character T C X j) ≡ T.ring.nought
-  first_orthogonality_other i j apart =
-      inner_product_is T (full_character T C X i) (full_character T C X j) ∙ pair_sum_is T _
-      ∙ total_ext T.ring T.finite _ (λ g. T.ring.nought) (λ g. by g (in_class T C X i g) (in_class T C X j g) refl refl)
-      ∙ total_nought T.ring T.finite
-    where
-      by : (g : G) (b c : Bool) → in_class T C X i g ≡ b → in_class T C X j g ≡ c →
-          total T.ring T.finite (λ x. pick T.ring (commute T g x) (T.ring.mul (full_character T C X i g x) (T.involution.bar (full_character T C X j g x)))) ≡ T.ring.nought
-      by g true true e f =
-          pairs_at i j g e f
-          ∙ row_orthogonality_other j i (sym (in_class_true T C X j g f) ∙ in_class_true T C X i g e) (λ h. apart (sym h))
-      by g false c e f = nought_at i j g (λ x. ap (λ z. T.ring.mul z (T.involution.bar (full_character T C X j g x))) (full_character_off T C X i g x e) ∙ nought_mul T.ring _)
-      by g true false e f =
-          nought_at i j g
-          (λ x. ap (λ z. T.ring.mul (full_character T C X i g x) (T.involution.bar z)) (full_character_off T C X j g x f)
-          ∙ ap (T.ring.mul (full_character T C X i g x)) (bar_nought T.ring T.involution) ∙ mul_nought T.ring _)
-
+  -- full characters are orthogonal
   pub first_orthogonality : (i j : S) → inner_product T (full_character T C X i) (full_character T C X j) ≡ pick T.ring (equals E i j) (group_order T)
-  first_orthogonality i j = by (equals E i j) refl
-    where
-      by : (b : Bool) → equals E i j ≡ b → inner_product T (full_character T C X i) (full_character T C X j) ≡ pick T.ring b (group_order T)
-      by true e =
-          ap (λ l. inner_product T (full_character T C X i) (full_character T C X l)) (sym (equals_true E i j e)) ∙ first_orthogonality_self i ∙ sym (pick_true T.ring _)
-      by false e =
-          first_orthogonality_other i j (λ h. absurd (let wrong : true ≡ false = sym (equals_of E i j h) ∙ e in cc)) ∙ sym (pick_false T.ring _)
+  first_orthogonality i j =
+      inner_product_is T (full_character T C X i) (full_character T C X j) ∙ pair_sum_is T _
+      ∙ pick_where_equal T.ring E i j _ _
+      (λ e. total_ext T.ring T.finite _ _
+      (λ g. pick_where_equal T.ring T.finite (C.representative g) (X.at j) _ _
+      (λ at_j. pairs_at i j g (at_j ∙ ap X.at (sym e)) at_j ∙ row_orthogonality j i (ap X.at (sym e)) ∙ pick_of T.ring _ _ (equals_of E j i (sym e)))
+      (λ off. pairs_off i j g (λ p. off)))
+      ∙ class_equation T C (X.at j) (X.at_representative j))
+      (λ apart. total_none T.ring T.finite _
+      (λ g. by_equality T.finite (C.representative g) (X.at i)
+      (λ at_i. by_equality T.finite (C.representative g) (X.at j)
+      (λ at_j. pairs_at i j g at_i at_j ∙ row_orthogonality j i (sym at_j ∙ at_i) ∙ pick_off T.ring _ _ (equals_false E j i (λ e. apart (sym e))))
+      (λ off. pairs_off i j g (λ p. off)))
+      (λ off. pairs_off i j g (λ p q. off p))))

@@ -2,7 +2,7 @@
 use Rattle.characters.proofs.Names.{◌≡◌, sym, ◌∙◌, ap, subst, ap₂, pick, multiple, Finite, equals, total, Group, multiple_is_mul, equals_of, Setting, Classes, Commuting, commute, slant_root, conjugation_root, Simples, centraliser_order, centraliser_product, GoodTable, IsPart, IsSubgroup}
 use Rattle.characters.specs.PlaceTables.{row_product, GoodTableAtPlaces}
 use Rattle.characters.proofs.PartLaws.{element_one, element_inv, at_elements, equals_at_places, total_places}
-use Rattle.characters.proofs.AlgebraLaws.{at_commuting, order_of_places, product_at_places, column_at_places}
+use Rattle.characters.proofs.AlgebraLaws.{at_commuting, order_of_places, product_at_places, column_at_places, at_commuting_pairs}
 
 module _ {A G S K L : Type 0} (T : Setting A G) (C : Classes T.group) (X : Simples T C S) (E : Finite S) (a : G)
     (Q : Group K) (F : Finite K) (element : K → G) (I : IsSubgroup T.group (λ x. commute T x a) Q element)
@@ -59,16 +59,10 @@ module _ {A G S K L : Type 0} (T : Setting A G) (C : Classes T.group) (X : Simpl
         (equals_at_places (λ x. commute T x a) element I.part T.finite F p Q.one
         ∙ ap (equals T.finite (element p)) (element_one T.group (λ x. commute T x a) Q element I))
         (sym (order_of_places T a Q F element I)));
-    column = λ x y commuting_x commuting_y. at_places
-        (λ x. total T.ring E (λ i. pick T.ring (equals T.finite a (X.at i)) (T.ring.mul (T.involution.bar (X.value i x)) (X.value i y)))
+    column = at_commuting_pairs T a Q element I
+        (λ x y. total T.ring E (λ i. pick T.ring (equals T.finite a (X.at i)) (T.ring.mul (T.involution.bar (X.value i x)) (X.value i y)))
         ≡ total T.ring T.finite (λ c. pick T.ring (commute T c a)
         (pick T.ring (equals T.finite (T.group.op (T.group.op c x) (T.group.inv c)) y) (T.involution.bar (conjugation_root T a c x)))))
-        (λ p. at_places
-        (λ y. total T.ring E (λ i. pick T.ring (equals T.finite a (X.at i)) (T.ring.mul (T.involution.bar (X.value i (element p))) (X.value i y)))
-        ≡ total T.ring T.finite (λ c. pick T.ring (commute T c a)
-        (pick T.ring (equals T.finite (T.group.op (T.group.op c (element p)) (T.group.inv c)) y) (T.involution.bar (conjugation_root T a c (element p))))))
-        (λ q. sym (total_places (λ i. equals T.finite a (X.at i)) simple part T.ring E N (λ i. T.ring.mul (T.involution.bar (X.value i (element p))) (X.value i (element q))))
-        ∙ good.column p q ∙ sym (column_at_places T a Q F element I p q))
-        y commuting_y)
-        x commuting_x;
+        (λ p q. sym (total_places (λ i. equals T.finite a (X.at i)) simple part T.ring E N (λ i. T.ring.mul (T.involution.bar (X.value i (element p))) (X.value i (element q))))
+        ∙ good.column p q ∙ sym (column_at_places T a Q F element I p q));
   }

@@ -1,8 +1,8 @@
 -- The sum of S: its terms at conjugate pairs, its symmetry, and its row at the vacuum.
-use Rattle.characters.proofs.Names.{◌≡◌, Bool, true, false, refl, sym, ◌∙◌, ap, subst, ap₂, pick, multiple, equals, total, Finite, conj, one_mul, nought_mul, pick_of, pick_off, pick_nought, pick_cong, pick_map, pick_true, pick_false, multiple_map, conj_inv, one_conj, bar_one, bar_nought, total_ext, total_exchange, total_pick, equals_true, equals_of, total_constant, ◌*◌, multiple_multiple, IsPart, Setting, Classes, Commuting, commute, transport_root, Simples, IsVacuum, pair_sum, in_class, full_character, pair_term, s_sum, dimension}
+use Rattle.characters.proofs.Names.{◌≡◌, true, refl, sym, ◌∙◌, ap, subst, ap₂, pick, multiple, equals, total, Finite, conj, one_mul, pick_of, pick_cong, pick_map, multiple_map, conj_inv, one_conj, bar_one, total_ext, equals_true, equals_of, total_constant, ◌*◌, multiple_multiple, IsPart, Setting, Classes, Commuting, commute, transport_root, Simples, IsVacuum, pair_sum, in_class, full_character, pair_term, s_sum, dimension, pick_mul}
 use Rattle.characters.proofs.PartLaws.{total_places}
 use Rattle.characters.proofs.SettingLaws.{same_test, commute_of, transport_roots_inverse, transport_root_of_one, transport_root_at_one, cancel_pair, one_commutes, commutes_one}
-use Rattle.characters.proofs.PairLaws.{pair_sum_is, pair_sum_ext, pair_sum_swap}
+use Rattle.characters.proofs.PairLaws.{pair_sum_ext, pair_sum_swap, pair_sum_at_one}
 use Rattle.characters.proofs.CharacterLaws.{full_character_is, covariance, in_class_true, in_class_of}
 
 module _ {A G S : Type 0} (T : Setting A G) (C : Classes T.group) (X : Simples T C S) where
@@ -78,32 +78,19 @@ module _ {A G S : Type 0} (T : Setting A G) (C : Classes T.group) (X : Simples T
   -- the row of the vacuum: dimensions
   pub s_sum_of_vacuum : (v j : S) → IsVacuum X v → s_sum T C X v j ≡ dimension T C X j
   s_sum_of_vacuum v j V =
-      s_sum_is v j ∙ pair_sum_is T _
-      ∙ total_exchange T.ring T.finite T.finite (λ g h. pick T.ring (commute T g h) (pair_term T C X v j g h))
-      ∙ total_ext T.ring T.finite _ _ (λ h.
-      total_ext T.ring T.finite _ _ (λ g. term g h)
-      ∙ total_pick T.ring T.finite T.group.one (λ g. pick T.ring (in_class T C X j h) (X.value j T.group.one)))
+      s_sum_is v j ∙ pair_sum_swap T _
+      ∙ pair_sum_ext T _ _
+      (λ h g c. pair_term_is v j g h ∙ ap (λ z. T.ring.mul z (T.involution.bar (full_character T C X j h g))) (bar_of_vacuum g h)
+      ∙ pick_mul T.ring _ _ _ ∙ ap (pick T.ring (equals T.finite g T.group.one)) (one_mul T.ring _))
+      ∙ pair_sum_at_one T (λ h g. T.involution.bar (full_character T C X j h g))
+      ∙ total_ext T.ring T.finite _ _
+      (λ h. ap T.involution.bar (full_character_at_one j h) ∙ pick_map T.ring T.ring T.involution.bar T.involution.bar_add _ _ ∙ ap (pick T.ring (in_class T C X j h)) (degree_bar j))
       ∙ sym (dimension_is j)
     where
-      term : (g h : G) → pick T.ring (commute T g h) (pair_term T C X v j g h) ≡ pick T.ring (equals T.finite g T.group.one) (pick T.ring (in_class T C X j h) (X.value j T.group.one))
-      term g h = by (equals T.finite g T.group.one) refl
-        where
-          by : (b : Bool) → equals T.finite g T.group.one ≡ b → pick T.ring (commute T g h) (pair_term T C X v j g h) ≡ pick T.ring b (pick T.ring (in_class T C X j h) (X.value j T.group.one))
-          by true e =
-              let at_one : g ≡ T.group.one = equals_true T.finite g T.group.one e in
-              let first : T.involution.bar (full_character T C X v g h) ≡ T.ring.one =
-              ap T.involution.bar (full_character_of_vacuum v V g h ∙ pick_of T.ring _ _ e) ∙ bar_one T.ring T.involution in
-              let second : T.involution.bar (full_character T C X j h g) ≡ pick T.ring (in_class T C X j h) (X.value j T.group.one) =
-              ap T.involution.bar (ap (full_character T C X j h) at_one ∙ full_character_at_one j h)
-              ∙ pick_map T.ring T.ring T.involution.bar T.involution.bar_add (in_class T C X j h) (X.value j T.group.one)
-              ∙ ap (pick T.ring (in_class T C X j h)) (degree_bar j) in
-              pick_of T.ring _ _ (subst (λ z. commute T z h ≡ true) (sym at_one) (commute_of T T.group.one h (one_commutes T h)))
-              ∙ pair_term_is v j g h ∙ ap₂ T.ring.mul first second ∙ one_mul T.ring _ ∙ sym (pick_true T.ring _)
-          by false e =
-              let first : T.involution.bar (full_character T C X v g h) ≡ T.ring.nought =
-              ap T.involution.bar (full_character_of_vacuum v V g h ∙ pick_off T.ring _ _ e) ∙ bar_nought T.ring T.involution in
-              ap (pick T.ring (commute T g h)) (pair_term_is v j g h ∙ ap (λ z. T.ring.mul z (T.involution.bar (full_character T C X j h g))) first ∙ nought_mul T.ring _)
-              ∙ pick_nought T.ring _ ∙ sym (pick_false T.ring _)
+      bar_of_vacuum : (g h : G) → T.involution.bar (full_character T C X v g h) ≡ pick T.ring (equals T.finite g T.group.one) T.ring.one
+      bar_of_vacuum g h =
+          ap T.involution.bar (full_character_of_vacuum v V g h) ∙ pick_map T.ring T.ring T.involution.bar T.involution.bar_add _ _
+          ∙ ap (pick T.ring (equals T.finite g T.group.one)) (bar_one T.ring T.involution)
 
 -- the dimension as a whole number: the members of the class are numbered by places
 module _ {A G S K : Type 0} (T : Setting A G) (C : Classes T.group) (X : Simples T C S) (i : S) (E : Finite K) (member : K → G) (part : IsPart (in_class T C X i) member) where

@@ -1,9 +1,9 @@
 -- The orthogonality of full characters at two pairs of elements that commute.
 use Rattle.characters.proofs.Names.{◌≡◌, Bool, true, false, refl, sym, ◌∙◌, ap, ap₂, pick, Finite, equals, total, conj, product_rules, mul_nought, nought_mul, pick_off, pick_true, pick_false, mul_pick, group_rules, conj_is, conj_op, conj_inv, conj_of_inv, conj_of_commuting, commuting_of_conj, bar_nought, total_ext, total_reindex, total_nought, mul_total, equals_true, equals_of, equals_false, Setting, Classes, Commuting, commute, transport_root, conjugation_root, Simples, GoodTables, in_class, full_character}
 use Rattle.characters.proofs.ClassLaws.{carried_back}
-use Rattle.characters.proofs.SettingLaws.{same_test, commute_of, commute_true, commuting_conj, conjugation_root_bar, transport_root_composes, transport_root_back}
+use Rattle.characters.proofs.SettingLaws.{same_test, commute_of, commute_true, commuting_conj, conjugation_root_bar, transport_root_composes, transport_root_back, pick_both}
 use Rattle.characters.proofs.CharacterLaws.{full_character_at, full_character_off, in_class_is, in_class_true}
-use Rattle.characters.proofs.OrthogonalityLaws.{pick_both, representative_of_itself}
+use Rattle.characters.proofs.OrthogonalityLaws.{representative_of_itself}
 
 module _ {A G : Type 0} (T : Setting A G) where
   -- the product of two picks by one test

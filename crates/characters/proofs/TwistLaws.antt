@@ -1,11 +1,11 @@
 -- Full characters at products with their own element, and at inverses.
 use Rattle.characters.proofs.Names.{◌≡◌, Bool, true, false, refl, sym, ◌∙◌, ap, subst, ap₂, IsTorsionFree, pick, multiple, Finite, equals, total, conj, product_rules, one_mul, mul_nought, mul_left_comm, pick_of, pick_true, pick_false, mul_pick, pick_mul, conj_of_commuting, inv_op_op, op_op_inv, op_conj, bar_nought, total_ext, total_pick, mul_total, total_mul, equals_true, equals_of, inv_conj, Setting, Classes, Commuting, slant_root, transport_root, conjugation_root, Simples, AreTwists, centraliser_order, centraliser_product, GoodTables, in_class, full_character}
 use Rattle.characters.proofs.ClassLaws.{carried_back}
-use Rattle.characters.proofs.SettingLaws.{same_test, commuting_conj, commuting_inv, commuting_product, cancel_unit, slant_root_bar, slant_root_swap, conjugation_root_is, transport_root_bar, transport_root_product, transport_root_of_itself, transport_root_of_one, cancel_pair}
+use Rattle.characters.proofs.SettingLaws.{same_test, commuting_conj, commuting_inv, commuting_product, cancel_unit, slant_root_bar, slant_root_swap, conjugation_root_is, transport_root_bar, transport_root_product, transport_root_of_itself, transport_root_of_one, cancel_pair, pick_both}
 use Rattle.characters.proofs.AlgebraLaws.{centraliser_product_is}
 use Rattle.characters.proofs.CentraliserSums.{centraliser_sum_ext, mul_centraliser_sum, total_centraliser_sum, centraliser_sum_pick}
 use Rattle.characters.proofs.CharacterLaws.{full_character_at, full_character_off, in_class_true}
-use Rattle.characters.proofs.OrthogonalityLaws.{cancel_multiple, pick_both, pick_factor, of_whole}
+use Rattle.characters.proofs.OrthogonalityLaws.{cancel_multiple, pick_factor, of_whole}
 use Rattle.characters.proofs.VerlindeLaws.{trace, IsCarried, cancel_centraliser_order, part, part_at, by_parts}
 
 module _ {A G S : Type 0} (T : Setting A G) (C : Classes T.group) (X : Simples T C S) (E : Finite S) (good : GoodTables X E) (free : IsTorsionFree T.ring) where

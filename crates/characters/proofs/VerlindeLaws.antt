@@ -1,13 +1,13 @@
 -- Verlinde's formula.
 use Rattle.characters.proofs.Names.{◌≡◌, ◌≤◌, Bool, true, false, refl, sym, ◌∙◌, ap, subst, ap₂, IsTorsionFree, pick, multiple, Finite, equals, total, conj, product_rules, one_mul, mul_nought, nought_mul, mul_left_comm, pick_of, pick_off, pick_nought, pick_cong, pick_true, pick_false, mul_pick, pick_mul, pick_swap, multiple_mul, group_rules, conj_inv, conj_of_inv, conj_of_commuting, inv_op_op, total_ext, total_exchange, total_pick, total_reindex, total_nought, mul_total, total_mul, pick_total, equals_true, equals_of, ◌<◌, arith, conj_one, Setting, Classes, Commuting, commute, slant_root, transport_root, conjugation_root, Simples, group_order, centraliser_sum, centraliser_order, centraliser_product, GoodTables, in_class, full_character, pair_term, s_sum, dimension, tensor_character, fusion_sum}
 use Rattle.characters.proofs.ClassLaws.{carried_back}
-use Rattle.characters.proofs.SettingLaws.{commute_of, commute_true, commuting_conj, commute_conj, commuting_product, inverse_unique, conjugation_root_bar, transport_roots_inverse, transport_root_along_one, coproduct_root_is_slant, equals_symmetric, conjugation_root_unit}
+use Rattle.characters.proofs.SettingLaws.{commute_of, commute_true, commuting_conj, commute_conj, commuting_product, inverse_unique, conjugation_root_bar, transport_roots_inverse, transport_root_along_one, coproduct_root_is_slant, equals_symmetric, conjugation_root_unit, pick_both}
 use Rattle.characters.proofs.PairLaws.{pair_sum_is, pair_sum_ext, bar_pair_sum}
 use Rattle.characters.proofs.AlgebraLaws.{centraliser_product_is}
 use Rattle.characters.proofs.CentraliserSums.{centraliser_sum_ext, mul_centraliser_sum, centraliser_sum_mul, total_centraliser_sum, centraliser_sum_exchange, centraliser_sum_pick, centraliser_sum_shift, centraliser_sum_same}
 use Rattle.characters.proofs.CharacterLaws.{transporter_independent, covariance, full_character_off, in_class_true}
 use Rattle.characters.proofs.SLaws.{pair_term_bar, pair_product_invariant, s_sum_is, dimension_is}
-use Rattle.characters.proofs.OrthogonalityLaws.{pick_factor, cancel_multiple, class_equation, group_order_multiple, row_orthogonality, pick_both, of_whole}
+use Rattle.characters.proofs.OrthogonalityLaws.{pick_factor, cancel_multiple, class_equation, group_order_multiple, row_orthogonality, of_whole}
 use Rattle.characters.proofs.FusionLaws.{tensor_total, decomposition}
 
 -- the order of the group, and of a centraliser, may be cancelled
