@@ -1,6 +1,6 @@
 -- Tensor products decompose into simples.
-use Rattle.characters.proofs.Names.{◌≡◌, refl, sym, ◌∙◌, ap, ap₂, pick, Finite, equals, total, conj, product_rules, one_mul, mul_left_comm, pick_of, mul_pick, pick_mul, op_conj, conj_injective, conj_inv, conj_of_inv, one_conj, total_ext, total_exchange, total_pick, total_reindex, mul_total, total_mul, pick_total, equals_true, equals_of, Setting, Classes, Commuting, commute, transport_root, coproduct_root, Simples, group_order, GoodTables, inner_product, IsCovariant, full_character, dimension, tensor_character, fusion_sum}
-use Rattle.characters.proofs.SettingLaws.{same_test, commute_of, commute_true, commute_conj, coproduct_root_at_one, coproduct_root_carried, transport_root_of_one, commutes_one, pick_both}
+use Rattle.characters.proofs.Names.{◌≡◌, refl, sym, ◌∙◌, ap, ap₂, pick, Finite, equals, total, conj, product_rules, one_mul, mul_left_comm, pick_of, mul_pick, pick_mul, op_conj, conj_injective, conj_inv, conj_of_inv, one_conj, total_ext, total_exchange, total_pick, total_reindex, mul_total, total_mul, pick_total, equals_true, Setting, Classes, Commuting, commute, transport_root, coproduct_root, Simples, group_order, GoodTables, inner_product, IsCovariant, full_character, dimension, tensor_character, fusion_sum}
+use Rattle.characters.proofs.SettingLaws.{commute_of, commute_true, commute_conj, coproduct_root_at_one, coproduct_root_carried, transport_root_of_one, commutes_one, pick_both, equals_both, carried_test, equals_symmetric}
 use Rattle.characters.proofs.PairLaws.{pair_sum_ext, mul_pair_sum, total_pair_sum, inner_product_is, pair_sum_at_one}
 use Rattle.characters.proofs.CharacterLaws.{covariance}
 use Rattle.characters.proofs.SLaws.{dimension_is, full_character_at_one}
@@ -12,9 +12,7 @@ module _ {A G : Type 0} (T : Setting A G) where
   -- conjugation takes g = h k to a like equation
   product_test : (g h k c : G) → equals T.finite (conj T.group g c) (T.group.op (conj T.group h c) (conj T.group k c)) ≡ equals T.finite g (T.group.op h k)
   product_test g h k c =
-      same_test (equals T.finite (conj T.group g c) (T.group.op (conj T.group h c) (conj T.group k c))) (equals T.finite g (T.group.op h k))
-      (λ e. equals_of T.finite g (T.group.op h k) (conj_injective T.group g (T.group.op h k) c (equals_true T.finite (conj T.group g c) (T.group.op (conj T.group h c) (conj T.group k c)) e ∙ sym (op_conj T.group h k c))))
-      (λ e. equals_of T.finite (conj T.group g c) (T.group.op (conj T.group h c) (conj T.group k c)) (ap (λ z. conj T.group z c) (equals_true T.finite g (T.group.op h k) e) ∙ op_conj T.group h k c))
+      equals_both T.finite T.finite _ _ _ _ (λ e. conj_injective T.group g (T.group.op h k) c (e ∙ sym (op_conj T.group h k c))) (λ e. ap (λ z. conj T.group z c) e ∙ op_conj T.group h k c)
 
   -- a total over all elements, taken over their conjugates
   total_conj : (c : G) (f : G → A) → total T.ring T.finite (λ g. f (conj T.group g c)) ≡ total T.ring T.finite f
@@ -136,10 +134,7 @@ module _ {A G S : Type 0} (T : Setting A G) (C : Classes T.group) (X : Simples T
         ∙ ap (pick T.ring (equals T.finite x T.group.one)) (sym (group_order_is T))
       where
         back : (h s : G) → equals T.finite g (conj T.group h s) ≡ equals T.finite h (conj T.group g (T.group.inv s))
-        back h s =
-            same_test (equals T.finite g (conj T.group h s)) (equals T.finite h (conj T.group g (T.group.inv s)))
-            (λ e. equals_of T.finite h (conj T.group g (T.group.inv s)) (sym (conj_inv T.group h s) ∙ ap (λ z. conj T.group z (T.group.inv s)) (sym (equals_true T.finite g (conj T.group h s) e))))
-            (λ e. equals_of T.finite g (conj T.group h s) (sym (conj_of_inv T.group g s) ∙ ap (λ z. conj T.group z s) (sym (equals_true T.finite h (conj T.group g (T.group.inv s)) e))))
+        back h s = equals_symmetric T.finite g (conj T.group h s) ∙ carried_test T h g s
 
     -- the fusion sums with the dimensions: the order of the group times the product of the dimensions
     pub fusion_dimensions : (i j : S) →

@@ -3,7 +3,7 @@ use Rattle.characters.proofs.OrthogonalityLaws.{of_whole}
 use Rattle.characters.proofs.Names.{◌≡◌, ℕ, sym, ◌∙◌, ap, ap₂, IsTorsionFree, pick, multiple, Finite, equals, total, product_rules, mul_left_comm, pick_map, multiple_map, mul_multiple, multiple_mul, mul_pick, total_ext, total_exchange, total_pick, mul_total, total_mul, total_map, Setting, Classes, Commuting, Simples, group_order, GoodTables, in_class, full_character, s_sum, dimension, tensor_character, fusion_sum, AreFusionNumbers}
 use Rattle.characters.proofs.SLaws.{dimension_is, degree_bar}
 use Rattle.characters.proofs.Unitarity.{s_unitary}
-use Rattle.characters.proofs.FusionLaws.{decomposition, fusion_dimensions}
+use Rattle.characters.proofs.FusionLaws.{decomposition}
 use Rattle.characters.proofs.VerlindeLaws.{cancel_group_order, verlinde}
 
 module _ {A G S : Type 0} (T : Setting A G) (C : Classes T.group) (X : Simples T C S) where
@@ -30,10 +30,6 @@ module _ {A G S : Type 0} (T : Setting A G) (C : Classes T.group) (X : Simples T
         tensor_character T C X i j g x ≡ total T.ring E (λ k. multiple T.ring (number i j k) (full_character T C X k g x))
     tensor_multiplicities i j g x commuting =
         cancel_group_order T C free _ _ (sym (decomposition T C X E good i j g x commuting) ∙ with_numbers i j (λ k. full_character T C X k g x))
-
-    -- the dimensions, each as often as its fusion number says, add up to the product of the dimensions
-    pub number_dimensions : (i j : S) → total T.ring E (λ k. multiple T.ring (number i j k) (dimension T C X k)) ≡ T.ring.mul (dimension T C X i) (dimension T C X j)
-    number_dimensions i j = cancel_group_order T C free _ _ (sym (with_numbers i j (dimension T C X)) ∙ fusion_dimensions T C X E good i j)
 
     -- the product of two entries of a column of S
     pub s_products : (i j l : S) →

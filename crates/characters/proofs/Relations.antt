@@ -1,6 +1,6 @@
 -- The relations of S and T.
 use Rattle.characters.proofs.Names.{◌≡◌, refl, sym, ◌∙◌, ap, ap₂, IsTorsionFree, pick, Finite, equals, total, product_rules, one_mul, mul_left_comm, mul_pick, pick_mul, op_op_inv, bar_one, total_ext, total_exchange, total_pick, mul_total, total_mul, total_map, Setting, Classes, Commuting, slant_root, Simples, AreTwists, group_order, GoodTables, pair_sum, full_character, s_sum, pair_term}
-use Rattle.characters.proofs.SettingLaws.{inverse_unique, commuting_product, commuting_inv, slant_root_bar, slant_root_associative, slant_root_second_one, slant_root_product_index, slant_roots_inverse, equals_symmetric}
+use Rattle.characters.proofs.SettingLaws.{inverse_unique, commuting_product, commuting_inv, slant_root_bar, slant_root_associative, slant_root_second_one, slant_root_product_index, slant_roots_inverse, equals_symmetric, undo}
 use Rattle.characters.proofs.PairLaws.{pair_sum_ext, mul_pair_sum, bar_pair_sum, pair_sum_swap, total_pair_sum, pair_sum_shift, pair_sum_inverse}
 use Rattle.characters.proofs.SLaws.{pair_term_is, s_sum_is, s_sum_symmetric}
 use Rattle.characters.proofs.OrthogonalityLaws.{group_order_is}
@@ -39,17 +39,11 @@ module _ {A G S : Type 0} (T : Setting A G) (C : Classes T.group) (X : Simples T
       sort : (a w u v : A) → T.ring.mul a (T.ring.mul w (T.ring.mul u v)) ≡ T.ring.mul u (T.ring.mul a (T.ring.mul w v))
       sort a w u v = simp (product_rules, T.ring)
 
-  -- what is multiplied by one of two inverse factors comes back by the other
-  undo : (r s x y : A) → T.ring.mul r s ≡ T.ring.one → x ≡ T.ring.mul r y → y ≡ T.ring.mul s x
-  undo r s x y unit e =
-      let sorted : T.ring.mul s (T.ring.mul r y) ≡ T.ring.mul (T.ring.mul r s) y = simp (product_rules, T.ring) in
-      sym (ap (T.ring.mul s) e ∙ sorted ∙ ap (λ z. T.ring.mul z y) unit ∙ one_mul T.ring y)
-
   -- the conjugate of a full character, by its value at the inverse
   bar_by_inverse : (l : S) (h g : G) → Commuting T h g →
       T.involution.bar (full_character T C X l h g) ≡ T.ring.mul (T.involution.bar (slant_root T h g (T.group.inv g))) (full_character T C X l h (T.group.inv g))
   bar_by_inverse l h g c =
-      undo (slant_root T h g (T.group.inv g)) (T.involution.bar (slant_root T h g (T.group.inv g))) _ _ (slant_root_bar T h g (T.group.inv g)) (inverse_argument T C X E good free l h g c)
+      undo T (slant_root T h g (T.group.inv g)) (T.involution.bar (slant_root T h g (T.group.inv g))) _ _ (slant_root_bar T h g (T.group.inv g)) (inverse_argument T C X E good free l h g c)
 
   -- the square of S, with the conjugates of two full characters
   s_square : (i j : S) →
@@ -143,7 +137,7 @@ module _ {A G S : Type 0} (T : Setting A G) (C : Classes T.group) (X : Simples T
     twist_bar : (l : S) (g x : G) → Commuting T g x →
         T.involution.bar (full_character T C X l g (T.group.op g x)) ≡ T.ring.mul (slant_root T g g x) (T.ring.mul (T.involution.bar (twist l)) (T.involution.bar (full_character T C X l g x)))
     twist_bar l g x c =
-        undo (T.involution.bar (slant_root T g g x)) (slant_root T g g x) _ _ (T.ring.mul_comm _ _ ∙ slant_root_bar T g g x)
+        undo T (T.involution.bar (slant_root T g g x)) (slant_root T g g x) _ _ (T.ring.mul_comm _ _ ∙ slant_root_bar T g g x)
         (sym (T.involution.bar_mul (twist l) (full_character T C X l g x)) ∙ ap T.involution.bar (sym (twist_acts T C X E good free twist twists l g x c)) ∙ T.involution.bar_mul _ _)
 
     -- the roots that come together

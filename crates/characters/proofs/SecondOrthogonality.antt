@@ -1,8 +1,8 @@
 -- The orthogonality of full characters at two pairs of elements that commute.
-use Rattle.characters.proofs.Names.{◌≡◌, Bool, true, false, refl, sym, ◌∙◌, ap, ap₂, pick, Finite, equals, total, conj, product_rules, mul_nought, nought_mul, pick_off, pick_true, pick_false, mul_pick, group_rules, conj_is, conj_op, conj_inv, conj_of_inv, conj_of_commuting, commuting_of_conj, bar_nought, total_ext, total_reindex, total_nought, mul_total, equals_true, equals_of, equals_false, Setting, Classes, Commuting, commute, transport_root, conjugation_root, Simples, GoodTables, in_class, full_character}
+use Rattle.characters.proofs.Names.{◌≡◌, Bool, true, false, sym, ◌∙◌, ap, ap₂, pick, Finite, equals, total, conj, product_rules, mul_nought, nought_mul, pick_off, pick_true, pick_false, mul_pick, group_rules, conj_is, conj_op, conj_of_commuting, total_ext, total_reindex, mul_total, equals_true, equals_false, Setting, Classes, Commuting, commute, transport_root, conjugation_root, Simples, GoodTables, full_character}
 use Rattle.characters.proofs.ClassLaws.{carried_back}
-use Rattle.characters.proofs.SettingLaws.{same_test, commute_of, commute_true, commuting_conj, conjugation_root_bar, transport_root_composes, transport_root_back, pick_both}
-use Rattle.characters.proofs.CharacterLaws.{full_character_at, full_character_off, in_class_is, in_class_true}
+use Rattle.characters.proofs.SettingLaws.{commute_true, commuting_conj, conjugation_root_bar, transport_root_composes, transport_root_back, pick_both, fixed_test, carried_test, equals_symmetric, by_equality, total_none}
+use Rattle.characters.proofs.CharacterLaws.{full_character_at, in_class_is, product_off}
 use Rattle.characters.proofs.OrthogonalityLaws.{representative_of_itself}
 
 module _ {A G : Type 0} (T : Setting A G) where
@@ -10,16 +10,8 @@ module _ {A G : Type 0} (T : Setting A G) where
   pick_product : (b : Bool) (r q u v : A) →
       T.ring.mul (pick T.ring b (T.ring.mul r u)) (T.involution.bar (pick T.ring b (T.ring.mul q v)))
       ≡ T.ring.mul (T.ring.mul r (T.involution.bar q)) (pick T.ring b (T.ring.mul (T.involution.bar v) u))
-  pick_product true r q u v =
-      ap₂ T.ring.mul (pick_true T.ring _) (ap T.involution.bar (pick_true T.ring _) ∙ T.involution.bar_mul q v)
-      ∙ sorted
-      ∙ ap (T.ring.mul (T.ring.mul r (T.involution.bar q))) (sym (pick_true T.ring (T.ring.mul (T.involution.bar v) u)))
-    where
-      sorted : T.ring.mul (T.ring.mul r u) (T.ring.mul (T.involution.bar q) (T.involution.bar v)) ≡ T.ring.mul (T.ring.mul r (T.involution.bar q)) (T.ring.mul (T.involution.bar v) u)
-      sorted = simp (product_rules, T.ring)
-  pick_product false r q u v =
-      ap (λ z. T.ring.mul z (T.involution.bar (pick T.ring false (T.ring.mul q v)))) (pick_false T.ring (T.ring.mul r u)) ∙ nought_mul T.ring _
-      ∙ sym (ap (T.ring.mul (T.ring.mul r (T.involution.bar q))) (pick_false T.ring (T.ring.mul (T.involution.bar v) u)) ∙ mul_nought T.ring _)
+  pick_product true r q u v = simp (pick_true, T.involution.bar_mul, product_rules, T.ring)
+  pick_product false r q u v = simp (pick_false, nought_mul, mul_nought)
 
 module _ {A G S : Type 0} (T : Setting A G) (C : Classes T.group) (X : Simples T C S) (E : Finite S) (good : GoodTables X E)
     (g x h y : G) (commuting_x : Commuting T g x) (commuting_y : Commuting T h y) where
@@ -46,22 +38,6 @@ module _ {A G S : Type 0} (T : Setting A G) (C : Classes T.group) (X : Simples T
   within c =
       pick T.ring (commute T c a)
       (pick T.ring (equals T.finite (T.group.op (T.group.op c y0) (T.group.inv c)) x0) (T.involution.bar (conjugation_root T a c y0)))
-
-  -- in different classes both sides are nought
-  apart : (C.representative g ≡ C.representative h → ⊥) → (k : S) → T.ring.mul (full_character T C X k g x) (T.involution.bar (full_character T C X k h y)) ≡ T.ring.nought
-  apart differ k = by (in_class T C X k g) (in_class T C X k h) refl refl
-    where
-      by : (b c : Bool) → in_class T C X k g ≡ b → in_class T C X k h ≡ c → T.ring.mul (full_character T C X k g x) (T.involution.bar (full_character T C X k h y)) ≡ T.ring.nought
-      by true true e f = absurd (differ (in_class_true T C X k g e ∙ sym (in_class_true T C X k h f)))
-      by false c e f = ap (λ z. T.ring.mul z (T.involution.bar (full_character T C X k h y))) (full_character_off T C X k g x e) ∙ nought_mul T.ring _
-      by true false e f =
-          ap (λ z. T.ring.mul (full_character T C X k g x) (T.involution.bar z)) (full_character_off T C X k h y f)
-          ∙ ap (T.ring.mul (full_character T C X k g x)) (bar_nought T.ring T.involution) ∙ mul_nought T.ring _
-
-  apart_along : (C.representative g ≡ C.representative h → ⊥) → (s : G) → along s ≡ T.ring.nought
-  apart_along differ s =
-      pick_off T.ring _ _
-      (equals_false T.finite h (conj T.group g s) (λ e. differ (sym (C.constant g s) ∙ ap C.representative (sym e))))
 
   -- in one class
   module _ (same : C.representative g ≡ C.representative h) where
@@ -91,26 +67,11 @@ module _ {A G S : Type 0} (T : Setting A G) (C : Classes T.group) (X : Simples T
     conj_through : (z c : G) → conj T.group z (through c) ≡ conj T.group (conj T.group (conj T.group z (C.carrier g)) c) (T.group.inv (C.carrier h))
     conj_through z c = conj_op T.group z (T.group.op (C.carrier g) c) (T.group.inv (C.carrier h)) ∙ ap (λ b. conj T.group b (T.group.inv (C.carrier h))) (conj_op T.group z (C.carrier g) c)
 
-    -- what is carried back from u
-    carried_from : (z u : G) → z ≡ conj T.group u (T.group.inv (C.carrier h)) → conj T.group z (C.carrier h) ≡ u
-    carried_from z u e = ap (λ b. conj T.group b (C.carrier h)) e ∙ conj_of_inv T.group u (C.carrier h)
-
-    carried_to : (z u : G) → conj T.group z (C.carrier h) ≡ u → z ≡ conj T.group u (T.group.inv (C.carrier h))
-    carried_to z u e = sym (conj_inv T.group z (C.carrier h)) ∙ ap (λ b. conj T.group b (T.group.inv (C.carrier h))) e
-
     first_test : (c : G) → equals T.finite h (conj T.group g (through c)) ≡ commute T c a
     first_test c =
-        let path : conj T.group g (through c) ≡ conj T.group (conj T.group a c) (T.group.inv (C.carrier h)) =
-        conj_through g c ∙ ap (λ b. conj T.group (conj T.group b c) (T.group.inv (C.carrier h))) carried_g in
-        same_test (equals T.finite h (conj T.group g (through c))) (commute T c a)
-        (λ e. commute_of T c a (sym (commuting_of_conj T.group a c
-        (sym (carried_from h (conj T.group a c) (equals_true T.finite h (conj T.group g (through c)) e ∙ path)) ∙ carried_h))))
-        (λ e. equals_of T.finite h (conj T.group g (through c))
-        (carried_to h (conj T.group a c) (carried_h ∙ sym (conj_of_commuting T.group a c (sym (commute_true T c a e)))) ∙ sym path))
-
-    -- c y0 c^-1 = x0 where c^-1 x0 c = y0
-    conjugate_back : (c : G) → y0 ≡ conj T.group x0 c → T.group.op (T.group.op c y0) (T.group.inv c) ≡ x0
-    conjugate_back c e = ap (λ z. T.group.op (T.group.op c z) (T.group.inv c)) e ∙ simp (conj_is, group_rules, T.group)
+        ap (equals T.finite h) (conj_through g c ∙ ap (λ b. conj T.group (conj T.group b c) (T.group.inv (C.carrier h))) carried_g)
+        ∙ sym (carried_test T h (conj T.group a c) (C.carrier h)) ∙ ap (λ b. equals T.finite b (conj T.group a c)) carried_h
+        ∙ equals_symmetric T.finite a (conj T.group a c) ∙ fixed_test T a c
 
     conjugate_forth : (c : G) → T.group.op (T.group.op c y0) (T.group.inv c) ≡ x0 → y0 ≡ conj T.group x0 c
     conjugate_forth c e =
@@ -118,9 +79,10 @@ module _ {A G S : Type 0} (T : Setting A G) (C : Classes T.group) (X : Simples T
 
     second_test : (c : G) → equals T.finite y (conj T.group x (through c)) ≡ equals T.finite (T.group.op (T.group.op c y0) (T.group.inv c)) x0
     second_test c =
-        same_test (equals T.finite y (conj T.group x (through c))) (equals T.finite (T.group.op (T.group.op c y0) (T.group.inv c)) x0)
-        (λ e. equals_of T.finite (T.group.op (T.group.op c y0) (T.group.inv c)) x0 (conjugate_back c (carried_from y (conj T.group x0 c) (equals_true T.finite y (conj T.group x (through c)) e ∙ conj_through x c))))
-        (λ e. equals_of T.finite y (conj T.group x (through c)) (carried_to y (conj T.group x0 c) (conjugate_forth c (equals_true T.finite (T.group.op (T.group.op c y0) (T.group.inv c)) x0 e)) ∙ sym (conj_through x c)))
+        let back_by : conj T.group y0 (T.group.inv c) ≡ T.group.op (T.group.op c y0) (T.group.inv c) = simp (conj_is, group_rules, T.group) in
+        ap (equals T.finite y) (conj_through x c) ∙ sym (carried_test T y (conj T.group x0 c) (C.carrier h))
+        ∙ equals_symmetric T.finite y0 (conj T.group x0 c) ∙ carried_test T x0 y0 c
+        ∙ equals_symmetric T.finite x0 (conj T.group y0 (T.group.inv c)) ∙ ap (λ b. equals T.finite b x0) back_by
 
     commuting_x0 : Commuting T a x0
     commuting_x0 = ap (λ b. T.group.op b x0) (sym carried_g) ∙ commuting_conj T g x (C.carrier g) commuting_x ∙ ap (T.group.op x0) carried_g
@@ -168,12 +130,8 @@ module _ {A G S : Type 0} (T : Setting A G) (C : Classes T.group) (X : Simples T
   pub second_orthogonality :
       total T.ring E (λ k. T.ring.mul (full_character T C X k g x) (T.involution.bar (full_character T C X k h y)))
       ≡ total T.ring T.finite (λ s. pick T.ring (equals T.finite h (conj T.group g s)) (pick T.ring (equals T.finite y (conj T.group x s)) (transport_root T g x s)))
-  second_orthogonality = by (equals T.finite (C.representative g) (C.representative h)) refl
-    where
-      by : (b : Bool) → equals T.finite (C.representative g) (C.representative h) ≡ b →
-          total T.ring E (λ k. T.ring.mul (full_character T C X k g x) (T.involution.bar (full_character T C X k h y))) ≡ total T.ring T.finite along
-      by true e = in_one_class (equals_true T.finite (C.representative g) (C.representative h) e)
-      by false e =
-          let differ : C.representative g ≡ C.representative h → ⊥ = λ s. absurd (let wrong : true ≡ false = sym (equals_of T.finite (C.representative g) (C.representative h) s) ∙ e in cc) in
-          total_ext T.ring E _ (λ k. T.ring.nought) (apart differ) ∙ total_nought T.ring E
-          ∙ sym (total_ext T.ring T.finite _ (λ s. T.ring.nought) (apart_along differ) ∙ total_nought T.ring T.finite)
+  second_orthogonality =
+      by_equality T.finite (C.representative g) (C.representative h) in_one_class
+      (λ differ. total_none T.ring E _ (λ k. product_off T C X k k g x h y (λ p q. differ (p ∙ sym q)))
+      ∙ sym (total_none T.ring T.finite along
+      (λ s. pick_off T.ring _ _ (equals_false T.finite h (conj T.group g s) (λ e. differ (sym (C.constant g s) ∙ ap C.representative (sym e)))))))

@@ -1,7 +1,7 @@
 -- Full characters at products with their own element, and at inverses.
-use Rattle.characters.proofs.Names.{◌≡◌, Bool, true, false, refl, sym, ◌∙◌, ap, subst, ap₂, IsTorsionFree, pick, multiple, Finite, equals, total, conj, product_rules, one_mul, mul_nought, mul_left_comm, pick_of, pick_true, pick_false, mul_pick, pick_mul, conj_of_commuting, inv_op_op, op_op_inv, op_conj, bar_nought, total_ext, total_pick, mul_total, total_mul, equals_true, equals_of, inv_conj, Setting, Classes, Commuting, slant_root, transport_root, conjugation_root, Simples, AreTwists, centraliser_order, centraliser_product, GoodTables, in_class, full_character}
+use Rattle.characters.proofs.Names.{◌≡◌, Bool, true, false, refl, sym, ◌∙◌, ap, subst, ap₂, IsTorsionFree, pick, multiple, Finite, equals, total, conj, product_rules, one_mul, mul_nought, mul_left_comm, pick_of, mul_pick, pick_mul, conj_of_commuting, inv_op_op, op_op_inv, op_conj, bar_nought, total_ext, total_pick, mul_total, total_mul, equals_true, equals_of, inv_conj, Setting, Classes, Commuting, slant_root, transport_root, conjugation_root, Simples, AreTwists, centraliser_order, centraliser_product, GoodTables, in_class, full_character}
 use Rattle.characters.proofs.ClassLaws.{carried_back}
-use Rattle.characters.proofs.SettingLaws.{same_test, commuting_conj, commuting_inv, commuting_product, cancel_unit, slant_root_bar, slant_root_swap, conjugation_root_is, transport_root_bar, transport_root_product, transport_root_of_itself, transport_root_of_one, cancel_pair, pick_both}
+use Rattle.characters.proofs.SettingLaws.{same_test, commuting_conj, commuting_inv, commuting_product, cancel_unit, slant_root_bar, slant_root_swap, conjugation_root_is, transport_root_bar, transport_root_product, transport_root_of_itself, transport_root_of_one, cancel_pair, pick_both, pick_where_equal}
 use Rattle.characters.proofs.AlgebraLaws.{centraliser_product_is}
 use Rattle.characters.proofs.CentraliserSums.{centraliser_sum_ext, mul_centraliser_sum, total_centraliser_sum, centraliser_sum_pick}
 use Rattle.characters.proofs.CharacterLaws.{full_character_at, full_character_off, in_class_true}
@@ -49,18 +49,13 @@ module _ {A G S : Type 0} (T : Setting A G) (C : Classes T.group) (X : Simples T
     -- the degree times the product of a row with that of l
     product_of_rows : (i : S) (x : G) → X.at i ≡ X.at l → Commuting T x (X.at l) →
         T.ring.mul (multiple T.ring (X.degree l) T.ring.one) (centraliser_product T (X.at l) (row_bar i) (row_bar l) x) ≡ pick T.ring (equals E i l) (T.ring.mul order (row_bar l x))
-    product_of_rows i x same h = by (equals E i l) refl
-      where
-        by : (b : Bool) → equals E i l ≡ b →
-            T.ring.mul (multiple T.ring (X.degree l) T.ring.one) (centraliser_product T (X.at l) (row_bar i) (row_bar l) x) ≡ pick T.ring b (T.ring.mul order (row_bar l x))
-        by true e =
-            of_whole T.ring (X.degree l) _
-            ∙ ap (λ k. multiple T.ring (X.degree l) (centraliser_product T (X.at l) (row_bar k) (row_bar l) x)) (equals_true E i l e)
-            ∙ (good.table (X.at l) (X.at_representative l)).product_self l x refl h ∙ sym (pick_true T.ring _)
-        by false e =
-            ap (T.ring.mul (multiple T.ring (X.degree l) T.ring.one))
-            ((good.table (X.at l) (X.at_representative l)).product_other i l x same refl (λ s. absurd (let wrong : true ≡ false = sym (equals_of E i l s) ∙ e in cc)) h)
-            ∙ mul_nought T.ring _ ∙ sym (pick_false T.ring _)
+    product_of_rows i x same h =
+        pick_where_equal T.ring E i l _ _
+        (λ e. of_whole T.ring (X.degree l) _
+        ∙ ap (λ k. multiple T.ring (X.degree l) (centraliser_product T (X.at l) (row_bar k) (row_bar l) x)) e
+        ∙ (good.table (X.at l) (X.at_representative l)).product_self l x refl h)
+        (λ apart. ap (T.ring.mul (multiple T.ring (X.degree l) T.ring.one))
+        ((good.table (X.at l) (X.at_representative l)).product_other i l x same refl apart h) ∙ mul_nought T.ring _)
 
     -- the product of a carried function with a row is a multiple of the row
     pub carried_times_row : (z : G → A) → IsCarried T C X (X.at l) z → (x : G) → Commuting T x (X.at l) →

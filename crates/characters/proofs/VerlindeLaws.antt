@@ -1,7 +1,7 @@
 -- Verlinde's formula.
-use Rattle.characters.proofs.Names.{◌≡◌, ◌≤◌, Bool, true, false, refl, sym, ◌∙◌, ap, subst, ap₂, IsTorsionFree, pick, multiple, Finite, equals, total, conj, product_rules, one_mul, mul_nought, nought_mul, mul_left_comm, pick_of, pick_off, pick_nought, pick_cong, pick_true, pick_false, mul_pick, pick_mul, pick_swap, multiple_mul, group_rules, conj_inv, conj_of_inv, conj_of_commuting, inv_op_op, total_ext, total_exchange, total_pick, total_reindex, total_nought, mul_total, total_mul, pick_total, equals_true, equals_of, ◌<◌, arith, conj_one, Setting, Classes, Commuting, commute, slant_root, transport_root, conjugation_root, Simples, group_order, centraliser_sum, centraliser_order, centraliser_product, GoodTables, in_class, full_character, pair_term, s_sum, dimension, tensor_character, fusion_sum}
+use Rattle.characters.proofs.Names.{◌≡◌, ◌≤◌, true, false, refl, sym, ◌∙◌, ap, subst, ap₂, IsTorsionFree, pick, multiple, Finite, equals, total, conj, product_rules, one_mul, mul_nought, nought_mul, mul_left_comm, pick_of, pick_off, pick_nought, pick_cong, mul_pick, pick_mul, pick_swap, multiple_mul, group_rules, conj_inv, conj_of_inv, conj_of_commuting, inv_op_op, total_ext, total_exchange, total_pick, total_reindex, mul_total, total_mul, pick_total, equals_true, equals_of, ◌<◌, arith, conj_one, Setting, Classes, Commuting, commute, slant_root, transport_root, conjugation_root, Simples, group_order, centraliser_sum, centraliser_order, centraliser_product, GoodTables, in_class, full_character, pair_term, s_sum, dimension, tensor_character, fusion_sum, equals_false}
 use Rattle.characters.proofs.ClassLaws.{carried_back}
-use Rattle.characters.proofs.SettingLaws.{commute_of, commute_true, commuting_conj, commute_conj, commuting_product, inverse_unique, conjugation_root_bar, transport_roots_inverse, transport_root_along_one, coproduct_root_is_slant, equals_symmetric, conjugation_root_unit, pick_both}
+use Rattle.characters.proofs.SettingLaws.{commute_of, commute_true, commuting_conj, commute_conj, commuting_product, inverse_unique, conjugation_root_bar, transport_roots_inverse, transport_root_along_one, coproduct_root_is_slant, equals_symmetric, conjugation_root_unit, pick_both, pick_cases, pick_where_equal, by_equality, total_none}
 use Rattle.characters.proofs.PairLaws.{pair_sum_is, pair_sum_ext, bar_pair_sum}
 use Rattle.characters.proofs.AlgebraLaws.{centraliser_product_is}
 use Rattle.characters.proofs.CentraliserSums.{centraliser_sum_ext, mul_centraliser_sum, centraliser_sum_mul, total_centraliser_sum, centraliser_sum_exchange, centraliser_sum_pick, centraliser_sum_shift, centraliser_sum_same}
@@ -195,28 +195,21 @@ module _ {A G S : Type 0} (T : Setting A G) (C : Classes T.group) (X : Simples T
     -- the degree of l times the form of two rows
     form_of_rows : (i j : S) → X.at i ≡ X.at l → X.at j ≡ X.at l →
         T.ring.mul degree (form (conjugates i) (conjugates j)) ≡ pick T.ring (equals E i l) (pick T.ring (equals E j l) (T.ring.mul order order))
-    form_of_rows i j same_i same_j = by (equals E i j) (equals E i l) (equals E j l) refl refl refl
+    form_of_rows i j same_i same_j =
+        by_equality E i j
+        (λ e. ap (λ r. T.ring.mul degree (form (conjugates i) (conjugates r))) (sym e)
+        ∙ pick_where_equal T.ring E i l _ _
+        (λ at_l. of_whole T.ring (X.degree l) _ ∙ ap (λ k. multiple T.ring (X.degree k) (form (conjugates i) (conjugates i))) (sym at_l)
+        ∙ form_of_row i same_i ∙ ap (T.ring.mul order) (pick_of T.ring _ _ (equals_of E i l at_l)) ∙ sym (pick_of T.ring _ _ (equals_of E j l (sym e ∙ at_l))))
+        (λ other. none
+        (free.cancel (X.degree i) _ (X.degree_from_one i)
+        (form_of_row i same_i ∙ ap (T.ring.mul order) (pick_off T.ring _ _ (equals_false E i l other)) ∙ mul_nought T.ring order))))
+        (λ apart. none (form_of_other i j same_i same_j apart)
+        ∙ pick_where_equal T.ring E i l _ _
+        (λ at_l. sym (pick_off T.ring _ _ (equals_false E j l (λ h. apart (at_l ∙ sym h))))) (λ other. refl))
       where
-        by : (b c d : Bool) → equals E i j ≡ b → equals E i l ≡ c → equals E j l ≡ d →
-            T.ring.mul degree (form (conjugates i) (conjugates j)) ≡ pick T.ring c (pick T.ring d (T.ring.mul order order))
-        by true true d e f g =
-            let at_l : i ≡ l = equals_true E i l f in
-            let other : equals E j l ≡ true = equals_of E j l (sym (equals_true E i j e) ∙ at_l) in
-            of_whole T.ring (X.degree l) _
-            ∙ ap₂ (λ k r. multiple T.ring (X.degree k) (form (conjugates i) (conjugates r))) (sym at_l) (sym (equals_true E i j e))
-            ∙ form_of_row i same_i ∙ ap (T.ring.mul order) (pick_of T.ring _ _ f)
-            ∙ sym (pick_true T.ring _ ∙ pick_of T.ring d _ (sym g ∙ other))
-        by true false d e f g =
-            let none : form (conjugates i) (conjugates i) ≡ T.ring.nought =
-            free.cancel (X.degree i) _ (X.degree_from_one i) (form_of_row i same_i ∙ ap (T.ring.mul order) (pick_off T.ring _ _ f) ∙ mul_nought T.ring order) in
-            ap (λ r. T.ring.mul degree (form (conjugates i) (conjugates r))) (sym (equals_true E i j e))
-            ∙ ap (T.ring.mul degree) none ∙ mul_nought T.ring degree ∙ sym (pick_false T.ring _)
-        by false true true e f g = absurd (let wrong : true ≡ false = sym (equals_of E i j (equals_true E i l f ∙ sym (equals_true E j l g))) ∙ e in cc)
-        by false false d e f g = nothing e ∙ sym (pick_false T.ring _)
-          where
-            nothing : equals E i j ≡ false → T.ring.mul degree (form (conjugates i) (conjugates j)) ≡ T.ring.nought
-            nothing e = ap (T.ring.mul degree) (form_of_other i j same_i same_j (λ h. absurd (let wrong : true ≡ false = sym (equals_of E i j h) ∙ e in cc))) ∙ mul_nought T.ring degree
-        by false true false e f g = ap (T.ring.mul degree) (form_of_other i j same_i same_j (λ h. absurd (let wrong : true ≡ false = sym (equals_of E i j h) ∙ e in cc))) ∙ mul_nought T.ring degree ∙ sym (pick_true T.ring _ ∙ pick_false T.ring _)
+        none : {f : A} → f ≡ T.ring.nought → T.ring.mul degree f ≡ T.ring.nought
+        none e = ap (T.ring.mul degree) e ∙ mul_nought T.ring degree
 
     -- the part of a function that a row makes
     abbrev pub part : (G → A) → S → A
@@ -301,15 +294,14 @@ module _ {A G S : Type 0} (T : Setting A G) (C : Classes T.group) (X : Simples T
       ∙ pair_sum_ext T _ _ (λ g h c. ap T.involution.bar (pair_term_bar T C X i l g h) ∙ T.involution.bar_bar _)
       ∙ pair_sum_is T _
       ∙ total_exchange T.ring T.finite T.finite _
-      ∙ total_ext T.ring T.finite _ _ (λ h. by h (in_class T C X l h) refl)
+      ∙ total_ext T.ring T.finite _ _ (λ h. pick_cases T.ring (in_class T C X l h) _ _ (here h) (elsewhere h))
       ∙ sym (total_mul T.ring T.finite _ (trace l (slice l i)) ∙ total_ext T.ring T.finite _ _ (λ h. pick_mul T.ring (in_class T C X l h) T.ring.one _ ∙ ap (pick T.ring (in_class T C X l h)) (one_mul T.ring _)))
     where
-      by : (h : G) (b : Bool) → in_class T C X l h ≡ b →
-          total T.ring T.finite (λ g. pick T.ring (commute T g h) (T.ring.mul (full_character T C X i g h) (full_character T C X l h g))) ≡ pick T.ring (in_class T C X l h) (trace l (slice l i))
-      by h true e =
+      here : (h : G) → in_class T C X l h ≡ true →
+          total T.ring T.finite (λ g. pick T.ring (commute T g h) (T.ring.mul (full_character T C X i g h) (full_character T C X l h g))) ≡ trace l (slice l i)
+      here h e =
           total_ext T.ring T.finite _ (λ g. at_a (conj T.group g (C.carrier h))) (λ g. pick_both T.ring _ _ _ _ (test g) (λ p. term g (commute_true T g h p)))
           ∙ total_reindex T.ring T.finite T.finite (λ g. conj T.group g (C.carrier h)) (λ g. conj T.group g (T.group.inv (C.carrier h))) (λ g. conj_inv T.group g (C.carrier h)) (λ g. conj_of_inv T.group g (C.carrier h)) at_a
-          ∙ sym (pick_of T.ring _ _ e)
         where
           at_a : G → A
           at_a g = pick T.ring (commute T g (X.at l)) (T.ring.mul (full_character T C X i g (X.at l)) (X.value l g))
@@ -329,10 +321,12 @@ module _ {A G S : Type 0} (T : Setting A G) (C : Classes T.group) (X : Simples T
               pair_product_invariant T C X i l g h k p
               ∙ ap (λ a. T.ring.mul (full_character T C X i (conj T.group g k) a) (full_character T C X l a (conj T.group g k))) carried
               ∙ ap (T.ring.mul (full_character T C X i (conj T.group g k) (X.at l))) (value_at_representative l (conj T.group g k) (sym moved))
-      by h false e =
-          total_ext T.ring T.finite _ (λ g. T.ring.nought)
+
+      elsewhere : (h : G) → in_class T C X l h ≡ false →
+          total T.ring T.finite (λ g. pick T.ring (commute T g h) (T.ring.mul (full_character T C X i g h) (full_character T C X l h g))) ≡ T.ring.nought
+      elsewhere h e =
+          total_none T.ring T.finite _
           (λ g. ap (pick T.ring (commute T g h)) (ap (T.ring.mul (full_character T C X i g h)) (full_character_off T C X l h g e) ∙ mul_nought T.ring _) ∙ pick_nought T.ring _)
-          ∙ total_nought T.ring T.finite ∙ sym (pick_off T.ring _ _ e)
 
   dimension_of_size : (l : S) → dimension T C X l ≡ T.ring.mul (class_size l) (multiple T.ring (X.degree l) T.ring.one)
   dimension_of_size l =
