@@ -1,7 +1,7 @@
 -- Verlinde's formula.
-use Rattle.characters.proofs.Names.{◌≡◌, ◌≤◌, true, false, refl, sym, ◌∙◌, ap, subst, ap₂, IsTorsionFree, pick, multiple, Finite, equals, total, conj, product_rules, one_mul, mul_nought, nought_mul, mul_left_comm, pick_of, pick_off, pick_nought, pick_cong, mul_pick, pick_mul, pick_swap, multiple_mul, group_rules, conj_inv, conj_of_inv, conj_of_commuting, inv_op_op, total_ext, total_exchange, total_pick, total_reindex, mul_total, total_mul, pick_total, equals_true, equals_of, ◌<◌, arith, conj_one, Setting, Classes, Commuting, commute, slant_root, transport_root, conjugation_root, Simples, group_order, centraliser_sum, centraliser_order, centraliser_product, GoodTables, in_class, full_character, pair_term, s_sum, dimension, tensor_character, fusion_sum, equals_false}
+use Rattle.characters.proofs.Names.{◌≡◌, ◌≤◌, true, false, refl, sym, ◌∙◌, ap, subst, ap₂, IsTorsionFree, pick, multiple, Finite, equals, total, conj, product_rules, one_mul, mul_nought, mul_left_comm, pick_of, pick_off, pick_nought, pick_cong, mul_pick, pick_mul, pick_swap, multiple_mul, group_rules, conj_inv, conj_of_inv, conj_of_commuting, inv_op_op, total_ext, total_exchange, total_pick, total_reindex, mul_total, total_mul, pick_total, equals_true, equals_of, ◌<◌, arith, conj_one, Setting, Classes, Commuting, commute, slant_root, transport_root, conjugation_root, Simples, group_order, centraliser_sum, centraliser_order, centraliser_product, GoodTables, in_class, full_character, pair_term, s_sum, dimension, tensor_character, fusion_sum, equals_false}
 use Rattle.characters.proofs.ClassLaws.{carried_back}
-use Rattle.characters.proofs.SettingLaws.{commute_of, commute_true, commuting_conj, commute_conj, commuting_product, inverse_unique, conjugation_root_bar, transport_roots_inverse, transport_root_along_one, coproduct_root_is_slant, equals_symmetric, conjugation_root_unit, pick_both, pick_cases, pick_where_equal, by_equality, total_none}
+use Rattle.characters.proofs.SettingLaws.{commute_of, commute_true, commuting_conj, commute_conj, commuting_product, inverse_unique, conjugation_root_bar, transport_roots_inverse, transport_root_along_one, coproduct_root_is_slant, equals_symmetric, conjugation_root_unit, pick_both, pick_cases, pick_where_equal, total_none}
 use Rattle.characters.proofs.PairLaws.{pair_sum_is, pair_sum_ext, bar_pair_sum}
 use Rattle.characters.proofs.AlgebraLaws.{centraliser_product_is}
 use Rattle.characters.proofs.CentraliserSums.{centraliser_sum_ext, mul_centraliser_sum, centraliser_sum_mul, total_centraliser_sum, centraliser_sum_exchange, centraliser_sum_pick, centraliser_sum_shift, centraliser_sum_same}
@@ -119,25 +119,7 @@ module _ {A G S : Type 0} (T : Setting A G) (C : Classes T.group) (X : Simples T
         (λ x h. centraliser_sum_ext T (X.at l) _ _
         (λ y k. ap₂ (λ u v. T.ring.mul (T.ring.mul (slant_root T (X.at l) x y) (T.ring.mul u v)) (X.value l (T.group.op x y))) (e x h) (f y k)))
 
-    -- a sum in either argument is taken outside
-    form_left : (c : S → A) (p : S → G → A) (r : G → A) → form (λ x. total T.ring E (λ i. T.ring.mul (c i) (p i x))) r ≡ total T.ring E (λ i. T.ring.mul (c i) (form (p i) r))
-    form_left c p r =
-        sym (total_ext T.ring E _ _
-        (λ i. mul_centraliser_sum T (X.at l) (c i) _ ∙ centraliser_sum_ext T (X.at l) _ _ (λ x h. mul_centraliser_sum T (X.at l) (c i) _))
-        ∙ total_centraliser_sum T (X.at l) E _
-        ∙ centraliser_sum_ext T (X.at l) _ _
-        (λ x h. total_centraliser_sum T (X.at l) E _
-        ∙ centraliser_sum_ext T (X.at l) _ _
-        (λ y k. total_ext T.ring E _ _ (λ i. sort (c i) (slant_root T (X.at l) x y) (p i x) (r y) (X.value l (T.group.op x y)))
-        ∙ sym (total_mul T.ring E _ _)
-        ∙ sorted _ (slant_root T (X.at l) x y) (r y) (X.value l (T.group.op x y)))))
-      where
-        sort : (c s p r v : A) → T.ring.mul c (T.ring.mul (T.ring.mul s (T.ring.mul p r)) v) ≡ T.ring.mul (T.ring.mul c p) (T.ring.mul (T.ring.mul s r) v)
-        sort c s p r v = simp (product_rules, T.ring)
-
-        sorted : (u s r v : A) → T.ring.mul u (T.ring.mul (T.ring.mul s r) v) ≡ T.ring.mul (T.ring.mul s (T.ring.mul u r)) v
-        sorted u s r v = simp (product_rules, T.ring)
-
+    -- a sum in the second argument is taken outside
     form_right : (c : S → A) (p : G → A) (r : S → G → A) → form p (λ x. total T.ring E (λ i. T.ring.mul (c i) (r i x))) ≡ total T.ring E (λ i. T.ring.mul (c i) (form p (r i)))
     form_right c p r =
         sym (total_ext T.ring E _ _
@@ -156,60 +138,19 @@ module _ {A G S : Type 0} (T : Setting A G) (C : Classes T.group) (X : Simples T
         sorted : (u s p v : A) → T.ring.mul u (T.ring.mul (T.ring.mul s p) v) ≡ T.ring.mul (T.ring.mul s (T.ring.mul p u)) v
         sorted u s p v = simp (product_rules, T.ring)
 
-    form_scaled : (m : A) (p r : G → A) → form (λ x. T.ring.mul m (p x)) (λ x. T.ring.mul m (r x)) ≡ T.ring.mul (T.ring.mul m m) (form p r)
+    form_scaled : (m : A) (p r : G → A) → form p (λ x. T.ring.mul m (r x)) ≡ T.ring.mul m (form p r)
     form_scaled m p r =
-        sym (mul_centraliser_sum T (X.at l) (T.ring.mul m m) _
+        sym (mul_centraliser_sum T (X.at l) m _
         ∙ centraliser_sum_ext T (X.at l) _ _
-        (λ x h. mul_centraliser_sum T (X.at l) (T.ring.mul m m) _
+        (λ x h. mul_centraliser_sum T (X.at l) m _
         ∙ centraliser_sum_ext T (X.at l) _ _ (λ y k. sort m (slant_root T (X.at l) x y) (p x) (r y) (X.value l (T.group.op x y)))))
       where
-        sort : (m s p r v : A) → T.ring.mul (T.ring.mul m m) (T.ring.mul (T.ring.mul s (T.ring.mul p r)) v) ≡ T.ring.mul (T.ring.mul s (T.ring.mul (T.ring.mul m p) (T.ring.mul m r))) v
+        sort : (m s p r v : A) → T.ring.mul m (T.ring.mul (T.ring.mul s (T.ring.mul p r)) v) ≡ T.ring.mul (T.ring.mul s (T.ring.mul p (T.ring.mul m r))) v
         sort m s p r v = simp (product_rules, T.ring)
 
     -- the conjugates of the values of a row
     abbrev conjugates : S → G → A
     conjugates i x = T.involution.bar (X.value i x)
-
-    -- d_i times the form of a row with itself
-    form_of_row : (i : S) → X.at i ≡ X.at l → multiple T.ring (X.degree i) (form (conjugates i) (conjugates i)) ≡ T.ring.mul order (pick T.ring (equals E i l) order)
-    form_of_row i same =
-        ap (multiple T.ring (X.degree i)) (form_is_trace (conjugates i) (conjugates i))
-        ∙ sym (of_whole T.ring (X.degree i) _)
-        ∙ mul_centraliser_sum T (X.at l) _ _
-        ∙ centraliser_sum_ext T (X.at l) _ _
-        (λ z h. sym (T.ring.mul_assoc _ _ _)
-        ∙ ap (λ u. T.ring.mul u (X.value l z)) (of_whole T.ring (X.degree i) _ ∙ (good.table (X.at l) (X.at_representative l)).product_self i z same h)
-        ∙ T.ring.mul_assoc _ _ _)
-        ∙ sym (mul_centraliser_sum T (X.at l) (centraliser_order T (X.at l)) _)
-        ∙ ap (T.ring.mul (centraliser_order T (X.at l)))
-        (subst (λ a. centraliser_sum T a (λ y. T.ring.mul (conjugates i y) (X.value l y)) ≡ pick T.ring (equals E i l) (centraliser_order T a)) same (row_orthogonality T C X E good free i l same))
-
-    -- the form of two rows other than those of l is nought
-    form_of_other : (i j : S) → X.at i ≡ X.at l → X.at j ≡ X.at l → (i ≡ j → ⊥) → form (conjugates i) (conjugates j) ≡ T.ring.nought
-    form_of_other i j same_i same_j apart =
-        form_is_trace (conjugates i) (conjugates j)
-        ∙ centraliser_sum_ext T (X.at l) _ (λ z. T.ring.nought)
-        (λ z h. ap (λ u. T.ring.mul u (X.value l z)) ((good.table (X.at l) (X.at_representative l)).product_other i j z same_i same_j apart h) ∙ nought_mul T.ring (X.value l z))
-        ∙ centraliser_sum_same T (X.at l) T.ring.nought ∙ mul_nought T.ring _
-
-    -- the degree of l times the form of two rows
-    form_of_rows : (i j : S) → X.at i ≡ X.at l → X.at j ≡ X.at l →
-        T.ring.mul degree (form (conjugates i) (conjugates j)) ≡ pick T.ring (equals E i l) (pick T.ring (equals E j l) (T.ring.mul order order))
-    form_of_rows i j same_i same_j =
-        by_equality E i j
-        (λ e. ap (λ r. T.ring.mul degree (form (conjugates i) (conjugates r))) (sym e)
-        ∙ pick_where_equal T.ring E i l _ _
-        (λ at_l. of_whole T.ring (X.degree l) _ ∙ ap (λ k. multiple T.ring (X.degree k) (form (conjugates i) (conjugates i))) (sym at_l)
-        ∙ form_of_row i same_i ∙ ap (T.ring.mul order) (pick_of T.ring _ _ (equals_of E i l at_l)) ∙ sym (pick_of T.ring _ _ (equals_of E j l (sym e ∙ at_l))))
-        (λ other. none
-        (free.cancel (X.degree i) _ (X.degree_from_one i)
-        (form_of_row i same_i ∙ ap (T.ring.mul order) (pick_off T.ring _ _ (equals_false E i l other)) ∙ mul_nought T.ring order))))
-        (λ apart. none (form_of_other i j same_i same_j apart)
-        ∙ pick_where_equal T.ring E i l _ _
-        (λ at_l. sym (pick_off T.ring _ _ (equals_false E j l (λ h. apart (at_l ∙ sym h))))) (λ other. refl))
-      where
-        none : {f : A} → f ≡ T.ring.nought → T.ring.mul degree f ≡ T.ring.nought
-        none e = ap (T.ring.mul degree) e ∙ mul_nought T.ring degree
 
     -- the part of a function that a row makes
     abbrev pub part : (G → A) → S → A
@@ -223,40 +164,120 @@ module _ {A G S : Type 0} (T : Setting A G) (C : Classes T.group) (X : Simples T
         sym (total_ext T.ring E _ _ (λ i. pick_mul T.ring (equals T.finite (X.at l) (X.at i)) (trace i z) (conjugates i x))
         ∙ carried_by_rows E good (X.at l) (X.at_representative l) z central x h)
 
+    -- products with a sum are taken outside
+    product_left : (c : S → A) (p : S → G → A) (r : G → A) (x : G) →
+        centraliser_product T (X.at l) (λ y. total T.ring E (λ i. T.ring.mul (c i) (p i y))) r x ≡ total T.ring E (λ i. T.ring.mul (c i) (centraliser_product T (X.at l) (p i) r x))
+    product_left c p r x =
+        centraliser_product_is T (X.at l) _ r x
+        ∙ sym (total_ext T.ring E _ _ (λ i. ap (T.ring.mul (c i)) (centraliser_product_is T (X.at l) (p i) r x) ∙ mul_centraliser_sum T (X.at l) (c i) _)
+        ∙ total_centraliser_sum T (X.at l) E _
+        ∙ centraliser_sum_ext T (X.at l) _ _
+        (λ y h. total_ext T.ring E _ _ (λ i. sort (c i) (slant_root T (X.at l) y (T.group.op (T.group.inv y) x)) (p i y) (r (T.group.op (T.group.inv y) x)))
+        ∙ sym (total_mul T.ring E _ _)
+        ∙ mul_left_comm T.ring _ (slant_root T (X.at l) y (T.group.op (T.group.inv y) x)) (r (T.group.op (T.group.inv y) x))))
+      where
+        sort : (c s p r : A) → T.ring.mul c (T.ring.mul s (T.ring.mul p r)) ≡ T.ring.mul (T.ring.mul c p) (T.ring.mul s r)
+        sort c s p r = simp (product_rules, T.ring)
+
+    product_ext : (p q r : G → A) (x : G) → ((y : G) → Commuting T y (X.at l) → p y ≡ q y) → centraliser_product T (X.at l) p r x ≡ centraliser_product T (X.at l) q r x
+    product_ext p q r x e =
+        centraliser_product_is T (X.at l) p r x
+        ∙ centraliser_sum_ext T (X.at l) _ _ (λ y h. ap (λ u. T.ring.mul (slant_root T (X.at l) y (T.group.op (T.group.inv y) x)) (T.ring.mul u (r (T.group.op (T.group.inv y) x)))) (e y h))
+        ∙ sym (centraliser_product_is T (X.at l) q r x)
+
+    product_scaled : (m : A) (p r : G → A) (x : G) → centraliser_product T (X.at l) (λ y. T.ring.mul m (p y)) r x ≡ T.ring.mul m (centraliser_product T (X.at l) p r x)
+    product_scaled m p r x =
+        centraliser_product_is T (X.at l) _ r x
+        ∙ centraliser_sum_ext T (X.at l) _ _ (λ y h. sort m (slant_root T (X.at l) y (T.group.op (T.group.inv y) x)) (p y) (r (T.group.op (T.group.inv y) x)))
+        ∙ sym (ap (T.ring.mul m) (centraliser_product_is T (X.at l) p r x) ∙ mul_centraliser_sum T (X.at l) m _)
+      where
+        sort : (m s p r : A) → T.ring.mul s (T.ring.mul (T.ring.mul m p) r) ≡ T.ring.mul m (T.ring.mul s (T.ring.mul p r))
+        sort m s p r = simp (product_rules, T.ring)
+
+    -- the degree times the product of a row with that of l
+    product_of_rows : (i : S) (x : G) → X.at i ≡ X.at l → Commuting T x (X.at l) →
+        T.ring.mul (multiple T.ring (X.degree l) T.ring.one) (centraliser_product T (X.at l) (conjugates i) (conjugates l) x) ≡ pick T.ring (equals E i l) (T.ring.mul order (conjugates l x))
+    product_of_rows i x same h =
+        pick_where_equal T.ring E i l _ _
+        (λ e. of_whole T.ring (X.degree l) _
+        ∙ ap (λ k. multiple T.ring (X.degree l) (centraliser_product T (X.at l) (conjugates k) (conjugates l) x)) e
+        ∙ (good.table (X.at l) (X.at_representative l)).product_self l x refl h)
+        (λ apart. ap (T.ring.mul (multiple T.ring (X.degree l) T.ring.one))
+        ((good.table (X.at l) (X.at_representative l)).product_other i l x same refl apart h) ∙ mul_nought T.ring _)
+
+    -- the product of a carried function with a row is a multiple of the row
+    pub carried_times_row : (z : G → A) → IsCarried (X.at l) z → (x : G) → Commuting T x (X.at l) →
+        T.ring.mul (multiple T.ring (X.degree l) T.ring.one) (centraliser_product T (X.at l) z (conjugates l) x) ≡ T.ring.mul (trace l z) (conjugates l x)
+    carried_times_row z central x h =
+        cancel_centraliser_order T C free (X.at l) (X.at_representative l) _ _
+        (mul_left_comm T.ring order (multiple T.ring (X.degree l) T.ring.one) _
+        ∙ ap (T.ring.mul (multiple T.ring (X.degree l) T.ring.one))
+        (sym (product_scaled order z (conjugates l) x)
+        ∙ product_ext _ _ (conjugates l) x (λ y k. by_parts z central y k)
+        ∙ product_left (part z) conjugates (conjugates l) x)
+        ∙ mul_total T.ring E _ _
+        ∙ total_ext T.ring E _ _
+        (λ i. mul_left_comm T.ring (multiple T.ring (X.degree l) T.ring.one) (part z i) _
+        ∙ pick_factor T.ring (equals T.finite (X.at l) (X.at i)) (trace i z) _ _ (λ e. product_of_rows i x (sym (equals_true T.finite (X.at l) (X.at i) e)) h)
+        ∙ mul_pick T.ring (equals E i l) (part z i) _)
+        ∙ total_pick T.ring E l (λ i. T.ring.mul (part z i) (T.ring.mul order (conjugates l x)))
+        ∙ ap (λ u. T.ring.mul u (T.ring.mul order (conjugates l x))) (part_at z)
+        ∙ mul_left_comm T.ring (trace l z) order (conjugates l x))
+
+  module _ (E : Finite S) (good : GoodTables X E) (free : IsTorsionFree T.ring) (l : S) where
+    -- the degree of a row times the form of a carried function with the row
+    form_with_row : (z : G → A) → IsCarried (X.at l) z → (i : S) → X.at i ≡ X.at l →
+        multiple T.ring (X.degree i) (form E good free l z (conjugates E good free l i)) ≡ T.ring.mul (trace i z) (pick T.ring (equals E i l) (centraliser_order T (X.at l)))
+    form_with_row z central i same =
+        ap (multiple T.ring (X.degree i)) (form_is_trace E good free l z (conjugates E good free l i))
+        ∙ sym (of_whole T.ring (X.degree i) _)
+        ∙ mul_centraliser_sum T (X.at l) _ _
+        ∙ centraliser_sum_ext T (X.at l) _ _ (λ x h. sym (T.ring.mul_assoc _ _ _) ∙ ap (λ u. T.ring.mul u (X.value l x)) (by_row x h) ∙ T.ring.mul_assoc _ _ _)
+        ∙ sym (mul_centraliser_sum T (X.at l) (trace i z) _)
+        ∙ ap (T.ring.mul (trace i z))
+        (subst (λ a. centraliser_sum T a (λ y. T.ring.mul (T.involution.bar (X.value i y)) (X.value l y)) ≡ pick T.ring (equals E i l) (centraliser_order T a)) same (row_orthogonality T C X E good free i l same))
+      where
+        by_row : (x : G) → Commuting T x (X.at l) →
+            T.ring.mul (multiple T.ring (X.degree i) T.ring.one) (centraliser_product T (X.at l) z (λ y. T.involution.bar (X.value i y)) x) ≡ T.ring.mul (trace i z) (T.involution.bar (X.value i x))
+        by_row =
+            subst
+            (λ a. (x : G) → Commuting T x a →
+            T.ring.mul (multiple T.ring (X.degree i) T.ring.one) (centraliser_product T a z (λ y. T.involution.bar (X.value i y)) x) ≡ T.ring.mul (trace i z) (T.involution.bar (X.value i x)))
+            same (carried_times_row E good free i z (subst (λ a. IsCarried a z) (sym same) central))
+
+    -- the degree of l in place of that of the row
+    form_with_rows : (z : G → A) → IsCarried (X.at l) z → (i : S) → X.at i ≡ X.at l →
+        T.ring.mul (degree E good free l) (form E good free l z (conjugates E good free l i)) ≡ pick T.ring (equals E i l) (T.ring.mul (trace l z) (order E good free l))
+    form_with_rows z central i same =
+        pick_where_equal T.ring E i l _ _
+        (λ e. of_whole T.ring (X.degree l) _ ∙ ap (λ k. multiple T.ring (X.degree k) (form E good free l z (conjugates E good free l i))) (sym e)
+        ∙ form_with_row z central i same ∙ ap₂ T.ring.mul (ap (λ k. trace k z) e) (pick_of T.ring _ _ (equals_of E i l e)))
+        (λ other. ap (T.ring.mul (degree E good free l))
+        (free.cancel (X.degree i) _ (X.degree_from_one i)
+        (form_with_row z central i same ∙ ap (T.ring.mul (trace i z)) (pick_off T.ring _ _ (equals_false E i l other)) ∙ mul_nought T.ring _))
+        ∙ mul_nought T.ring _)
+
     -- the degree times the form of two carried functions is the product of their traces
-    pub form_of_carried : (z w : G → A) → IsCarried (X.at l) z → IsCarried (X.at l) w → T.ring.mul degree (form z w) ≡ T.ring.mul (trace l z) (trace l w)
+    pub form_of_carried : (z w : G → A) → IsCarried (X.at l) z → IsCarried (X.at l) w →
+        T.ring.mul (degree E good free l) (form E good free l z w) ≡ T.ring.mul (trace l z) (trace l w)
     form_of_carried z w central_z central_w =
         cancel_centraliser_order T C free (X.at l) (X.at_representative l) _ _
-        (cancel_centraliser_order T C free (X.at l) (X.at_representative l) _ _
-        (sort order degree (form z w)
-        ∙ ap (T.ring.mul degree)
-        (sym (form_scaled order z w)
-        ∙ form_ext _ _ _ _ (by_parts z central_z) (by_parts w central_w)
-        ∙ form_left (part z) conjugates _
-        ∙ total_ext T.ring E _ _ (λ i. ap (T.ring.mul (part z i)) (form_right (part w) (conjugates i) conjugates)))
-        ∙ mul_total T.ring E degree _
+        (mul_left_comm T.ring (order E good free l) (degree E good free l) _
+        ∙ ap (T.ring.mul (degree E good free l))
+        (sym (form_scaled E good free l (order E good free l) z w)
+        ∙ form_ext E good free l _ _ _ _ (λ x h. refl) (by_parts E good free l w central_w)
+        ∙ form_right E good free l (part E good free l w) z (conjugates E good free l))
+        ∙ mul_total T.ring E (degree E good free l) _
         ∙ total_ext T.ring E _ _
-        (λ i. mul_left_comm T.ring degree (part z i) _
-        ∙ pick_factor T.ring (equals T.finite (X.at l) (X.at i)) (trace i z) _ _
-        (λ e. mul_total T.ring E degree _
-        ∙ total_ext T.ring E _ _
-        (λ j. mul_left_comm T.ring degree (part w j) _
-        ∙ pick_factor T.ring (equals T.finite (X.at l) (X.at j)) (trace j w) _ _
-        (λ f. form_of_rows i j (sym (equals_true T.finite (X.at l) (X.at i) e)) (sym (equals_true T.finite (X.at l) (X.at j) f)))
-        ∙ mul_pick T.ring (equals E i l) (part w j) _)
-        ∙ sym (pick_total T.ring E (equals E i l) _)
-        ∙ ap (pick T.ring (equals E i l))
-        (total_ext T.ring E _ _ (λ j. mul_pick T.ring (equals E j l) (part w j) _)
-        ∙ total_pick T.ring E l (λ j. T.ring.mul (part w j) (T.ring.mul order order))))
-        ∙ mul_pick T.ring (equals E i l) (part z i) _)
-        ∙ total_pick T.ring E l (λ i. T.ring.mul (part z i) (T.ring.mul (part w l) (T.ring.mul order order)))
-        ∙ ap₂ (λ u v. T.ring.mul u (T.ring.mul v (T.ring.mul order order))) (part_at z) (part_at w)
-        ∙ sorted (trace l z) (trace l w) order))
+        (λ i. mul_left_comm T.ring (degree E good free l) (part E good free l w i) _
+        ∙ pick_factor T.ring (equals T.finite (X.at l) (X.at i)) (trace i w) _ _
+        (λ e. form_with_rows z central_z i (sym (equals_true T.finite (X.at l) (X.at i) e)))
+        ∙ mul_pick T.ring (equals E i l) (part E good free l w i) _)
+        ∙ total_pick T.ring E l (λ i. T.ring.mul (part E good free l w i) (T.ring.mul (trace l z) (order E good free l)))
+        ∙ ap (λ u. T.ring.mul u (T.ring.mul (trace l z) (order E good free l))) (part_at E good free l w)
+        ∙ sorted (trace l w) (trace l z) (order E good free l))
       where
-        sort : (m d f : A) → T.ring.mul m (T.ring.mul m (T.ring.mul d f)) ≡ T.ring.mul d (T.ring.mul (T.ring.mul m m) f)
-        sort m d f = simp (product_rules, T.ring)
-
-        sorted : (u v m : A) → T.ring.mul u (T.ring.mul v (T.ring.mul m m)) ≡ T.ring.mul m (T.ring.mul m (T.ring.mul u v))
+        sorted : (u v m : A) → T.ring.mul u (T.ring.mul v m) ≡ T.ring.mul m (T.ring.mul v u)
         sorted u v m = simp (product_rules, T.ring)
 
   -- the full character of i at x and the representative of l, as a function of x
