@@ -1,9 +1,9 @@
 -- The sum of S: its terms at conjugate pairs, its symmetry, and its row at the vacuum.
-use Rattle.characters.proofs.Names.{◌≡◌, true, refl, sym, ◌∙◌, ap, subst, ap₂, pick, multiple, equals, total, Finite, conj, one_mul, pick_of, pick_cong, pick_map, multiple_map, conj_inv, one_conj, bar_one, total_ext, equals_true, equals_of, total_constant, ◌*◌, multiple_multiple, IsPart, Setting, Classes, Commuting, commute, transport_root, Simples, IsVacuum, pair_sum, in_class, full_character, pair_term, s_sum, dimension, pick_mul}
+use Rattle.characters.proofs.Names.{◌≡◌, true, refl, sym, ◌∙◌, ap, subst, ap₂, pick, multiple, equals, total, Finite, conj, one_mul, pick_of, pick_cong, pick_map, multiple_map, conj_inv, one_conj, bar_one, total_ext, equals_true, total_constant, ◌*◌, multiple_multiple, IsPart, Setting, Classes, Commuting, commute, transport_root, Simples, IsVacuum, pair_sum, in_class, full_character, pair_term, s_sum, dimension, pick_mul}
 use Rattle.characters.proofs.PartLaws.{total_places}
-use Rattle.characters.proofs.SettingLaws.{same_test, commute_of, transport_roots_inverse, transport_root_of_one, transport_root_at_one, cancel_pair, one_commutes, commutes_one}
+use Rattle.characters.proofs.SettingLaws.{commute_of, transport_roots_inverse, transport_root_of_one, transport_root_at_one, cancel_pair, one_commutes, commutes_one, equals_both}
 use Rattle.characters.proofs.PairLaws.{pair_sum_ext, pair_sum_swap, pair_sum_at_one}
-use Rattle.characters.proofs.CharacterLaws.{full_character_is, covariance, in_class_true, in_class_of}
+use Rattle.characters.proofs.CharacterLaws.{full_character_is, covariance}
 
 module _ {A G S : Type 0} (T : Setting A G) (C : Classes T.group) (X : Simples T C S) where
   pub pair_term_is : (i j : S) (g h : G) →
@@ -58,12 +58,11 @@ module _ {A G S : Type 0} (T : Setting A G) (C : Classes T.group) (X : Simples T
 
   -- the class of the vacuum holds the identity alone
   pub vacuum_class : (v : S) → IsVacuum X v → (g : G) → in_class T C X v g ≡ equals T.finite g T.group.one
+  unfolding in_class
   vacuum_class v V g =
-      same_test (in_class T C X v g) (equals T.finite g T.group.one)
-      (λ e. equals_of T.finite g T.group.one
-      (sym (conj_inv T.group g (C.carrier g)) ∙ ap (λ z. conj T.group z (T.group.inv (C.carrier g))) (C.carries g ∙ in_class_true T C X v g e ∙ V.at_one)
-      ∙ one_conj T.group (T.group.inv (C.carrier g))))
-      (λ e. in_class_of T C X v g (ap C.representative (equals_true T.finite g T.group.one e ∙ sym V.at_one) ∙ X.at_representative v))
+      equals_both T.finite T.finite _ _ _ _
+      (λ e. sym (conj_inv T.group g (C.carrier g)) ∙ ap (λ z. conj T.group z (T.group.inv (C.carrier g))) (C.carries g ∙ e ∙ V.at_one) ∙ one_conj T.group (T.group.inv (C.carrier g)))
+      (λ e. ap C.representative (e ∙ sym V.at_one) ∙ X.at_representative v)
 
   -- the full character of the vacuum: one at the identity and any element, else nought
   pub full_character_of_vacuum : (v : S) → IsVacuum X v → (g x : G) → full_character T C X v g x ≡ pick T.ring (equals T.finite g T.group.one) T.ring.one

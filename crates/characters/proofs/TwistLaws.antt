@@ -1,7 +1,7 @@
 -- Full characters at products with their own element, and at inverses.
-use Rattle.characters.proofs.Names.{◌≡◌, Bool, true, false, refl, sym, ◌∙◌, ap, subst, ap₂, IsTorsionFree, pick, multiple, Finite, equals, conj, product_rules, one_mul, mul_nought, mul_left_comm, pick_of, mul_pick, pick_mul, conj_of_commuting, inv_op_op, op_op_inv, op_conj, bar_nought, equals_true, equals_of, inv_conj, Setting, Classes, Commuting, slant_root, transport_root, conjugation_root, Simples, AreTwists, centraliser_product, GoodTables, in_class, full_character}
+use Rattle.characters.proofs.Names.{◌≡◌, Bool, true, false, refl, sym, ◌∙◌, ap, subst, ap₂, IsTorsionFree, pick, multiple, Finite, equals, conj, product_rules, one_mul, mul_nought, mul_left_comm, pick_of, mul_pick, pick_mul, conj_of_commuting, inv_op_op, op_op_inv, op_conj, bar_nought, equals_true, inv_conj, Setting, Classes, Commuting, slant_root, transport_root, conjugation_root, Simples, AreTwists, centraliser_product, GoodTables, in_class, full_character}
 use Rattle.characters.proofs.ClassLaws.{carried_back}
-use Rattle.characters.proofs.SettingLaws.{same_test, commuting_conj, commuting_inv, commuting_product, cancel_unit, slant_root_bar, slant_root_swap, conjugation_root_is, transport_root_bar, transport_root_product, transport_root_of_itself, transport_root_of_one, cancel_pair, pick_both}
+use Rattle.characters.proofs.SettingLaws.{commuting_conj, commuting_inv, commuting_product, cancel_unit, slant_root_bar, slant_root_swap, conjugation_root_is, transport_root_bar, transport_root_product, transport_root_of_itself, transport_root_of_one, cancel_pair, pick_both, equals_both}
 use Rattle.characters.proofs.AlgebraLaws.{centraliser_product_is}
 use Rattle.characters.proofs.CentraliserSums.{centraliser_sum_ext, centraliser_sum_pick}
 use Rattle.characters.proofs.CharacterLaws.{full_character_at, full_character_off, in_class_true}
@@ -33,9 +33,9 @@ module _ {A G S : Type 0} (T : Setting A G) (C : Classes T.group) (X : Simples T
           let a : G = X.at l in
           let y : G = T.group.op (T.group.op c x) (T.group.inv c) in
           pick_both T.ring (equals T.finite y a) (equals T.finite x a) _ _
-          (same_test (equals T.finite y a) (equals T.finite x a)
-          (λ e. equals_of T.finite x a (sym (carried_back T.group c x) ∙ ap (λ z. conj T.group z c) (equals_true T.finite y a e) ∙ conj_of_commuting T.group a c (sym p)))
-          (λ e. equals_of T.finite y a (ap (λ z. T.group.op (T.group.op c z) (T.group.inv c)) (equals_true T.finite x a e) ∙ ap (λ u. T.group.op u (T.group.inv c)) p ∙ op_op_inv T.group c a)))
+          (equals_both T.finite T.finite y a x a
+          (λ e. sym (carried_back T.group c x) ∙ ap (λ z. conj T.group z c) e ∙ conj_of_commuting T.group a c (sym p))
+          (λ e. ap (λ z. T.group.op (T.group.op c z) (T.group.inv c)) e ∙ ap (λ u. T.group.op u (T.group.inv c)) p ∙ op_op_inv T.group c a))
           (λ e. sym (T.ring.mul_one _
           ∙ ap (conjugation_root T a c) (sym (carried_back T.group c x) ∙ ap (λ z. conj T.group z c) (equals_true T.finite y a e) ∙ conj_of_commuting T.group a c (sym p))
           ∙ conjugation_root_of_itself c p))
