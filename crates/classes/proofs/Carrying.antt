@@ -1,5 +1,5 @@
 -- The conjugate c x c^-1 in a group whose elements are a type, and the group of a table on its elements as a type.
-use Rattle.classes.proofs.Names.{◌≡◌, ℕ, ◌<◌, refl, sym, ◌∙◌, ap, Table, product, identity_of, inverse, IsGroup, two_sided_inverse}
+use Rattle.classes.proofs.Names.{◌≡◌, ℕ, ◌<◌, refl, sym, ◌∙◌, ap, arith, Table, product, identity_of, inverse, IsGroup, two_sided_inverse}
 use Rattle.algebra.specs.Groups.{Group}
 use Rattle.algebra.specs.Below.{Below, IsGroupBelow}
 use Rattle.algebra.proofs.BelowLaws.{group_below}
@@ -50,6 +50,9 @@ module _ {G : Type 0} (P : Group G) where
 -- the element with the number x
 abbrev pub element : {n : ℕ} (x : ℕ) → x < n → Below n
 element x p = record { value = x; below = p }
+
+pub neither_below : (x y : ℕ) → (x < y → ⊥) → (y < x → ⊥) → x ≡ y
+neither_below x y not_below not_above = omega arith
 
 -- equal elements have one number
 pub same_value : {n : ℕ} {x y : Below n} → x ≡ y → x.value ≡ y.value

@@ -19,37 +19,25 @@ module _ {G : Type 0} (P : Group G) (n : ℕ) (w : G → G → G → ℕ) (W : T
 
   -- each phase is below n, and adding what its formula takes off leaves the rest
 
-  pub theta_below : (g x y : G) → theta P n w g x y < n
-  unfolding theta
-  theta_below g x y = mod-lt _ positive
+  pub phases_below : (g x y : G) → (theta P n w g x y < n) × (gamma P n w g x y < n) × (transport_phase P n w g x y < n) × (kappa P n w g x y < n)
+  unfolding theta gamma transport_phase kappa
+  phases_below g x y = (mod-lt _ positive, mod-lt _ positive, mod-lt _ positive, mod-lt _ positive)
 
   pub theta_is : (g x y : G) → Same n (theta P n w g x y + w x (conj P g x) y) (w g x y + w x y (conj P g (P.op x y)))
   unfolding theta
   theta_is g x y = taken_off n _ _ (W.below x (conj P g x) y)
 
-  pub gamma_below : (x g h : G) → gamma P n w x g h < n
-  unfolding gamma
-  gamma_below x g h = mod-lt _ positive
-
   pub gamma_is : (x g h : G) → Same n (gamma P n w x g h + w g x (conj P h x)) (w g h x + w x (conj P g x) (conj P h x))
   unfolding gamma
   gamma_is x g h = taken_off n _ _ (W.below g x (conj P h x))
 
-  pub transport_phase_below : (g x k : G) → transport_phase P n w g x k < n
-  unfolding transport_phase
-  transport_phase_below g x k = mod-lt _ positive
-
   pub transport_phase_is : (g x k : G) → Same n (transport_phase P n w g x k + theta P n w g k (conj P x k)) (theta P n w g x k)
   unfolding transport_phase
-  transport_phase_is g x k = taken_off n _ _ (theta_below g k (conj P x k))
-
-  pub kappa_below : (a c x : G) → kappa P n w a c x < n
-  unfolding kappa
-  kappa_below a c x = mod-lt _ positive
+  transport_phase_is g x k = taken_off n _ _ (phases_below g k (conj P x k)).0
 
   pub kappa_is : (a c x : G) → Same n (kappa P n w a c x + theta P n w a (P.op (P.op c x) (P.inv c)) c) (theta P n w a c x)
   unfolding kappa
-  kappa_is a c x = taken_off n _ _ (theta_below a (P.op (P.op c x) (P.inv c)) c)
+  kappa_is a c x = taken_off n _ _ (phases_below a (P.op (P.op c x) (P.inv c)) c).0
 
   -- no phase where an argument or the index is the identity
 
@@ -58,31 +46,31 @@ module _ {G : Type 0} (P : Group G) (n : ℕ) (w : G → G → G → ℕ) (W : T
   nothing a p q below same e = same_equal below positive (same_lin n a 0 p q same (e ∙ sym (zero-add p)))
 
   pub theta_first_one : (g y : G) → theta P n w g P.one y ≡ 0
-  theta_first_one g y = nothing _ _ _ (theta_below g P.one y) (theta_is g P.one y) (simp (conj_rules, P, W.first_one, W.second_one) (omega arith))
+  theta_first_one g y = nothing _ _ _ (phases_below g P.one y).0 (theta_is g P.one y) (simp (conj_rules, P, W.first_one, W.second_one) (omega arith))
 
   pub theta_second_one : (g x : G) → theta P n w g x P.one ≡ 0
-  theta_second_one g x = nothing _ _ _ (theta_below g x P.one) (theta_is g x P.one) (simp (conj_rules, P, W.second_one, W.third_one) (omega arith))
+  theta_second_one g x = nothing _ _ _ (phases_below g x P.one).0 (theta_is g x P.one) (simp (conj_rules, P, W.second_one, W.third_one) (omega arith))
 
   pub theta_of_one : (x y : G) → theta P n w P.one x y ≡ 0
-  theta_of_one x y = nothing _ _ _ (theta_below P.one x y) (theta_is P.one x y) (simp (conj_rules, P, W.first_one, W.second_one, W.third_one) (omega arith))
+  theta_of_one x y = nothing _ _ _ (phases_below P.one x y).0 (theta_is P.one x y) (simp (conj_rules, P, W.first_one, W.second_one, W.third_one) (omega arith))
 
   pub gamma_of_one : (g h : G) → gamma P n w P.one g h ≡ 0
-  gamma_of_one g h = nothing _ _ _ (gamma_below P.one g h) (gamma_is P.one g h) (simp (conj_rules, P, W.first_one, W.second_one, W.third_one) (omega arith))
+  gamma_of_one g h = nothing _ _ _ (phases_below P.one g h).1 (gamma_is P.one g h) (simp (conj_rules, P, W.first_one, W.second_one, W.third_one) (omega arith))
 
   pub gamma_first_one : (x h : G) → gamma P n w x P.one h ≡ 0
-  gamma_first_one x h = nothing _ _ _ (gamma_below x P.one h) (gamma_is x P.one h) (simp (conj_rules, P, W.first_one, W.second_one) (omega arith))
+  gamma_first_one x h = nothing _ _ _ (phases_below x P.one h).1 (gamma_is x P.one h) (simp (conj_rules, P, W.first_one, W.second_one) (omega arith))
 
   pub gamma_second_one : (x g : G) → gamma P n w x g P.one ≡ 0
-  gamma_second_one x g = nothing _ _ _ (gamma_below x g P.one) (gamma_is x g P.one) (simp (conj_rules, P, W.second_one, W.third_one) (omega arith))
+  gamma_second_one x g = nothing _ _ _ (phases_below x g P.one).1 (gamma_is x g P.one) (simp (conj_rules, P, W.second_one, W.third_one) (omega arith))
 
   pub transport_phase_at_one : (x k : G) → transport_phase P n w P.one x k ≡ 0
-  transport_phase_at_one x k = nothing _ _ _ (transport_phase_below P.one x k) (transport_phase_is P.one x k) (simp theta_of_one (omega arith))
+  transport_phase_at_one x k = nothing _ _ _ (phases_below P.one x k).2 (transport_phase_is P.one x k) (simp theta_of_one (omega arith))
 
   pub transport_phase_of_one : (g k : G) → transport_phase P n w g P.one k ≡ 0
-  transport_phase_of_one g k = nothing _ _ _ (transport_phase_below g P.one k) (transport_phase_is g P.one k) (simp (conj_rules, P, theta_first_one, theta_second_one) (omega arith))
+  transport_phase_of_one g k = nothing _ _ _ (phases_below g P.one k).2 (transport_phase_is g P.one k) (simp (conj_rules, P, theta_first_one, theta_second_one) (omega arith))
 
   pub transport_phase_along_one : (g x : G) → transport_phase P n w g x P.one ≡ 0
-  transport_phase_along_one g x = nothing _ _ _ (transport_phase_below g x P.one) (transport_phase_is g x P.one) (simp (conj_rules, P, theta_first_one, theta_second_one) (omega arith))
+  transport_phase_along_one g x = nothing _ _ _ (phases_below g x P.one).2 (transport_phase_is g x P.one) (simp (conj_rules, P, theta_first_one, theta_second_one) (omega arith))
 
   -- the law of a 2-cocycle, but that the index moves with the first argument
   pub theta_associative : (g x y z : G) → Same n (theta P n w g x y + theta P n w g (P.op x y) z) (theta P n w g x (P.op y z) + theta P n w (conj P g x) y z)
@@ -111,48 +99,41 @@ module _ {G : Type 0} (P : Group G) (n : ℕ) (w : G → G → G → ℕ) (W : T
   -- the two phases of elements that commute with b
   pub gamma_is_theta : (b g h : G) → conj P g b ≡ g → conj P h b ≡ h → gamma P n w b g h ≡ theta P n w b g h
   gamma_is_theta b g h commutes_g commutes_h =
-      let back : conj P b g ≡ b = conj_symmetric P g b commutes_g in
-      let over : conj P b h ≡ b = conj_symmetric P h b commutes_h in
-      same_equal (gamma_below b g h) (theta_below b g h)
+      same_equal (phases_below b g h).1 (phases_below b g h).0
       (same_lin n _ _ _ _ (same_add (gamma_is b g h) (same_sym (theta_is b g h)))
-      (simp (conj_rules, P, commutes_g, commutes_h, back, over) (omega arith)))
+      (simp (conj_rules, P, commutes_g, commutes_h, conj_symmetric P g b commutes_g, conj_symmetric P h b commutes_h) (omega arith)))
 
   -- along any k, the transport phases of two elements that commute are inverse to each other
   pub transport_phases_inverse : (g x k : G) → conj P x g ≡ x → Same n (transport_phase P n w g x k + transport_phase P n w x g k) 0
   transport_phases_inverse g x k commutes =
-      let back : conj P g x ≡ g = conj_symmetric P x g commutes in
       same_lin n _ _ _ _
       (same_add (same_add (transport_phase_is g x k) (transport_phase_is x g k))
       (same_add (same_add (theta_is g x k) (same_sym (theta_is g k (conj P x k))))
       (same_add (theta_is x g k) (same_sym (theta_is x k (conj P g k))))))
-      (simp (conj_rules, P, commutes, back) (omega arith))
+      (simp (conj_rules, P, commutes, conj_symmetric P x g commutes) (omega arith))
 
   -- an element in its own algebra
   pub theta_at_itself : (g x : G) → conj P x g ≡ x → theta P n w g g x ≡ w g x g
   theta_at_itself g x commutes =
-      let back : conj P g x ≡ g = conj_symmetric P x g commutes in
-      same_equal (theta_below g g x) (W.below g x g)
-      (same_lin n _ _ _ _ (theta_is g g x) (simp (conj_rules, P, back) (omega arith)))
+      same_equal (phases_below g g x).0 (W.below g x g)
+      (same_lin n _ _ _ _ (theta_is g g x) (simp (conj_rules, P, conj_symmetric P x g commutes) (omega arith)))
 
   pub theta_by_itself : (g x : G) → conj P x g ≡ x → theta P n w g x g ≡ w g x g
   theta_by_itself g x commutes =
-      let back : conj P g x ≡ g = conj_symmetric P x g commutes in
-      same_equal (theta_below g x g) (W.below g x g)
-      (same_lin n _ _ _ _ (theta_is g x g) (simp (conj_rules, P, back) (omega arith)))
+      same_equal (phases_below g x g).0 (W.below g x g)
+      (same_lin n _ _ _ _ (theta_is g x g) (simp (conj_rules, P, conj_symmetric P x g commutes) (omega arith)))
 
   -- the index a product of two elements that commute
   pub theta_product_index : (g x : G) → conj P x g ≡ x → Same n (theta P n w (P.op g x) g x) (theta P n w g g x + theta P n w x x g)
   theta_product_index g x commutes =
-      let back : conj P g x ≡ g = conj_symmetric P x g commutes in
-      let swap : P.op x g ≡ P.op g x = commuting_of_conj P x g commutes in
       same_lin n _ _ _ _
       (same_add (theta_is (P.op g x) g x) (same_add (same_sym (same_add (theta_is g g x) (theta_is x x g))) (same_sym (W.law g x g x))))
-      (simp (conj_rules, P, commutes, back, swap) (omega arith))
+      (simp (conj_rules, P, commutes, conj_symmetric P x g commutes, commuting_of_conj P x g commutes) (omega arith))
 
   -- an element is carried along k with no phase in its own algebra
   pub transport_phase_of_itself : (g k : G) → transport_phase P n w g g k ≡ 0
   transport_phase_of_itself g k =
-      nothing _ _ _ (transport_phase_below g g k)
+      nothing _ _ _ (phases_below g g k).2
       (same_add (transport_phase_is g g k) (same_add (theta_is g g k) (same_sym (theta_is g k (conj P g k)))))
       (simp (conj_rules, P) (omega arith))
 
@@ -160,12 +141,11 @@ module _ {G : Type 0} (P : Group G) (n : ℕ) (w : G → G → G → ℕ) (W : T
   pub transport_phase_composes : (g x k c : G) → conj P x g ≡ x →
       Same n (transport_phase P n w g x (P.op k c)) (transport_phase P n w g x k + transport_phase P n w (conj P g k) (conj P x k) c)
   transport_phase_composes g x k c commutes =
-      let back : conj P g x ≡ g = conj_symmetric P x g commutes in
       same_lin n _ _ _ _
       (same_add (same_add (transport_phase_is g x (P.op k c)) (same_sym (same_add (transport_phase_is g x k) (transport_phase_is (conj P g k) (conj P x k) c))))
       (same_add (same_sym (theta_associative g x k c))
       (same_add (theta_associative g k (conj P x k) c) (same_sym (theta_associative g k c (conj P x (P.op k c)))))))
-      (simp (conj_rules, P, back) (omega arith))
+      (simp (conj_rules, P, conj_symmetric P x g commutes) (omega arith))
 
   -- and back
   pub transport_phase_back : (g x k : G) → conj P x g ≡ x → Same n (transport_phase P n w (conj P g k) (conj P x k) (P.inv k) + transport_phase P n w g x k) 0
@@ -178,12 +158,11 @@ module _ {G : Type 0} (P : Group G) (n : ℕ) (w : G → G → G → ℕ) (W : T
       Same n (theta P n w g x y + transport_phase P n w g (P.op x y) k)
       (transport_phase P n w g x k + transport_phase P n w g y k + theta P n w (conj P g k) (conj P x k) (conj P y k))
   transport_is_algebra_map g x y k commutes_x commutes_y =
-      let back_x : conj P g x ≡ g = conj_symmetric P x g commutes_x in
       same_lin n _ _ _ _
       (same_add (same_add (transport_phase_is g (P.op x y) k) (same_sym (same_add (transport_phase_is g x k) (transport_phase_is g y k))))
       (same_add (theta_associative g x y k)
       (same_add (same_sym (theta_associative g x k (conj P y k))) (theta_associative g k (conj P x k) (conj P y k)))))
-      (simp (conj_rules, P, back_x) (omega arith))
+      (simp (conj_rules, P, conj_symmetric P x g commutes_x) (omega arith))
 
   -- the coproduct phase is carried along c
   pub gamma_transport : (x h k c : G) → conj P h x ≡ h → conj P k x ≡ k →
@@ -206,9 +185,7 @@ module _ {G : Type 0} (P : Group G) (n : ℕ) (w : G → G → G → ℕ) (W : T
   commutes_back a c h = ap (λ z. conj P z (P.inv c)) (sym h) ∙ conj_inv P a c
 
   commutes_conjugate : (a c x : G) → conj P a c ≡ a → conj P a x ≡ a → conj P a (P.op (P.op c x) (P.inv c)) ≡ a
-  commutes_conjugate a c x h k =
-      let back : conj P a (P.inv c) ≡ a = commutes_back a c h in
-      simp (conj_op, h, k, back)
+  commutes_conjugate a c x h k = simp (conj_op, h, k, commutes_back a c h)
 
   -- by a product: first by its right factor
   pub kappa_composes : (a d c x : G) → conj P a d ≡ a → conj P a c ≡ a → conj P a x ≡ a →

@@ -1,171 +1,141 @@
 -- The centraliser of an element as a group on places. An element is a number of the whole group, a place the number of an element in
 -- the ascending list of the centraliser.
-use Rattle.slant.proofs.Names.{◌≡◌, ℕ, ◌<◌, nat_eq, List, length, get_or, refl, sym, ap, ◌∙◌, arith, eqb-true, eq-eqb, IsGroupBelow, Table, product, inverse, identity_of, IsGroup, group_below, closed, identity_below, two_sided_inverse, passing_below-ascending, centraliser_exactly, place_in, product_place, table_of, identity_is_unit, is_group, length-by_pairs, pair_at}
+use Rattle.slant.proofs.Names.{◌≡◌, ℕ, ◌<◌, nat_eq, length, get_or, sym, ap, ◌∙◌, arith, eqb-true, eq-eqb, IsGroupBelow, Table, product, identity_of, IsGroup, passing_below-ascending, centraliser_exactly, place_in, product_place, table_of, identity_is_unit, is_group, length-by_pairs, pair_at, Group, Below, below_equal, conj, element, element_group, same_value, neither_below}
 use Rattle.std.specs.Prelude.{unwrap_or}
 use Rattle.std.proofs.lemmas.List.Elements.{Contains-get_or}
 use Rattle.std.proofs.lemmas.Grind.{get_or_default_zero}
-use Rattle.orders.proofs.Powers.{inverse_unique}
-use Rattle.classes.specs.Conjugacy.{conjugate, centraliser_of}
+use Rattle.algebra.proofs.GroupLaws.{group_rules, inv_unique, conj_op, conj_one, conj_self, conj_inv, conj_of_commuting, commuting_of_conj}
+use Rattle.classes.specs.Conjugacy.{centraliser_of}
+use Rattle.classes.proofs.Carrying.{carry, carry_is}
 use Rattle.scan.proofs.Searches.{IsLeastPassing, least_passing, least_passing_found}
 
--- x is an element that commutes with a
-pub record Centralises (t : Table) (a x : ℕ) : Type 0 where
-  pub below : x < t.order
-  pub commutes : product t x a ≡ product t a x
+-- what commutes with a is closed under products and inverses
 
-module _ (t : Table) (T : IsGroup t) (a : ℕ) (a_below : a < t.order) where
-  abbrev pub elements : List ℕ
-  elements = centraliser_of t a
+pub op_commutes : {G : Type 0} (P : Group G) (a x y : G) → conj P a x ≡ a → conj P a y ≡ a → conj P a (P.op x y) ≡ a
+op_commutes P a x y h k = simp (conj_op, h, k)
 
-  abbrev pub element : ℕ → ℕ
-  element p = get_or (centraliser_of t a) p 0
+pub inv_commutes : {G : Type 0} (P : Group G) (a x : G) → conj P a x ≡ a → conj P a (P.inv x) ≡ a
+inv_commutes P a x h = ap (λ z. conj P z (P.inv x)) (sym h) ∙ conj_inv P a x
 
-  pub element_centralises : (p : ℕ) → p < length elements → Centralises t a (element p)
-  element_centralises p below =
-      let here = (centraliser_exactly t T a (element p)).0 (Contains-get_or elements p 0 below) in
-      record { below = here.0; commutes = here.1 }
+-- what an injective map makes a group of
+module _ {G S : Type 0} (P : Group G) (to : S → G) (injective : (x y : S) → to x ≡ to y → x ≡ y) (op : S → S → S) (inv : S → S) (one : S)
+    (to_op : (x y : S) → to (op x y) ≡ P.op (to x) (to y)) (to_inv : (x : S) → to (inv x) ≡ P.inv (to x)) (to_one : to one ≡ P.one) where
+  abbrev pulled_back : Group S
+  pulled_back = record {
+    op = op;
+    inv = inv;
+    one = one;
+    op_assoc = λ x y z. injective _ _ (simp (to_op, group_rules, P));
+    one_op = λ x. injective _ _ (simp (to_op, to_one, group_rules, P));
+    op_one = λ x. injective _ _ (simp (to_op, to_one, group_rules, P));
+    inv_op = λ x. injective _ _ (simp (to_op, to_inv, to_one, group_rules, P));
+    op_inv = λ x. injective _ _ (simp (to_op, to_inv, to_one, group_rules, P));
+  }
 
-  pub ascending : (p r : ℕ) → p < r → r < length elements → element p < element r
+-- a table whose products are those of a group on its elements
+module _ (t : Table) (Q : Group (Below t.order)) (is : (p r : Below t.order) → product t p.value r.value ≡ (Q.op p r).value) where
+  pub products_group : IsGroupBelow t.order (product t) Q.one.value
+  products_group = record {
+    unit_below = Q.one.below;
+    closed = λ p r p_below r_below. rw (is (element p p_below) (element r r_below)) (Q.op (element p p_below) (element r r_below)).below;
+    unit_left = λ p below. is Q.one (element p below) ∙ same_value (Q.one_op (element p below));
+    unit_right = λ p below. is (element p below) Q.one ∙ same_value (Q.op_one (element p below));
+    right_inverse = λ p below.
+        let i = Q.inv (element p below) in
+        (i.value, i.below, is (element p below) i ∙ same_value (Q.op_inv (element p below)));
+    associative = λ p q r p_below q_below r_below.
+        let x = element p p_below in
+        let y = element q q_below in
+        let z = element r r_below in
+        ap (λ k. product t k r) (is x y) ∙ is (Q.op x y) z ∙ same_value (Q.op_assoc x y z) ∙ sym (ap (product t p) (is y z) ∙ is x (Q.op y z));
+  }
+
+module _ (t : Table) (T : IsGroup t) (a : Below t.order) where
+  abbrev P : Group (Below t.order)
+  P = element_group t T
+
+  abbrev pub Place : Type 0
+  Place = Below (length (centraliser_of t a.value))
+
+  pub listed : (p : Place)
+      → (get_or (centraliser_of t a.value) p.value 0 < t.order)
+      × (product t (get_or (centraliser_of t a.value) p.value 0) a.value ≡ product t a.value (get_or (centraliser_of t a.value) p.value 0))
+  listed p = (centraliser_exactly t T a.value _).0 (Contains-get_or (centraliser_of t a.value) p.value 0 p.below)
+
+  -- the element at a place, which commutes with a
+  abbrev pub element_at : Place → Below t.order
+  element_at p = element (get_or (centraliser_of t a.value) p.value 0) (listed p).0
+
+  pub commutes : (p : Place) → conj P a (element_at p) ≡ a
+  commutes p = conj_of_commuting P a (element_at p) (below_equal _ _ (sym (listed p).1))
+
+  pub ascending : (p r : ℕ) → p < r → r < length (centraliser_of t a.value) → get_or (centraliser_of t a.value) p 0 < get_or (centraliser_of t a.value) r 0
   unfolding centraliser_of
-  ascending p r less below = passing_below-ascending t.order (λ x. nat_eq (product t x a) (product t a x)) p r less below
+  ascending = passing_below-ascending t.order (λ x. nat_eq (product t x a.value) (product t a.value x))
 
   -- one element stands at one place
-  pub element_injective : (p r : ℕ) → p < length elements → r < length elements → element p ≡ element r → p ≡ r
-  element_injective p r p_below r_below e =
-      equal p r
-      (λ less. let up : element p < element r = ascending p r less r_below in omega (arith, e))
-      (λ less. let up : element r < element p = ascending r p less p_below in omega (arith, e))
-    where
-      equal : (x y : ℕ) → (x < y → ⊥) → (y < x → ⊥) → x ≡ y
-      equal x y not_below not_above = omega arith
+  pub injective : (p r : Place) → element_at p ≡ element_at r → p ≡ r
+  injective p r e =
+      let same = same_value e in
+      below_equal p r
+      (neither_below p.value r.value
+      (λ less. let up = ascending p.value r.value less r.below in omega (arith, same))
+      (λ less. let up = ascending r.value p.value less p.below in omega (arith, same)))
 
-  abbrev pub place : ℕ → ℕ
-  place x = unwrap_or (place_in elements x) 0
-
-  pub placed : (x : ℕ) → Centralises t a x → IsLeastPassing (length elements) (λ p. nat_eq (element p) x) (place x)
+  pub placed : (x : Below t.order) → conj P a x ≡ a
+      → IsLeastPassing (length (centraliser_of t a.value)) (λ p. nat_eq (get_or (centraliser_of t a.value) p 0) x.value) (unwrap_or (place_in (centraliser_of t a.value) x.value) 0)
   placed x h =
-      let (k, below, stands) = (centraliser_exactly t T a x).1 (h.below, h.commutes) in
-      let here : element k ≡ x = sym (get_or_default_zero elements k x below) ∙ stands in
-      least_passing (length elements) (λ p. nat_eq (element p) x) (place x)
-      (least_passing_found (length elements) (λ p. nat_eq (element p) x) k below (eq-eqb (element k) x here))
+      let (k, below, stands) = (centraliser_exactly t T a.value x.value).1 (x.below, sym (same_value (commuting_of_conj P a x h))) in
+      least_passing _ _ _ (least_passing_found _ _ k below (eq-eqb _ _ (sym (get_or_default_zero (centraliser_of t a.value) k x.value below) ∙ stands)))
 
-  pub place_below : (x : ℕ) → Centralises t a x → place x < length elements
-  place_below x h = (placed x h).below
+  -- the place of an element that commutes with a
+  abbrev place : (x : Below t.order) → conj P a x ≡ a → Place
+  place x h = element (unwrap_or (place_in (centraliser_of t a.value) x.value) 0) (placed x h).below
 
-  pub element_at_place : (x : ℕ) → Centralises t a x → element (place x) ≡ x
-  element_at_place x h = eqb-true _ _ (placed x h).passes
+  pub at_place : (x : Below t.order) (h : conj P a x ≡ a) → element_at (place x h) ≡ x
+  at_place x h = below_equal _ _ (eqb-true _ _ (placed x h).passes)
 
-  B : IsGroupBelow t.order (product t) (identity_of t)
-  B = group_below t T
+  -- a stands at a place of its own
+  pub own : (p : Place) × ((element_at p).value ≡ a.value)
+  own = (place a (conj_self P a), same_value (at_place a (conj_self P a)))
 
-  pub own : Centralises t a a
-  own = record { below = a_below; commutes = refl }
+  pub closed : (p r : Place) → conj P a (P.op (element_at p) (element_at r)) ≡ a
+  closed p r = op_commutes P a (element_at p) (element_at r) (commutes p) (commutes r)
 
-  pub identity_centralises : Centralises t a (identity_of t)
-  identity_centralises = record { below = identity_below t T; commutes = B.unit_left a a_below ∙ sym (B.unit_right a a_below) }
+  abbrev carried_group : Group Place
+  carried_group =
+      pulled_back P element_at injective
+      (λ p r. place (P.op (element_at p) (element_at r)) (closed p r))
+      (λ p. place (P.inv (element_at p)) (inv_commutes P a (element_at p) (commutes p)))
+      (place P.one (conj_one P a))
+      (λ p r. at_place _ (closed p r)) (λ p. at_place _ (inv_commutes P a (element_at p) (commutes p))) (at_place _ (conj_one P a))
 
-  pub product_centralises : (x y : ℕ) → Centralises t a x → Centralises t a y → Centralises t a (product t x y)
-  product_centralises x y h k = record {
-    below = closed t x y T h.below k.below;
-    commutes =
-        B.associative x y a h.below k.below a_below ∙ ap (product t x) k.commutes
-        ∙ sym (B.associative x a y h.below a_below k.below) ∙ ap (λ z. product t z y) h.commutes
-        ∙ B.associative a x y a_below h.below k.below;
-  }
-
-  -- x^-1 a = x^-1 (a x) x^-1 = x^-1 (x a) x^-1 = a x^-1
-  pub inverse_centralises : (x : ℕ) → Centralises t a x → Centralises t a (inverse t x)
-  inverse_centralises x h =
-      let i = inverse t x in
-      let inv = two_sided_inverse t T x h.below in
-      let ia_below : product t i a < t.order = closed t i a T inv.below a_below in
-      let xi : product t (product t i (product t a x)) i ≡ product t i a =
-      ap (λ z. product t z i) (sym (B.associative i a x inv.below a_below h.below)) ∙ B.associative (product t i a) x i ia_below h.below inv.below
-      ∙ ap (product t (product t i a)) inv.right ∙ B.unit_right (product t i a) ia_below in
-      let ix : product t (product t i (product t x a)) i ≡ product t a i =
-      ap (λ z. product t z i) (sym (B.associative i x a inv.below h.below a_below) ∙ ap (λ z. product t z a) inv.left ∙ B.unit_left a a_below) in
-      record { below = inv.below; commutes = sym xi ∙ ap (λ z. product t (product t i z) i) (sym h.commutes) ∙ ix }
-
-  -- products at places are those at elements
   abbrev pub table : Table
-  table = table_of t elements
+  table = table_of t (centraliser_of t a.value)
 
-  pub product_is : (p r : ℕ) → p < length elements → r < length elements → product table p r ≡ place (product t (element p) (element r))
-  product_is p r p_below r_below = pair_at (length elements) (product_place t elements) p r p_below r_below
-
-  product_elements : (p r : ℕ) → p < length elements → r < length elements → Centralises t a (product t (element p) (element r))
-  product_elements p r p_below r_below = product_centralises (element p) (element r) (element_centralises p p_below) (element_centralises r r_below)
-
-  pub element_of_product : (p r : ℕ) → p < length elements → r < length elements → element (product table p r) ≡ product t (element p) (element r)
-  element_of_product p r p_below r_below = ap element (product_is p r p_below r_below) ∙ element_at_place (product t (element p) (element r)) (product_elements p r p_below r_below)
-
-  pub product_below : (p r : ℕ) → p < length elements → r < length elements → product table p r < length elements
-  product_below p r p_below r_below = rw (product_is p r p_below r_below) (place_below (product t (element p) (element r)) (product_elements p r p_below r_below))
-
-  unit_place_below : place (identity_of t) < length elements
-  unit_place_below = place_below (identity_of t) identity_centralises
-
-  element_at_unit : element (place (identity_of t)) ≡ identity_of t
-  element_at_unit = element_at_place (identity_of t) identity_centralises
-
-  inverse_place : (p : ℕ) → p < length elements → Centralises t a (inverse t (element p))
-  inverse_place p below = inverse_centralises (element p) (element_centralises p below)
+  pub product_is : (p r : Place) → product table p.value r.value ≡ (carried_group.op p r).value
+  product_is p r = pair_at _ (product_place t (centraliser_of t a.value)) p.value r.value p.below r.below
 
   -- the places are a group
-  pub places_group : IsGroupBelow (length elements) (product table) (place (identity_of t))
-  places_group = record {
-    unit_below = unit_place_below;
-    closed = λ p r p_below r_below. product_below p r p_below r_below;
-    unit_left = λ p below.
-        let u = place (identity_of t) in
-        element_injective (product table u p) p (product_below u p unit_place_below below) below
-        (element_of_product u p unit_place_below below ∙ ap (λ z. product t z (element p)) element_at_unit ∙ B.unit_left (element p) (element_centralises p below).below);
-    unit_right = λ p below.
-        let u = place (identity_of t) in
-        element_injective (product table p u) p (product_below p u below unit_place_below) below
-        (element_of_product p u below unit_place_below ∙ ap (product t (element p)) element_at_unit ∙ B.unit_right (element p) (element_centralises p below).below);
-    right_inverse = λ p below.
-        let r = place (inverse t (element p)) in
-        let r_below = place_below (inverse t (element p)) (inverse_place p below) in (
-          r,
-          r_below,
-          element_injective (product table p r) (place (identity_of t)) (product_below p r below r_below) unit_place_below
-              (element_of_product p r below r_below ∙ ap (product t (element p)) (element_at_place (inverse t (element p)) (inverse_place p below))
-              ∙ (two_sided_inverse t T (element p) (element_centralises p below).below).right ∙ sym element_at_unit),
-        );
-    associative = λ p q r p_below q_below r_below.
-        let pq = product_below p q p_below q_below in
-        let qr = product_below q r q_below r_below in
-        element_injective (product table (product table p q) r) (product table p (product table q r)) (product_below (product table p q) r pq r_below) (product_below p (product table q r) p_below qr)
-        (element_of_product (product table p q) r pq r_below ∙ ap (λ z. product t z (element r)) (element_of_product p q p_below q_below)
-        ∙ B.associative (element p) (element q) (element r) (element_centralises p p_below).below (element_centralises q q_below).below (element_centralises r r_below).below
-        ∙ sym (element_of_product p (product table q r) p_below qr ∙ ap (product t (element p)) (element_of_product q r q_below r_below)));
-  }
-
-  -- the identity and inverses at places are those at elements
   pub places_lawful : IsGroup table
-  places_lawful = is_group table (place (identity_of t)) places_group (length-by_pairs (length elements) (product_place t elements))
+  places_lawful = is_group table _ (products_group table carried_group product_is) (length-by_pairs _ (product_place t (centraliser_of t a.value)))
 
-  pub element_of_identity : element (identity_of table) ≡ identity_of t
-  element_of_identity = ap element (identity_is_unit table (place (identity_of t)) places_group) ∙ element_at_unit
+  abbrev pub place_group : Group Place
+  place_group = element_group table places_lawful
 
-  pub inverse_below : (p : ℕ) → p < length elements → inverse table p < length elements
-  inverse_below p below = (two_sided_inverse table places_lawful p below).below
+  -- products, the identity, inverses and conjugates at places are those at elements
 
-  pub element_of_inverse : (p : ℕ) → p < length elements → element (inverse table p) ≡ inverse t (element p)
-  element_of_inverse p below =
-      let inv = two_sided_inverse table places_lawful p below in
-      let x_below = (element_centralises p below).below in
-      inverse_unique _ _ _ B (element p) (element (inverse table p)) (inverse t (element p)) x_below (element_centralises (inverse table p) inv.below).below (two_sided_inverse t T (element p) x_below).below
-      (sym (element_of_product p (inverse table p) below inv.below) ∙ ap element inv.right ∙ element_of_identity) (two_sided_inverse t T (element p) x_below).right
+  pub at_product : (p r : Place) → element_at (place_group.op p r) ≡ P.op (element_at p) (element_at r)
+  at_product p r = ap element_at (below_equal _ _ (product_is p r)) ∙ at_place _ (closed p r)
 
-  pub conjugate_below : (c p : ℕ) → c < length elements → p < length elements → conjugate table c p < length elements
-  unfolding conjugate
-  conjugate_below c p c_below p_below = product_below (product table c p) (inverse table c) (product_below c p c_below p_below) (inverse_below c c_below)
+  pub at_identity : element_at place_group.one ≡ P.one
+  at_identity = ap element_at (below_equal _ _ (identity_is_unit table _ (products_group table carried_group product_is))) ∙ at_place _ (conj_one P a)
 
-  pub element_of_conjugate : (c p : ℕ) → c < length elements → p < length elements → element (conjugate table c p) ≡ conjugate t (element c) (element p)
-  unfolding conjugate
-  element_of_conjugate c p c_below p_below =
-      element_of_product (product table c p) (inverse table c) (product_below c p c_below p_below) (inverse_below c c_below)
-      ∙ ap (λ x. product t x (element (inverse table c))) (element_of_product c p c_below p_below)
-      ∙ ap (product t (product t (element c) (element p))) (element_of_inverse c c_below)
+  pub at_inverse : (p : Place) → element_at (place_group.inv p) ≡ P.inv (element_at p)
+  at_inverse p = inv_unique P (element_at p) (element_at (place_group.inv p)) (sym (at_product p (place_group.inv p)) ∙ ap element_at (place_group.op_inv p) ∙ at_identity)
+
+  pub at_conjugate : (c p : Place) → element_at (carry place_group c p) ≡ carry P (element_at c) (element_at p)
+  unfolding carry
+  at_conjugate c p =
+      at_product (place_group.op c p) (place_group.inv c) ∙ ap (λ x. P.op x (element_at (place_group.inv c))) (at_product c p)
+      ∙ ap (P.op (P.op (element_at c) (element_at p))) (at_inverse c)

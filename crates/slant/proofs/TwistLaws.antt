@@ -1,108 +1,77 @@
 -- The centraliser of an element with the slant product is a twist.
-use Rattle.slant.proofs.Names.{◌≡◌, ℕ, ◌+◌, ◌-◌, ◌*◌, ◌/◌, ◌%◌, ◌<◌, ◌≤◌, List, length, get_or, refl, sym, ap, ◌∙◌, arith, nat_eq, IsGroupBelow, Table, product, inverse, identity_of, IsGroup, IsSmall, group_below, two_sided_inverse, length-passing_below, Cochain, IsCocycle, centraliser_exactly, identity_is_unit, length-by_pairs, row_below, column_below, listed_at, pair_at}
+use Rattle.slant.proofs.Names.{◌≡◌, ℕ, ◌+◌, ◌-◌, ◌*◌, ◌/◌, ◌%◌, ◌<◌, ◌≤◌, List, length, get_or, refl, sym, ap, ◌∙◌, arith, nat_eq, Table, product, identity_of, IsGroup, IsSmall, length-passing_below, Cochain, IsCocycle, centraliser_exactly, length-by_pairs, row_below, column_below, listed_at, pair_at, Below, conj, element, same_value}
 use mathlib.Core.Path.{ap₂}
 use Rattle.algebra.specs.Congruences.{Same}
-use Rattle.algebra.proofs.CongruenceLaws.{same_of, same_trans}
 use Rattle.classes.specs.Conjugacy.{conjugate, centraliser_of}
-use Rattle.twisted.specs.Twist.{TwistedSubgroup, phase, size, HasCocycle, IsTwist}
+use Rattle.classes.proofs.Carrying.{carry}
+use Rattle.twisted.specs.Twist.{TwistedSubgroup, phase, size, IsTwist}
 use Rattle.twisted.specs.Regular.{kappa as kappa_at_places}
-use Rattle.slant.specs.Phases.{carried, theta, kappa}
+use Rattle.slant.specs.Phases.{theta, kappa}
 use Rattle.slant.specs.TwistLaws.{CentraliserIsTwist, ElementsCommute, ProductsAgree, IdentitiesAgree, InversesAgree, PhasesAgree, KappasAgree}
 use Rattle.group_table.specs.Numbers.{by_pairs}
 use Rattle.slant.specs.Twists.{table_of, phase_at, twist_over, twist_of}
-use Rattle.slant.proofs.Identities.{phases_below, theta_normalised, theta_associative}
-use Rattle.slant.proofs.Places.{Centralises, elements, element, table, place, ascending, element_centralises, own, identity_centralises, place_below, element_at_place, element_of_product, product_below, places_group, places_lawful, element_of_identity, element_of_inverse, conjugate_below, element_of_conjugate}
+use Rattle.slant.proofs.Instances.{phases_below, theta_normalised, theta_associative}
+use Rattle.slant.proofs.Places.{Place, element_at, commutes, ascending, own, places_lawful, place_group, at_product, at_identity, at_inverse, at_conjugate}
 
--- what commutes with a carries it to itself
-pub carried_back : (t : Table) → IsGroup t → (a x : ℕ) → a < t.order → Centralises t a x → carried t a x ≡ a
-carried_back t T a x a_below h =
-    let B : IsGroupBelow t.order (product t) (identity_of t) = group_below t T in
-    let inv = two_sided_inverse t T x h.below in
-    ap (product t (inverse t x)) (sym h.commutes) ∙ sym (B.associative (inverse t x) x a inv.below h.below a_below)
-    ∙ ap (λ z. product t z a) inv.left ∙ B.unit_left a a_below
+few_centralise : (t : Table) (a : ℕ) → length (centraliser_of t a) ≤ t.order
+unfolding centraliser_of
+few_centralise t a = length-passing_below t.order (λ x. nat_eq (product t x a) (product t a x))
 
 module _ (w : Cochain) (W : IsCocycle w) (a : ℕ) (a_below : a < w.group.order) where
-  abbrev pub T : IsGroup w.group
+  abbrev T : IsGroup w.group
   T = W.cochain.group
 
-  abbrev pub here : TwistedSubgroup
+  abbrev A : Below w.group.order
+  A = element a a_below
+
+  abbrev here : TwistedSubgroup
   here = twist_over w a (centraliser_of w.group a)
 
-  -- the element at a place
-  abbrev pub at_place : ℕ → ℕ
-  at_place p = element w.group T a a_below p
+  abbrev at_place : Below (size here) → Below w.group.order
+  at_place = element_at w.group T A
 
-  at : (p : ℕ) → p < size here → Centralises w.group a (at_place p)
-  at p below = element_centralises w.group T a a_below p below
+  phase_is : (p r : Below (size here)) → phase here p.value r.value ≡ theta w a (at_place p).value (at_place r).value
+  phase_is p r = pair_at _ (phase_at w a (centraliser_of w.group a)) p.value r.value p.below r.below
 
-  pub phase_is : (p r : ℕ) → p < size here → r < size here → phase here p r ≡ theta w a (at_place p) (at_place r)
-  phase_is p r p_below r_below = pair_at (length (centraliser_of w.group a)) (phase_at w a (centraliser_of w.group a)) p r p_below r_below
-
-  identity_place : identity_of (table_of w.group (centraliser_of w.group a)) ≡ place w.group T a a_below (identity_of w.group)
-  identity_place = identity_is_unit (table w.group T a a_below) _ (places_group w.group T a a_below)
-
-  pub few_elements : length (centraliser_of w.group a) ≤ w.group.order
-  unfolding centraliser_of
-  few_elements = length-passing_below w.group.order (λ x. nat_eq (product w.group x a) (product w.group a x))
-
-  law : (p q r : ℕ) → p < size here → q < size here → r < size here
-      → Same w.roots (phase here p q + phase here (product here.group p q) r) (phase here p (product here.group q r) + phase here q r)
-  law p q r p_below q_below r_below =
-      let pq = product_below w.group T a a_below p q p_below q_below in
-      let qr = product_below w.group T a a_below q r q_below r_below in
-      let first = phase_is p q p_below q_below in
-      let second = phase_is (product here.group p q) r pq r_below ∙ ap (λ x. theta w a x (at_place r)) (element_of_product w.group T a a_below p q p_below q_below) in
-      let third = phase_is p (product here.group q r) p_below qr ∙ ap (theta w a (at_place p)) (element_of_product w.group T a a_below q r q_below r_below) in
-      let fourth = phase_is q r q_below r_below ∙ ap (λ g. theta w g (at_place q) (at_place r)) (sym (carried_back w.group T a (at_place p) a_below (at p p_below))) in
-      same_trans (same_of w.roots (ap₂ (λ u v. u + v) first second))
-      (same_trans (theta_associative w W a (at_place p) (at_place q) (at_place r) a_below (at p p_below).below (at q q_below).below (at r r_below).below)
-      (same_of w.roots (sym (ap₂ (λ u v. u + v) third fourth))))
-
-  unit_below : place w.group T a a_below (identity_of w.group) < size here
-  unit_below = place_below w.group T a a_below (identity_of w.group) (identity_centralises w.group T a a_below)
-
-  cocycle : HasCocycle here
-  cocycle = record {
-    law = law;
-    at_identity_left = λ p below.
-        ap (λ u. phase here u p) identity_place ∙ phase_is (place w.group T a a_below (identity_of w.group)) p unit_below below
-        ∙ ap (λ x. theta w a x (at_place p)) (element_at_place w.group T a a_below (identity_of w.group) (identity_centralises w.group T a a_below))
-        ∙ (theta_normalised w W a (at_place p) a_below (at p below).below).1;
-    at_identity_right = λ p below.
-        ap (phase here p) identity_place ∙ phase_is p (place w.group T a a_below (identity_of w.group)) below unit_below
-        ∙ ap (theta w a (at_place p)) (element_at_place w.group T a a_below (identity_of w.group) (identity_centralises w.group T a a_below))
-        ∙ (theta_normalised w W a (at_place p) a_below (at p below).below).2;
-  }
-
-  phase_below : (i : ℕ) → i < size here * size here → get_or here.phases i 0 < w.roots
-  phase_below i below =
-      let p_below = row_below (size here) i below in
-      let r_below = column_below (size here) i below in
-      rw (listed_at (size here) (phase_at w a (centraliser_of w.group a)) i below)
-      (phases_below w W a (at_place (i / size here)) (at_place (i % size here)) a_below (at (i / size here) p_below).below (at (i % size here) r_below).below).0
+  law : (p q r : Below (size here))
+      → Same w.roots (phase here p.value q.value + phase here (product here.group p.value q.value) r.value) (phase here p.value (product here.group q.value r.value) + phase here q.value r.value)
+  unfolding conj
+  law p q r =
+      let first = phase_is p q in
+      let second = phase_is ((place_group w.group T A).op p q) r ∙ ap (λ (x : Below w.group.order). theta w a x.value (at_place r).value) (at_product w.group T A p q) in
+      let third = phase_is p ((place_group w.group T A).op q r) ∙ ap (λ (x : Below w.group.order). theta w a (at_place p).value x.value) (at_product w.group T A q r) in
+      let fourth = phase_is q r ∙ ap (λ (g : Below w.group.order). theta w g.value (at_place q).value (at_place r).value) (sym (commutes w.group T A p)) in
+      rw (first, second, third, fourth)
+      (theta_associative w W a (at_place p).value (at_place q).value (at_place r).value a_below (at_place p).below (at_place q).below (at_place r).below)
 
   pub twist_over_lawful : IsTwist here
   twist_over_lawful = record {
-    group = places_lawful w.group T a a_below;
-    small = record {
-      from_one = let some : place w.group T a a_below a < length (centraliser_of w.group a) = place_below w.group T a a_below a (own w.group T a a_below) in omega arith;
-      to_sixty = omega (arith, few_elements, W.cochain.small.to_sixty);
-    };
+    group = places_lawful w.group T A;
+    small = record { from_one = let some = (own w.group T A).0.below in omega (arith, some); to_sixty = omega (arith, few_centralise w.group a, W.cochain.small.to_sixty) };
     count = refl;
-    ascending = ascending w.group T a a_below;
-    holds_at = (place w.group T a a_below a, place_below w.group T a a_below a (own w.group T a a_below), element_at_place w.group T a a_below a (own w.group T a a_below));
+    ascending = ascending w.group T A;
+    holds_at = ((own w.group T A).0.value, (own w.group T A).0.below, (own w.group T A).1);
     modulus = record { from_one = W.cochain.number.from_one; to_most = W.cochain.number.to_most };
     square = length-by_pairs _ _;
     below = λ i below. phase_below i (rw (length-by_pairs (size here) (phase_at w a (centraliser_of w.group a))) at below);
-    cocycle = cocycle;
+    cocycle = record {
+      law = λ p q r p_below q_below r_below. law (element p p_below) (element q q_below) (element r r_below);
+      at_identity_left = λ p below.
+          let x = at_place (element p below) in
+          phase_is (place_group w.group T A).one (element p below) ∙ ap (λ (e : Below w.group.order). theta w a e.value x.value) (at_identity w.group T A)
+          ∙ (theta_normalised w W a x.value a_below x.below).1;
+      at_identity_right = λ p below.
+          let x = at_place (element p below) in
+          phase_is (element p below) (place_group w.group T A).one ∙ ap (λ (e : Below w.group.order). theta w a x.value e.value) (at_identity w.group T A)
+          ∙ (theta_normalised w W a x.value a_below x.below).2;
+    };
   }
-
-  pub kappa_is : (c p : ℕ) → c < size here → p < size here → kappa_at_places here c p ≡ kappa w a (at_place c) (at_place p)
-  unfolding kappa_at_places kappa
-  kappa_is c p c_below p_below =
-      ap₂ (λ u v. (u + (w.roots - v)) % w.roots) (phase_is c p c_below p_below)
-      (phase_is (conjugate here.group c p) c (conjugate_below w.group T a a_below c p c_below p_below) c_below
-      ∙ ap (λ x. theta w a x (at_place c)) (element_of_conjugate w.group T a a_below c p c_below p_below))
+    where
+      phase_below : (i : ℕ) → i < size here * size here → get_or here.phases i 0 < w.roots
+      phase_below i below =
+          let x = at_place (element (i / size here) (row_below (size here) i below)) in
+          let y = at_place (element (i % size here) (column_below (size here) i below)) in
+          rw (listed_at (size here) (phase_at w a (centraliser_of w.group a)) i below) (phases_below w W a x.value y.value a_below x.below y.below).0
 
   pub twist_lawful : IsTwist (twist_of w a)
   unfolding twist_of
@@ -111,13 +80,13 @@ module _ (w : Cochain) (W : IsCocycle w) (a : ℕ) (a_below : a < w.group.order)
   -- from the list of the elements
 
   pub elements_below : (t : Table) (elements : List ℕ) → t ≡ w.group → elements ≡ centraliser_of w.group a → (q : ℕ) → q < length elements → get_or elements q 0 < t.order
-  elements_below t elements same e = rw (same, e) (λ q below. (at q below).below)
+  elements_below t elements same e = rw (same, e) (λ q below. (at_place (element q below)).below)
 
   pub elements_few : (elements : List ℕ) → elements ≡ centraliser_of w.group a → IsSmall (length elements)
   elements_few elements e = rw e twist_over_lawful.small
 
   pub elements_lawful : (t : Table) (elements : List ℕ) → t ≡ w.group → elements ≡ centraliser_of w.group a → IsGroup (table_of t elements)
-  elements_lawful t elements same e = rw (same, e) (places_lawful w.group T a a_below)
+  elements_lawful t elements same e = rw (same, e) (places_lawful w.group T A)
 
   pub made_lawful : (elements : List ℕ) (t : Table) (roots : ℕ) (phases : List ℕ) → elements ≡ centraliser_of w.group a → t ≡ table_of w.group elements → roots ≡ w.roots
       → phases ≡ by_pairs (length elements) (phase_at w a elements) → IsTwist (record { at = a; elements = elements; group = t; modulus = roots; phases = phases })
@@ -126,28 +95,35 @@ module _ (w : Cochain) (W : IsCocycle w) (a : ℕ) (a_below : a < w.group.order)
 -- what the twisted centraliser is
 
 pub centraliser_is_twist : CentraliserIsTwist
-centraliser_is_twist w W a below = twist_lawful w W a below
+centraliser_is_twist = twist_lawful
 
 pub elements_commute : ElementsCommute
 unfolding twist_of
-elements_commute w W a x = centraliser_exactly w.group W.cochain.group a x
+elements_commute w W a = centraliser_exactly w.group W.cochain.group a
 
 pub products_agree : ProductsAgree
 unfolding twist_of
-products_agree w W a p r below p_below r_below = element_of_product w.group W.cochain.group a below p r p_below r_below
-
-pub phases_agree : PhasesAgree
-unfolding twist_of
-phases_agree w W a p r below p_below r_below = phase_is w W a below p r p_below r_below
+products_agree w W a p r below p_below r_below = same_value (at_product w.group (T w W a below) (A w W a below) (element p p_below) (element r r_below))
 
 pub identities_agree : IdentitiesAgree
 unfolding twist_of
-identities_agree w W a below = element_of_identity w.group W.cochain.group a below
+identities_agree w W a below = same_value (at_identity w.group (T w W a below) (A w W a below))
 
 pub inverses_agree : InversesAgree
 unfolding twist_of
-inverses_agree w W a p below p_below = element_of_inverse w.group W.cochain.group a below p p_below
+inverses_agree w W a p below p_below = same_value (at_inverse w.group (T w W a below) (A w W a below) (element p p_below))
+
+pub phases_agree : PhasesAgree
+unfolding twist_of
+phases_agree w W a p r below p_below r_below = phase_is w W a below (element p p_below) (element r r_below)
 
 pub kappas_agree : KappasAgree
-unfolding twist_of
-kappas_agree w W a c p below c_below p_below = kappa_is w W a below c p c_below p_below
+unfolding twist_of kappa_at_places kappa carry conjugate
+kappas_agree w W a c p below c_below p_below =
+    let T = W.cochain.group in
+    let A : Below w.group.order = element a below in
+    let c = element c c_below in
+    let p = element p p_below in
+    ap₂ (λ u v. (u + (w.roots - v)) % w.roots) (phase_is w W a below c p)
+    (phase_is w W a below (carry (place_group w.group T A) c p) c
+    ∙ ap (λ (x : Below w.group.order). theta w a x.value (element_at w.group T A c).value) (at_conjugate w.group T A c p))

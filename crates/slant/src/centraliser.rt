@@ -63,7 +63,7 @@ fn phases(alloc: Global, w: &Cocycle, a: u32, elements: &Nats) -> Result<Nats, M
 }
 
 /// The centraliser of `a` with the slant product at `a`, a 2-cocycle modulo the number of roots (Dijkgraaf, Pasquier, Roche 1990).
-#[tactic(auto, unfolding(crate::specs::Twists::twist_of))]
+#[tactic(auto, using(crate::proofs::TwistLaws::elements_below, crate::proofs::TwistLaws::elements_few), unfolding(crate::specs::Twists::twist_of))]
 pub fn twist_at(alloc: Global, w: &Cocycle, a: u32) -> Result<Twist, Memory>
     requires a_below { a < w.now.group.order }
     ensures twist { IfOk result (λ twist. twist ≡ twist_of w.now a) }

@@ -1,6 +1,6 @@
 -- A class sum, written place by place as its conjugates are met.
-use Rattle.twisted.proofs.Names.{◌≡◌, ◌≢◌, ℕ, suc, ◌+◌, ◌%◌, ◌<◌, true, cond, nat_eq, Option, Some, None, List, length, refl, sym, ◌∙◌, ap, arith, add-one, eqb-true, ◌⊎◌, inl, inr, option_map_or, set, eq-eqb, ne_eqb, cases_eq, first, option_or, first-suc, first-zero, CommRing, RootOfUnity, conjugate, least_passing, conjugate_below, TwistedSubgroup, size, IsTwist, kappa, is_regular, coefficient, root, IsCentral, class_sum}
-use Rattle.twisted.proofs.Coefficients.{coefficient-set_same, coefficient-set_other}
+use Rattle.twisted.proofs.Names.{◌≡◌, ◌≢◌, ℕ, suc, ◌+◌, ◌%◌, ◌<◌, Bool, true, false, cond, nat_eq, Option, Some, None, List, length, refl, sym, ◌∙◌, ap, arith, add-one, eqb-true, ◌⊎◌, inl, inr, option_map_or, set, eq-eqb, ne_eqb, cases_eq, first, option_or, first-suc, first-zero, CommRing, RootOfUnity, conjugate, least_passing, conjugate_below, TwistedSubgroup, size, IsTwist, kappa, is_regular, coefficient, root, IsCentral, class_sum}
+use Rattle.twisted.proofs.Coefficients.{coefficient-set}
 use Rattle.twisted.proofs.PhaseLaws.{kappa_of_conjugate}
 use Rattle.twisted.proofs.AlgebraLaws.{central_exactly, class_sum_central}
 
@@ -9,57 +9,37 @@ module _ {A : Type 0} (R : CommRing A) {m : ℕ} (U : RootOfUnity R m) (s : Twis
   abbrev pub partial_sum : ℕ → ℕ → A
   partial_sum i y = option_map_or (λ c. root R U s (kappa s c p)) (first i (λ c. cond (nat_eq (conjugate s.group c p) y) (Some c) None)) R.nought
 
-  at : (i : ℕ) (o : Option ℕ) → A
-  at i o = option_map_or (λ c. root R U s (kappa s c p)) o R.nought
+  -- the phase of the place that is found
+  abbrev found : Option ℕ → A
+  found o = option_map_or (λ c. root R U s (kappa s c p)) o R.nought
 
   pub partial_sum-zero : (y : ℕ) → partial_sum 0 y ≡ R.nought
-  unfolding at
-  partial_sum-zero y = ap (at 0) (first-zero (λ c. cond (nat_eq (conjugate s.group c p) y) (Some c) None))
+  partial_sum-zero y = ap found (first-zero (λ c. cond (nat_eq (conjugate s.group c p) y) (Some c) None))
 
   module _ (twist : IsTwist s) (p_below : p < size s) (regular : is_regular s p ≡ true) where
-    partial_sum_at : (i y : ℕ) → i < size s → conjugate s.group i p ≡ y → partial_sum (suc i) y ≡ root R U s (kappa s i p)
-    unfolding at
-    partial_sum_at i y below carries =
-        ap (at i) (first-suc i carried ∙ ap (λ b. option_or (first i carried) (cond b (Some i) None)) (eq-eqb (conjugate s.group i p) y carries))
-        ∙ by (first i carried) refl
+    partial_sum-more : (i y : ℕ) → i < size s → partial_sum (i + 1) y ≡ cond (nat_eq (conjugate s.group i p) y) (root R U s (kappa s i p)) (partial_sum i y)
+    partial_sum-more i y below = rw (add-one, first-suc i carried) (by (first i carried) (nat_eq (conjugate s.group i p) y) refl refl)
       where
         carried : ℕ → Option ℕ
         carried c = cond (nat_eq (conjugate s.group c p) y) (Some c) None
 
-        by : (o : Option ℕ) → first i carried ≡ o → at i (option_or o (Some i)) ≡ root R U s (kappa s i p)
-        by None e = refl
-        by (Some k) e =
+        by : (o : Option ℕ) (b : Bool) → first i carried ≡ o → nat_eq (conjugate s.group i p) y ≡ b
+            → found (option_or o (cond b (Some i) None)) ≡ cond b (root R U s (kappa s i p)) (found o)
+        by None true e same = refl
+        by None false e same = refl
+        by (Some k) false e same = refl
+        by (Some k) true e same =
             let least = least_passing i (λ c. nat_eq (conjugate s.group c p) y) k e in
             let k_below : k < i = least.below in
             ap (root R U s)
-            (kappa_of_conjugate s twist k i p (omega arith) below p_below regular (eqb-true (conjugate s.group k p) y least.passes ∙ sym carries))
-
-    partial_sum_off : (i y : ℕ) → conjugate s.group i p ≢ y → partial_sum (suc i) y ≡ partial_sum i y
-    unfolding at
-    partial_sum_off i y off =
-        ap (at i) (first-suc i carried ∙ ap (λ b. option_or (first i carried) (cond b (Some i) None)) (ne_eqb (conjugate s.group i p) y off) ∙ nothing (first i carried))
-      where
-        carried : ℕ → Option ℕ
-        carried c = cond (nat_eq (conjugate s.group c p) y) (Some c) None
-
-        nothing : (o : Option ℕ) → option_or o None ≡ o
-        nothing None = refl
-        nothing (Some k) = refl
+            (kappa_of_conjugate s twist k i p (omega arith) below p_below regular (eqb-true _ _ least.passes ∙ sym (eqb-true _ _ same)))
 
     -- one more conjugate is met
     pub partial_sums_step : {E : Type 0} (of : E → A) (xs : List E) (i q : ℕ) (v : E) → i < size s → q < length xs → q ≡ conjugate s.group i p → of v ≡ root R U s (kappa s i p)
         → ((y : ℕ) → y < size s → coefficient of R.nought xs y ≡ partial_sum i y)
         → (y : ℕ) → y < size s → coefficient of R.nought (set xs q v) y ≡ partial_sum (i + 1) y
     partial_sums_step of xs i q v i_below q_below q_is v_is before y y_below =
-        by (cases_eq q y) ∙ ap (λ k. partial_sum k y) (sym (add-one i))
-      where
-        by : (q ≡ y) ⊎ (q ≢ y) → coefficient of R.nought (set xs q v) y ≡ partial_sum (suc i) y
-        by (inl same) =
-            ap (coefficient of R.nought (set xs q v)) (sym same) ∙ coefficient-set_same of R.nought xs q v q_below ∙ v_is
-            ∙ sym (partial_sum_at i y i_below (sym q_is ∙ same))
-        by (inr other) =
-            coefficient-set_other of R.nought xs q y v (λ e. other (sym e)) ∙ before y y_below
-            ∙ sym (partial_sum_off i y (λ e. other (q_is ∙ e)))
+        coefficient-set of R.nought xs q y v q_below ∙ rw (q_is, v_is, before y y_below) (sym (partial_sum-more i y i_below))
 
     -- what agrees with the class sum at each place commutes with the whole algebra
     pub same_central : m % s.modulus ≡ 0 → (z : ℕ → A) → ((y : ℕ) → y < size s → z y ≡ class_sum R U s p y) → IsCentral R U s z

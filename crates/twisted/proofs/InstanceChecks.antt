@@ -1,6 +1,8 @@
 -- The worked twists are twists, by computing.
-use Rattle.twisted.proofs.Names.{◌≡◌, ℕ, ◌+◌, ◌%◌, ◌<◌, Bool, true, ◌&&◌, nat_eq, nat_lt, length, get_or, None, refl, lit<, lit≤, eqb-true, ltb-true, all_below-at, and_true, TwistedSubgroup, size, element, phase, HasCocycle}
+use Rattle.twisted.proofs.Names.{◌≡◌, ℕ, ◌+◌, ◌*◌, ◌%◌, ◌<◌, Bool, true, ◌&&◌, nat_eq, nat_lt, length, get_or, None, refl, lit<, lit≤, eqb-true, ltb-true, all_below-at, and_true, IsGroup, TwistedSubgroup, size, element, phase, IsTwist}
 use Rattle.scan.specs.First.{first, all_below}
+use Rattle.group_table.specs.Group.{IsSmall}
+use Rattle.twisted.specs.Twist.{IsModulus}
 use Rattle.group_table.specs.Group.{product, identity_of, group_fault}
 use Rattle.group_table.specs.Numbers.{passing_below}
 use Rattle.classes.specs.Conjugacy.{conjugate, representative_of, other_representatives}
@@ -23,60 +25,39 @@ ascends s = all_below (size s) (λ r. all_below r (λ p. nat_lt (element s p) (e
 phases_fit : TwistedSubgroup → Bool
 phases_fit s = all_below (length s.phases) (λ i. nat_lt (get_or s.phases i 0) s.modulus)
 
-cocycle_of : (s : TwistedSubgroup) → laws_hold s ≡ true → is_normal s ≡ true → HasCocycle s
-unfolding laws_hold law_holds is_normal
-cocycle_of s laws normal = record {
-  law = λ p q r p_below q_below r_below. record {
-    same = eqb-true _ _
-        (all_below-at (size s) r _ (all_below-at (size s) q _ (all_below-at (size s) p _ laws p_below) q_below) r_below);
-  };
-  at_identity_left = λ p below. eqb-true _ _ (and_true _ _ (all_below-at (size s) p _ normal below)).0;
-  at_identity_right = λ p below. eqb-true _ _ (and_true _ _ (all_below-at (size s) p _ normal below)).1;
-}
-
-ascending_of : (s : TwistedSubgroup) → ascends s ≡ true → (p r : ℕ) → p < r → r < size s → element s p < element s r
-unfolding ascends
-ascending_of s e p r less below = ltb-true _ _ (all_below-at r p _ (all_below-at (size s) r _ e below) less)
-
-below_of : (s : TwistedSubgroup) → phases_fit s ≡ true → (i : ℕ) → i < length s.phases → get_or s.phases i 0 < s.modulus
-unfolding phases_fit
-below_of s e i below = ltb-true _ _ (all_below-at (length s.phases) i _ e below)
-
-four_lawful : group_fault four_twist.group ≡ None
-unfolding group_fault first all_below
-four_lawful = refl
-
-permutations_lawful : group_fault permutation_twist.group ≡ None
-unfolding group_fault first all_below
-permutations_lawful = refl
+-- a group with phases that pass the tests is a twist
+module _ (s : TwistedSubgroup) (laws : laws_hold s ≡ true) (normal : is_normal s ≡ true) (up : ascends s ≡ true) (fit : phases_fit s ≡ true) where
+  twist_of_tests : IsGroup s.group → IsSmall s.group.order → length s.elements ≡ s.group.order → (p : ℕ) × (p < size s) × (element s p ≡ s.at) → IsModulus s.modulus
+      → length s.phases ≡ s.group.order * s.group.order → IsTwist s
+  unfolding laws_hold law_holds is_normal ascends phases_fit
+  twist_of_tests group small count holds_at modulus square = record {
+    group = group;
+    small = small;
+    count = count;
+    ascending = λ p r less below. ltb-true _ _ (all_below-at r p _ (all_below-at (size s) r _ up below) less);
+    holds_at = holds_at;
+    modulus = modulus;
+    square = square;
+    below = λ i below. ltb-true _ _ (all_below-at (length s.phases) i _ fit below);
+    cocycle = record {
+      law = λ p q r p_below q_below r_below.
+          record { same = eqb-true _ _ (all_below-at (size s) r _ (all_below-at (size s) q _ (all_below-at (size s) p _ laws p_below) q_below) r_below) };
+      at_identity_left = λ p below. eqb-true _ _ (and_true _ _ (all_below-at (size s) p _ normal below)).0;
+      at_identity_right = λ p below. eqb-true _ _ (and_true _ _ (all_below-at (size s) p _ normal below)).1;
+    };
+  }
 
 pub four_is_twist : FourIsTwist
-unfolding laws_hold law_holds is_normal ascends phases_fit first all_below
-four_is_twist = record {
-  group = record { square = refl; lawful = four_lawful };
-  small = record { from_one = lit≤ tt; to_sixty = lit≤ tt };
-  count = refl;
-  ascending = ascending_of four_twist refl;
-  holds_at = (0, lit< tt, refl);
-  modulus = record { from_one = lit≤ tt; to_most = lit≤ tt };
-  square = refl;
-  below = below_of four_twist refl;
-  cocycle = cocycle_of four_twist refl refl;
-}
+unfolding laws_hold law_holds is_normal ascends phases_fit group_fault first all_below
+four_is_twist =
+    twist_of_tests four_twist refl refl refl refl (record { square = refl; lawful = refl }) (record { from_one = lit≤ tt; to_sixty = lit≤ tt }) refl
+    (0, lit< tt, refl) (record { from_one = lit≤ tt; to_most = lit≤ tt }) refl
 
 pub permutations_are_twist : PermutationsAreTwist
-unfolding laws_hold law_holds is_normal ascends phases_fit first all_below
-permutations_are_twist = record {
-  group = record { square = refl; lawful = permutations_lawful };
-  small = record { from_one = lit≤ tt; to_sixty = lit≤ tt };
-  count = refl;
-  ascending = ascending_of permutation_twist refl;
-  holds_at = (3, lit< tt, refl);
-  modulus = record { from_one = lit≤ tt; to_most = lit≤ tt };
-  square = refl;
-  below = below_of permutation_twist refl;
-  cocycle = cocycle_of permutation_twist refl refl;
-}
+unfolding laws_hold law_holds is_normal ascends phases_fit group_fault first all_below
+permutations_are_twist =
+    twist_of_tests permutation_twist refl refl refl refl (record { square = refl; lawful = refl }) (record { from_one = lit≤ tt; to_sixty = lit≤ tt }) refl
+    (3, lit< tt, refl) (record { from_one = lit≤ tt; to_most = lit≤ tt }) refl
 
 pub four_regular : FourRegular
 unfolding kappa is_regular regular_representatives rank conjugate representative_of other_representatives passing_below first all_below

@@ -5,6 +5,7 @@ pub use Rattle.algebra.proofs.ConvolutionLaws.{convolution_assoc, convolution_at
 pub use Rattle.algebra.proofs.GroupLaws.{group_rules, inv_op_op, op_cancel_right, op_inv_cancel, op_inv_op, op_op_inv}
 pub use Rattle.algebra.proofs.RingLaws.{mul_nought, nought_mul, one_mul, product_rules}
 pub use Rattle.algebra.proofs.SumLaws.{mul_pick, mul_sum, pick_cong, pick_mul, pick_of, pick_off, pick_same, power_add, power_zero, sum_constant, sum_ext, sum_mul, sum_nought, sum_pick}
+pub use Rattle.classes.proofs.Carrying.{element as element_of, element_group, neither_below, same_value, table_group}
 pub use Rattle.algebra.specs.Below.{Below, IsGroupBelow, below_equal}
 pub use Rattle.algebra.specs.Congruences.{Same}
 pub use Rattle.algebra.specs.Convolution.{IsTwoCocycle, twisted_convolution}
@@ -20,7 +21,7 @@ pub use Rattle.group_table.proofs.Sentences.{identity_below, two_sided_inverse}
 pub use Rattle.group_table.specs.Group.{IsGroup, Table, identity_of, inverse, product}
 pub use Rattle.group_table.specs.Numbers.{passing_below}
 pub use Rattle.scan.proofs.Places.{all_below-all, all_below-at, all_below-suc, all_below-zero, and_true, first-suc, first-zero, first_none-at, first_some}
-pub use Rattle.scan.proofs.Searches.{asked, kept_out, least_passing, let_through, not_asked, same_test}
+pub use Rattle.scan.proofs.Searches.{asked, kept_out, least_passing, let_through, not_asked, same_test, where_asked}
 pub use Rattle.scan.specs.First.{all_below, first, option_or}
 pub use Rattle.std.proofs.Common.{All, Bool, List, None, Option, Some, [], add-one, ap, arith, below_more, cond, eqb-true, false, get_or, inl, inr, length, length-append, lit<, lit≤, map, nat_eq, nat_lt, refl, rules, subst, suc, sym, true, zero, ℕ, ◌%◌, ◌&&◌, ◌*◌, ◌+◌, ◌-◌, ◌/◌, ◌<◌, ◌↔◌, ◌∙◌, ◌∷◌, ◌≡◌, ◌≢◌, ◌≤◌, ◌⊎◌}
 pub use Rattle.std.proofs.Math.ListN.{get_or-eq_default, set}

@@ -1,37 +1,19 @@
 -- The representatives of the regular classes: one for each, all different.
 use Rattle.std.proofs.Common.{◌≡◌, ◌≢◌, ℕ, zero, suc, ◌+◌, ◌<◌, ◌≤◌, Bool, true, false, ◌&&◌, nat_eq, [], ◌∷◌, ◌++◌, length, get_or, refl, subst, sym, ◌∙◌, ap, arith, inl, inr, ◌⊎◌, add-one, eq-eqb, eqb-true}
-use Rattle.classes.proofs.Conjugacy.{different_numbers}
-use Rattle.twisted.proofs.Names.{filter, get_or_default, cases_order, get_or-eq_default, All-get_or, All-cons, All-weaker, and_true, Below, below_equal, identity_of, passing_below, IsPassing, passing_below-all, begun_differ, begun_contains, passing_below-zero, passing_below-passes, passing_below-fails, identity_below, conjugate, representative_of, carrier, representative_least, representative_twice, representative_of_identity, representative_of_conjugate, TwistedSubgroup, size, IsTwist, is_regular, regular_representatives, rank}
+use Rattle.std.proofs.lemmas.Bool.{cases_lt}
+use Rattle.classes.proofs.Conjugacy.{is_other, different_numbers}
+use Rattle.twisted.proofs.PhaseLaws.{regular_on_classes}
+use Rattle.twisted.proofs.Names.{filter, get_or_default, cases_order, get_or-eq_default, All-get_or, All-cons, All-weaker, and_true, Below, below_equal, element_of, neither_below, identity_of, passing_below, IsPassing, passing_below-all, begun_differ, begun_contains, passing_below-zero, passing_below-passes, passing_below-fails, identity_below, conjugate, representative_of, carrier, representative_least, representative_twice, representative_of_identity, representative_of_conjugate, TwistedSubgroup, size, IsTwist, is_regular, regular_representatives, rank}
 use Rattle.std.specs.List.{All, Contains}
 use Rattle.twisted.proofs.Carrying.{carry, carry_back}
 use Rattle.twisted.proofs.ConjugationPhases.{IsRegular, regular_of_conjugate}
 use Rattle.twisted.proofs.CentreLaws.{Representatives}
-use Rattle.twisted.proofs.Representatives.{filter_one_more, filter_skips, filter_fails, is_other, other_regular, identity_regular, regular_representatives_are, length-regular_representatives}
+use Rattle.twisted.proofs.Representatives.{is_other_regular, identity_regular, regular_representatives_are, length-regular_representatives}
 use Rattle.twisted.proofs.Translation.{place_group, phase_at, kappa_at, phases_cocycle, kappa_phase, carry_value, regular_of_test, test_of_regular, some_place}
-
--- the numbers of a list that pass, of those that pass another test
-pub filter-passing_below : (n : ℕ) (test other : ℕ → Bool) → filter test (passing_below n other) ≡ passing_below n (λ p. other p && test p)
-filter-passing_below zero test other = ap (filter test) (passing_below-zero other) ∙ sym (passing_below-zero (λ p. other p && test p))
-filter-passing_below (suc n) test other =
-    ap (λ k. filter test (passing_below k other)) (sym (add-one n))
-    ∙ by (other n) (test n) refl refl (filter-passing_below n test other)
-    ∙ ap (λ k. passing_below k (λ p. other p && test p)) (add-one n)
-  where
-    by : (a b : Bool) → other n ≡ a → test n ≡ b → filter test (passing_below n other) ≡ passing_below n (λ p. other p && test p)
-        → filter test (passing_below (n + 1) other) ≡ passing_below (n + 1) (λ p. other p && test p)
-    by false b o t front =
-        filter_skips test other n o ∙ front
-        ∙ sym (passing_below-fails n (λ p. other p && test p) (ap (λ a. a && test n) o))
-    by true false o t front =
-        filter_fails test other n t ∙ front
-        ∙ sym (passing_below-fails n (λ p. other p && test p) (ap (λ a. a && test n) o ∙ t))
-    by true true o t front =
-        filter_one_more test other n o t ∙ ap (λ f. f ++ n ∷ []) front
-        ∙ sym (passing_below-passes n (λ p. other p && test p) (ap (λ a. a && test n) o ∙ t))
 
 module _ (s : TwistedSubgroup) (twist : IsTwist s) where
   abbrev pub other_test : ℕ → Bool
-  other_test p = is_other s.group p && is_regular s p
+  other_test = is_other_regular s
 
   -- a place that represents a regular class
   pub record IsRegularRepresentative (p : ℕ) : Type 0 where
@@ -40,19 +22,17 @@ module _ (s : TwistedSubgroup) (twist : IsTwist s) where
     pub regular : is_regular s p ≡ true
 
   pub representatives_listed : regular_representatives s ≡ identity_of s.group ∷ passing_below (size s) other_test
-  unfolding other_regular
-  representatives_listed = regular_representatives_are s twist ∙ ap (λ r. identity_of s.group ∷ r) (filter-passing_below (size s) (is_regular s) (is_other s.group))
+  representatives_listed = regular_representatives_are s twist
 
-  other_represents : (p : ℕ) → IsPassing (size s) other_test p → IsRegularRepresentative p
-  other_represents p passing =
-      let both = and_true (is_other s.group p) (is_regular s p) passing.passes in
-      record { below = passing.below; represents = eqb-true _ _ (and_true _ _ both.0).0; regular = both.1 }
-
-  pub all_represent : All IsRegularRepresentative (identity_of s.group ∷ passing_below (size s) other_test)
+  all_represent : All IsRegularRepresentative (identity_of s.group ∷ passing_below (size s) other_test)
   all_represent =
       All-cons IsRegularRepresentative (identity_of s.group) (passing_below (size s) other_test)
       (record { below = identity_below s.group twist.group; represents = representative_of_identity s.group twist.group; regular = identity_regular s twist })
-      (All-weaker (IsPassing (size s) other_test) IsRegularRepresentative (λ p passing. other_represents p passing) (passing_below (size s) other_test) (passing_below-all (size s) other_test))
+      (All-weaker (IsPassing (size s) other_test) IsRegularRepresentative
+      (λ p passing.
+      let both = and_true (is_other s.group p) (is_regular s p) passing.passes in
+      record { below = passing.below; represents = eqb-true _ _ (and_true _ _ both.0).0; regular = both.1 })
+      _ (passing_below-all (size s) other_test))
 
   pub represents_at : (i : ℕ) → i < length (regular_representatives s) → IsRegularRepresentative (get_or (regular_representatives s) i 0)
   represents_at i below = All-get_or IsRegularRepresentative (regular_representatives s) i 0 below (rw representatives_listed all_represent)
@@ -63,17 +43,12 @@ module _ (s : TwistedSubgroup) (twist : IsTwist s) where
       different_numbers p (identity_of s.group) (and_true (nat_eq (representative_of s.group p) p) _ other.0).1
 
   -- no two are the same
-  pub representatives_differ : (i j : ℕ) → i < length (regular_representatives s) → j < length (regular_representatives s)
+  representatives_differ : (i j : ℕ) → i < length (regular_representatives s) → j < length (regular_representatives s)
       → get_or (regular_representatives s) i 0 ≡ get_or (regular_representatives s) j 0 → i ≡ j
-  representatives_differ i j i_below j_below same = by (cases_order i j)
+  representatives_differ i j i_below j_below same = neither_below i j (λ less. apart i j less j_below same) (λ more. apart j i more i_below (sym same))
     where
       apart : (i j : ℕ) → i < j → j < length (regular_representatives s) → get_or (regular_representatives s) i 0 ≢ get_or (regular_representatives s) j 0
       apart i j less below = rw representatives_listed (begun_differ (size s) (identity_of s.group) other_test is_not_identity i j less (rw representatives_listed at below))
-
-      by : (i ≡ j) ⊎ ((i < j) ⊎ (j < i)) → i ≡ j
-      by (inl equal) = equal
-      by (inr (inl less)) = absurd (apart i j less j_below same)
-      by (inr (inr more)) = absurd (apart j i more i_below (sym same))
 
   -- each representative of a regular class is in the list
   pub listed : (p : ℕ) → IsRegularRepresentative p → Contains (regular_representatives s) p
@@ -83,15 +58,11 @@ module _ (s : TwistedSubgroup) (twist : IsTwist s) where
 
   -- the representative with the number i, as a place; past the last one some place
   pub representative_below_at : (i : ℕ) → get_or (regular_representatives s) i 0 < size s
-  representative_below_at i = by (cases_order i (length (regular_representatives s)))
-    where
-      past : length (regular_representatives s) ≤ i → get_or (regular_representatives s) i 0 < size s
-      past most = rw (get_or-eq_default (regular_representatives s) 0 most) (some_place s twist)
-
-      by : (i ≡ length (regular_representatives s)) ⊎ ((i < length (regular_representatives s)) ⊎ (length (regular_representatives s) < i)) → get_or (regular_representatives s) i 0 < size s
-      by (inl equal) = past (omega arith)
-      by (inr (inl less)) = (represents_at i less).below
-      by (inr (inr more)) = past (omega arith)
+  representative_below_at i =
+      elim (cases_lt i (length (regular_representatives s))) [
+        | inl less ↦ (represents_at i less).below
+        | inr past ↦ rw (get_or-eq_default (regular_representatives s) 0 past) (some_place s twist)
+      ]
 
   abbrev pub representative_place : ℕ → Below (size s)
   representative_place i = record { value = get_or (regular_representatives s) i 0; below = representative_below_at i }
@@ -107,23 +78,17 @@ module _ (s : TwistedSubgroup) (twist : IsTwist s) where
           → (i : ℕ) × (i < rank s) × ((c : Below (size s)) × (carry (place_group s twist) c (representative_place i) ≡ y))
       covered y regular =
           let least = representative_least s.group twist.group y.value y.below in
-          let carried = carrier s.group twist.group (representative_of s.group y.value) y.value least.passes in
-          let a : Below (size s) = record { value = representative_of s.group y.value; below = least.below } in
-          let k : Below (size s) = record { value = carried.0; below = carried.1 } in
-          let there : carry (place_group s twist) k a ≡ y = below_equal _ _ (carry_value s twist k a ∙ carried.2) in
-          let own : IsRegular (place_group s twist) s.modulus (phase_at s twist) a =
-          subst (λ (z : Below (size s)). IsRegular (place_group s twist) s.modulus (phase_at s twist) z)
-          (ap (carry (place_group s twist) ((place_group s twist).inv k)) (sym there) ∙ carry_back (place_group s twist) k a)
-          (regular_of_conjugate (place_group s twist) s.modulus (phase_at s twist) (kappa_at s twist) (phases_cocycle s twist) (kappa_phase s twist) ((place_group s twist).inv k) y regular) in
-          let found = listed a.value (record {
+          let (k, k_below, carries) = carrier s.group twist.group (representative_of s.group y.value) y.value least.passes in
+          let (i, below, stands) = listed (representative_of s.group y.value) (record {
             below = least.below;
             represents = representative_twice s.group twist.group y.value y.below;
-            regular = test_of_regular s twist a own;
+            regular = sym (regular_on_classes s twist k (representative_of s.group y.value) k_below least.below) ∙ ap (is_regular s) carries ∙ test_of_regular s twist y regular;
           }) in
-          let stands : get_or (regular_representatives s) found.0 0 ≡ a.value = get_or_default (regular_representatives s) found.0 0 a.value found.1 ∙ found.2 in (
-            found.0,
-            rw (← length-regular_representatives s) found.1,
-            (k, below_equal _ _ (carry_value s twist k (representative_place found.0) ∙ ap (conjugate s.group k.value) stands ∙ carried.2)),
+          let there = get_or_default (regular_representatives s) i 0 (representative_of s.group y.value) below ∙ stands in
+          let c : Below (size s) = element_of k k_below in (
+            i,
+            rw (← length-regular_representatives s) below,
+            (c, below_equal _ _ (carry_value s twist c (representative_place i) ∙ ap (conjugate s.group k) there ∙ carries)),
           )
 
       apart : (i j : ℕ) → i < length (regular_representatives s) → j < length (regular_representatives s) → (c : Below (size s))

@@ -2,48 +2,29 @@
 use Rattle.std.proofs.Common.{◌≡◌, ℕ, zero, suc, ◌+◌, ◌-◌, ◌*◌, ◌%◌, ◌<◌, Bool, true, false, ◌&&◌, nat_eq, Option, Some, None, refl, sym, ◌∙◌, ap, arith, ◌⊎◌, inl, inr, eq-eqb, eqb-true}
 use Rattle.twisted.proofs.Names.{all_below, all_below-at, all_below-suc, all_below-zero, Group, Below, IsGroupBelow, below_equal, Finite, Same, IsTwoCocycle, finite_below, group_below, same_of, same_trans, same_add_right, same_mod, same_add_multiple, same_equal, Table, product, identity_of, inverse, IsGroup, two_sided_inverse, asked, not_asked, transporter_least, conjugate_by, is_some, TwistedSubgroup, size, phase, IsTwist}
 use Rattle.group_table.proofs.Square.{place_below}
-use Rattle.group_table.proofs.Sentences as sentences
+pub use Rattle.classes.proofs.Carrying.{table_group}
 use Rattle.classes.specs.Conjugacy.{conjugate, least_transporter}
 use Rattle.twisted.specs.Regular.{kappa, is_symmetric_at, is_regular}
 use Rattle.twisted.proofs.Carrying.{carry}
 use Rattle.twisted.proofs.ConjugationPhases.{IsConjugationPhase, IsRegular}
 use Rattle.twisted.proofs.CentreLaws.{Regularity, Transporters}
 
--- a group by its table, with its inverses
-pub table_group : (t : Table) → IsGroup t → IsGroupBelow t.order (product t) (inverse t) (identity_of t)
-table_group t group =
-    let g = sentences.group_below t group in
-    record {
-      one_below = g.unit_below;
-      op_below = g.closed;
-      inv_below = λ x p. (two_sided_inverse t group x p).below;
-      op_assoc = g.associative;
-      one_op = g.unit_left;
-      op_one = g.unit_right;
-      inv_op = λ x p. (two_sided_inverse t group x p).left;
-      op_inv = λ x p. (two_sided_inverse t group x p).right;
-    }
-
 -- the difference of two exponents, with the second added again
-pub difference_back : (n a b : ℕ) → b < n → Same n ((a + (n - b)) % n + b) a
-difference_back n a b below =
-    same_trans (same_add_right b (same_mod n (a + (n - b)))) (same_trans (same_of n (by a b below)) (same_add_multiple n a 1))
-  where
-    by : (a b : ℕ) → b < n → a + (n - b) + b ≡ a + 1 * n
-    by a b below = omega arith
+difference_back : (n a b : ℕ) → b < n → Same n ((a + (n - b)) % n + b) a
+difference_back n a b below = same_trans (same_add_right b (same_mod n (a + (n - b)))) (same_trans (same_of n (omega arith)) (same_add_multiple n a 1))
+
+and_fails : (a b : Bool) → b ≡ true → (a && b) ≡ false → a ≡ false
+and_fails false b t e = refl
+and_fails true b t e = cc
 
 -- a test that doesn't hold everywhere fails somewhere
-pub all_below-fails_at : (n : ℕ) (test : ℕ → Bool) → all_below n test ≡ false → (i : ℕ) × (i < n) × (test i ≡ false)
+all_below-fails_at : (n : ℕ) (test : ℕ → Bool) → all_below n test ≡ false → (i : ℕ) × (i < n) × (test i ≡ false)
 all_below-fails_at zero test fails = absurd (let wrong : true ≡ false = sym (all_below-zero test) ∙ fails in cc)
-all_below-fails_at (suc n) test fails = by (all_below n test) (test n) refl refl (sym (all_below-suc n test) ∙ fails) (all_below-fails_at n test)
+all_below-fails_at (suc n) test fails = by (test n) refl (sym (all_below-suc n test) ∙ fails) (all_below-fails_at n test)
   where
-    by : (a b : Bool) → all_below n test ≡ a → test n ≡ b → (a && b) ≡ false → (all_below n test ≡ false → (i : ℕ) × (i < n) × (test i ≡ false)) → (i : ℕ) × (i < suc n) × (test i ≡ false)
-    by false b front last e before = let found = before front in (found.0, below_suc found.1, found.2)
-      where
-        below_suc : {i : ℕ} → i < n → i < suc n
-        below_suc h = omega arith
-    by true false front last e before = (n, omega arith, last)
-    by true true front last e before = absurd cc
+    by : (b : Bool) → test n ≡ b → (all_below n test && test n) ≡ false → (all_below n test ≡ false → (i : ℕ) × (i < n) × (test i ≡ false)) → (i : ℕ) × (i < suc n) × (test i ≡ false)
+    by false last e before = (n, omega arith, last)
+    by true last e before = let (i, below, here) = before (and_fails (all_below n test) (test n) last e) in (i, omega (arith, below), here)
 
 module _ (s : TwistedSubgroup) (twist : IsTwist s) where
   pub some_place : 0 < size s
@@ -88,10 +69,6 @@ module _ (s : TwistedSubgroup) (twist : IsTwist s) where
         difference_back s.modulus (phase s c.value x.value) (phase s y.value c.value) (phase_below y.value c.value y.below c.below);
   }
 
-  -- the products of two places, and of the other order, agree exactly where the places commute
-  pub places_commute : (x y : Below (size s)) → product s.group x.value y.value ≡ product s.group y.value x.value → place_group.op x y ≡ place_group.op y x
-  places_commute x y e = below_equal _ _ e
-
   pub regular_of_test : (x : Below (size s)) → is_regular s x.value ≡ true → IsRegular place_group s.modulus phase_at x
   unfolding is_regular
   regular_of_test x e = record {
@@ -108,16 +85,14 @@ module _ (s : TwistedSubgroup) (twist : IsTwist s) where
       → (y : Below (size s)) × (place_group.op x y ≡ place_group.op y x) × (Same s.modulus (phase_at x y) (phase_at y x) → ⊥)
   unfolding is_regular
   irregular_of_test x e =
-      let found = all_below-fails_at (size s) (is_symmetric_at s x.value) e in
-      let y : Below (size s) = record { value = found.0; below = found.1 } in
-      let shows = not_asked (nat_eq (product s.group x.value y.value) (product s.group y.value x.value)) (nat_eq (phase s x.value y.value) (phase s y.value x.value)) found.2 in (
+      let (i, below, fails) = all_below-fails_at (size s) (is_symmetric_at s x.value) e in
+      let y : Below (size s) = record { value = i; below = below } in
+      let shows = not_asked (nat_eq (product s.group x.value i) (product s.group i x.value)) (nat_eq (phase s x.value i) (phase s i x.value)) fails in (
         y,
-        places_commute x y (eqb-true _ _ shows.0),
+        below_equal _ _ (eqb-true _ _ shows.0),
         λ same.
-            let equal : phase s x.value y.value ≡ phase s y.value x.value =
-            same_equal (phase_below x.value y.value x.below y.below) (phase_below y.value x.value y.below x.below) same in
-            let passes : nat_eq (phase s x.value y.value) (phase s y.value x.value) ≡ true = eq-eqb _ _ equal in
-            let fails : nat_eq (phase s x.value y.value) (phase s y.value x.value) ≡ false = shows.1 in
+            let passes = eq-eqb _ _ (same_equal (phase_below x.value i x.below below) (phase_below i x.value below x.below) same) in
+            let fails = shows.1 in
             absurd cc,
       )
 

@@ -60,6 +60,7 @@ fn is_least(twist: &Twist, p: u32) -> bool
 }
 
 /// Whether the place `p` represents its class.
+#[tactic(auto, using(crate::proofs::Representatives::is_least_in_class))]
 fn is_representative(twist: &Twist, p: u32) -> bool
     requires p_below { p < size twist.now }
     ensures representative { result ≡ (representative_of twist.now.group p == p) }
@@ -77,6 +78,7 @@ fn is_other_regular(twist: &Twist, p: u32) -> bool
 }
 
 /// The rank: how many classes of places are regular. It is the number of class sums in a basis of the centre.
+#[tactic(auto, using(crate::proofs::Representatives::grown, crate::proofs::Representatives::rank_is))]
 pub fn centre_rank(twist: &Twist) -> u32
     ensures rank { result ≡ rank twist.now }
 {
@@ -90,6 +92,7 @@ pub fn centre_rank(twist: &Twist) -> u32
 }
 
 /// The least place of each regular class: that of the identity first, then the others ascending.
+#[tactic(auto, using(crate::proofs::Representatives::grown, crate::proofs::Representatives::regular_representatives_are))]
 pub fn regular_reps(alloc: Global, twist: &Twist) -> Result<Nats, Memory>
     ensures representatives { IfOk result (λ places. places ≡ regular_representatives twist.now) }
 {

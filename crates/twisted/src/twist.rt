@@ -72,6 +72,7 @@ impl Twist {
     }
 
     /// The place of the element `x`; `None` exactly where it isn't an element.
+    #[tactic(auto, using(crate::proofs::Places::place_there, crate::proofs::Places::place_absent))]
     pub fn place(&self, x: u32) -> Option<u32>
         ensures place { result ≡ place_of self.now x }
         ensures there { IfSome result (λ p. (p < size self.now) × (element self.now p ≡ x)) }
