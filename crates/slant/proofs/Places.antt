@@ -1,12 +1,12 @@
 -- The centraliser of an element as a group on places. An element is a number of the whole group, a place the number of an element in
 -- the ascending list of the centraliser.
-use Rattle.slant.proofs.Names.{◌≡◌, ℕ, ◌<◌, nat_eq, length, get_or, sym, ap, ◌∙◌, arith, eqb-true, eq-eqb, IsGroupBelow, Table, product, identity_of, IsGroup, passing_below-ascending, centraliser_exactly, place_in, product_place, table_of, identity_is_unit, is_group, length-by_pairs, pair_at, Group, Below, below_equal, conj, element, element_group, same_value, neither_below}
+use Rattle.slant.proofs.Names.{◌≡◌, ℕ, ◌<◌, nat_eq, length, get_or, sym, ap, ◌∙◌, arith, eqb-true, eq-eqb, IsGroupBelow, Table, product, IsGroup, passing_below-ascending, centraliser_exactly, place_in, product_place, table_of, identity_is_unit, is_group, length-by_pairs, pair_at, Group, Below, below_equal, conj, element, element_group, same_value, neither_below}
 use Rattle.std.specs.Prelude.{unwrap_or}
 use Rattle.std.proofs.lemmas.List.Elements.{Contains-get_or}
 use Rattle.std.proofs.lemmas.Grind.{get_or_default_zero}
 use Rattle.algebra.proofs.GroupLaws.{group_rules, inv_unique, conj_op, conj_one, conj_self, conj_inv, conj_of_commuting, commuting_of_conj}
 use Rattle.classes.specs.Conjugacy.{centraliser_of}
-use Rattle.classes.proofs.Carrying.{carry, carry_is}
+use Rattle.classes.proofs.Carrying.{carry}
 use Rattle.scan.proofs.Searches.{IsLeastPassing, least_passing, least_passing_found}
 
 -- what commutes with a is closed under products and inverses

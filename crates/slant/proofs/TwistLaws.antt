@@ -1,5 +1,5 @@
 -- The centraliser of an element with the slant product is a twist.
-use Rattle.slant.proofs.Names.{◌≡◌, ℕ, ◌+◌, ◌-◌, ◌*◌, ◌/◌, ◌%◌, ◌<◌, ◌≤◌, List, length, get_or, refl, sym, ap, ◌∙◌, arith, nat_eq, Table, product, identity_of, IsGroup, IsSmall, length-passing_below, Cochain, IsCocycle, centraliser_exactly, length-by_pairs, row_below, column_below, listed_at, pair_at, Below, conj, element, same_value}
+use Rattle.slant.proofs.Names.{◌≡◌, ℕ, ◌+◌, ◌-◌, ◌*◌, ◌/◌, ◌%◌, ◌<◌, ◌≤◌, List, length, get_or, refl, sym, ap, ◌∙◌, arith, nat_eq, Table, product, IsGroup, IsSmall, length-passing_below, Cochain, IsCocycle, centraliser_exactly, length-by_pairs, row_below, column_below, listed_at, pair_at, Below, conj, element, same_value}
 use mathlib.Core.Path.{ap₂}
 use Rattle.algebra.specs.Congruences.{Same}
 use Rattle.classes.specs.Conjugacy.{conjugate, centraliser_of}
@@ -11,7 +11,7 @@ use Rattle.slant.specs.TwistLaws.{CentraliserIsTwist, ElementsCommute, ProductsA
 use Rattle.group_table.specs.Numbers.{by_pairs}
 use Rattle.slant.specs.Twists.{table_of, phase_at, twist_over, twist_of}
 use Rattle.slant.proofs.Instances.{phases_below, theta_normalised, theta_associative}
-use Rattle.slant.proofs.Places.{Place, element_at, commutes, ascending, own, places_lawful, place_group, at_product, at_identity, at_inverse, at_conjugate}
+use Rattle.slant.proofs.Places.{element_at, commutes, ascending, own, places_lawful, place_group, at_product, at_identity, at_inverse, at_conjugate}
 
 few_centralise : (t : Table) (a : ℕ) → length (centraliser_of t a) ≤ t.order
 unfolding centraliser_of

@@ -1,5 +1,5 @@
 -- The laws of the algebra of a twist, from those over abstract groups.
-use Rattle.twisted.proofs.Names.{◌≡◌, ℕ, ◌+◌, ◌*◌, ◌/◌, ◌%◌, ◌<◌, true, false, Option, Some, None, get_or, refl, sym, ◌∙◌, ap, arith, ◌↔◌, eqb-true, is_some, div-add-mod, option_map_or, CommRing, Below, below_equal, element_of, Roots, RootOfUnity, twisted_convolution, total_below, convolution_at, convolution_assoc, conjugate, least_transporter, transporter_least, conjugate_by, TwistedSubgroup, size, IsTwist, kappa, is_regular, regular_representatives, rank, root, product_term, twisted_product, unit_vector, IsCentral, class_sum, combination}
+use Rattle.twisted.proofs.Names.{◌≡◌, ℕ, ◌+◌, ◌*◌, ◌/◌, ◌%◌, ◌<◌, true, Option, Some, None, get_or, refl, sym, ◌∙◌, ap, arith, ◌↔◌, eqb-true, is_some, div-add-mod, CommRing, Below, below_equal, element_of, Roots, RootOfUnity, twisted_convolution, total_below, convolution_at, convolution_assoc, conjugate, least_transporter, transporter_least, conjugate_by, TwistedSubgroup, size, IsTwist, kappa, is_regular, regular_representatives, rank, root, product_term, twisted_product, unit_vector, IsCentral, class_sum, combination}
 use mathlib.Core.Path.{fun_ext}
 use Rattle.algebra.specs.Totals.{equals}
 use Rattle.twisted.proofs.SeparateRoots.{scaled_roots, scaled_roots_separate}

@@ -1,5 +1,5 @@
 -- A class sum, written place by place as its conjugates are met.
-use Rattle.twisted.proofs.Names.{◌≡◌, ◌≢◌, ℕ, suc, ◌+◌, ◌%◌, ◌<◌, Bool, true, false, cond, nat_eq, Option, Some, None, List, length, refl, sym, ◌∙◌, ap, arith, add-one, eqb-true, ◌⊎◌, inl, inr, option_map_or, set, eq-eqb, ne_eqb, cases_eq, first, option_or, first-suc, first-zero, CommRing, RootOfUnity, conjugate, least_passing, conjugate_below, TwistedSubgroup, size, IsTwist, kappa, is_regular, coefficient, root, IsCentral, class_sum}
+use Rattle.twisted.proofs.Names.{◌≡◌, ℕ, ◌+◌, ◌%◌, ◌<◌, Bool, true, false, cond, nat_eq, Option, Some, None, List, length, refl, sym, ◌∙◌, ap, arith, add-one, eqb-true, option_map_or, set, first, option_or, first-suc, first-zero, CommRing, RootOfUnity, conjugate, least_passing, conjugate_below, TwistedSubgroup, size, IsTwist, kappa, is_regular, coefficient, root, IsCentral, class_sum}
 use Rattle.twisted.proofs.Coefficients.{coefficient-set}
 use Rattle.twisted.proofs.PhaseLaws.{kappa_of_conjugate}
 use Rattle.twisted.proofs.AlgebraLaws.{central_exactly, class_sum_central}

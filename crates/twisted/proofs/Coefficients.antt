@@ -1,5 +1,5 @@
 -- Coefficients of a list of them, after one is put in.
-use Rattle.twisted.proofs.Names.{◌≡◌, ℕ, ◌+◌, ◌<◌, cond, nat_eq, List, [], ◌∷◌, length, get_or, map, sym, refl, ◌∙◌, arith, inl, inr, cases_eq, eq-eqb, ne_eqb, below_more, All, set, map-set, get_or-set_same, get_or-set_other, length-map, get_or-map, coefficient}
+use Rattle.twisted.proofs.Names.{◌≡◌, ℕ, ◌+◌, ◌<◌, cond, nat_eq, List, [], ◌∷◌, length, map, sym, refl, ◌∙◌, arith, inl, inr, cases_eq, eq-eqb, ne_eqb, below_more, All, set, map-set, get_or-set_same, get_or-set_other, length-map, get_or-map, coefficient}
 
 module _ {E A : Type 0} (of : E → A) (nought : A) (xs : List E) where
   pub coefficient-set : (i j : ℕ) (v : E) → i < length xs → coefficient of nought (set xs i v) j ≡ cond (nat_eq i j) (of v) (coefficient of nought xs j)

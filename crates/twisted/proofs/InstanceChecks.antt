@@ -1,5 +1,5 @@
 -- The worked twists are twists, by computing.
-use Rattle.twisted.proofs.Names.{◌≡◌, ℕ, ◌+◌, ◌*◌, ◌%◌, ◌<◌, Bool, true, ◌&&◌, nat_eq, nat_lt, length, get_or, None, refl, lit<, lit≤, eqb-true, ltb-true, all_below-at, and_true, IsGroup, TwistedSubgroup, size, element, phase, IsTwist}
+use Rattle.twisted.proofs.Names.{◌≡◌, ℕ, ◌+◌, ◌*◌, ◌%◌, ◌<◌, Bool, true, ◌&&◌, nat_eq, nat_lt, length, get_or, refl, lit<, lit≤, eqb-true, ltb-true, all_below-at, and_true, IsGroup, TwistedSubgroup, size, element, phase, IsTwist}
 use Rattle.scan.specs.First.{first, all_below}
 use Rattle.group_table.specs.Group.{IsSmall}
 use Rattle.twisted.specs.Twist.{IsModulus}

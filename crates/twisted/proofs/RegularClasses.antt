@@ -1,15 +1,15 @@
 -- The representatives of the regular classes: one for each, all different.
-use Rattle.std.proofs.Common.{◌≡◌, ◌≢◌, ℕ, zero, suc, ◌+◌, ◌<◌, ◌≤◌, Bool, true, false, ◌&&◌, nat_eq, [], ◌∷◌, ◌++◌, length, get_or, refl, subst, sym, ◌∙◌, ap, arith, inl, inr, ◌⊎◌, add-one, eq-eqb, eqb-true}
+use Rattle.std.proofs.Common.{◌≡◌, ◌≢◌, ℕ, ◌<◌, Bool, true, nat_eq, ◌∷◌, length, get_or, refl, sym, ◌∙◌, ap, inl, inr, eq-eqb, eqb-true}
 use Rattle.std.proofs.lemmas.Bool.{cases_lt}
 use Rattle.classes.proofs.Conjugacy.{is_other, different_numbers}
 use Rattle.twisted.proofs.PhaseLaws.{regular_on_classes}
-use Rattle.twisted.proofs.Names.{filter, get_or_default, cases_order, get_or-eq_default, All-get_or, All-cons, All-weaker, and_true, Below, below_equal, element_of, neither_below, identity_of, passing_below, IsPassing, passing_below-all, begun_differ, begun_contains, passing_below-zero, passing_below-passes, passing_below-fails, identity_below, conjugate, representative_of, carrier, representative_least, representative_twice, representative_of_identity, representative_of_conjugate, TwistedSubgroup, size, IsTwist, is_regular, regular_representatives, rank}
+use Rattle.twisted.proofs.Names.{get_or_default, get_or-eq_default, All-get_or, All-cons, All-weaker, and_true, Below, below_equal, element_of, neither_below, identity_of, passing_below, IsPassing, passing_below-all, begun_differ, begun_contains, identity_below, conjugate, representative_of, carrier, representative_least, representative_twice, representative_of_identity, representative_of_conjugate, TwistedSubgroup, size, IsTwist, is_regular, regular_representatives, rank}
 use Rattle.std.specs.List.{All, Contains}
-use Rattle.twisted.proofs.Carrying.{carry, carry_back}
-use Rattle.twisted.proofs.ConjugationPhases.{IsRegular, regular_of_conjugate}
+use Rattle.twisted.proofs.Carrying.{carry}
+use Rattle.twisted.proofs.ConjugationPhases.{IsRegular}
 use Rattle.twisted.proofs.CentreLaws.{Representatives}
 use Rattle.twisted.proofs.Representatives.{is_other_regular, identity_regular, regular_representatives_are, length-regular_representatives}
-use Rattle.twisted.proofs.Translation.{place_group, phase_at, kappa_at, phases_cocycle, kappa_phase, carry_value, regular_of_test, test_of_regular, some_place}
+use Rattle.twisted.proofs.Translation.{place_group, phase_at, carry_value, regular_of_test, test_of_regular, some_place}
 
 module _ (s : TwistedSubgroup) (twist : IsTwist s) where
   abbrev pub other_test : ℕ → Bool

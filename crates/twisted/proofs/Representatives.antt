@@ -1,5 +1,5 @@
 -- Places that are least in their class, and the lists and numbers of those that are regular.
-use Rattle.std.proofs.Common.{◌≡◌, ℕ, zero, suc, ◌+◌, ◌<◌, ◌≤◌, Bool, true, false, ◌&&◌, cond, nat_eq, nat_le, List, [], ◌∷◌, ◌++◌, length, length-append, refl, sym, ◌∙◌, ap, arith, eq-eqb, eqb-true}
+use Rattle.std.proofs.Common.{◌≡◌, ℕ, zero, suc, ◌+◌, ◌<◌, ◌≤◌, Bool, true, false, ◌&&◌, cond, nat_eq, nat_le, List, [], ◌∷◌, ◌++◌, length, refl, sym, ◌∙◌, ap, arith, eq-eqb, eqb-true}
 use Rattle.twisted.proofs.Names.{leb-true, le-leb, filter, filter-append, append-nil, TwistedSubgroup, size, phase, IsTwist, passing_below, passing_below-passes, passing_below-fails, passing_below-zero, where_asked, all_below, all_below-all, all_below-at, and_true, Table, product, identity_of, IsGroup, same_test, carrier, conjugate_by, conjugate_refl, conjugate_sym, conjugate_below, representative_least}
 use Rattle.std.proofs.lemmas.List.Sums.{length-filter}
 use Rattle.group_table.proofs.Numbers.{passing_below-suc}

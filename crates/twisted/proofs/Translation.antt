@@ -1,6 +1,6 @@
 -- A twist as an abstract group with a 2-cocycle: the elements of the group are the places.
 use Rattle.std.proofs.Common.{◌≡◌, ℕ, zero, suc, ◌+◌, ◌-◌, ◌*◌, ◌%◌, ◌<◌, Bool, true, false, ◌&&◌, nat_eq, Option, Some, None, refl, sym, ◌∙◌, ap, arith, ◌⊎◌, inl, inr, eq-eqb, eqb-true}
-use Rattle.twisted.proofs.Names.{all_below, all_below-at, all_below-suc, all_below-zero, Group, Below, IsGroupBelow, below_equal, Finite, Same, IsTwoCocycle, finite_below, group_below, same_of, same_trans, same_add_right, same_mod, same_add_multiple, same_equal, Table, product, identity_of, inverse, IsGroup, two_sided_inverse, asked, not_asked, transporter_least, conjugate_by, is_some, TwistedSubgroup, size, phase, IsTwist}
+use Rattle.twisted.proofs.Names.{all_below, all_below-at, all_below-suc, all_below-zero, Group, Below, below_equal, Finite, Same, IsTwoCocycle, finite_below, group_below, same_of, same_trans, same_add_right, same_mod, same_add_multiple, same_equal, product, asked, not_asked, transporter_least, conjugate_by, is_some, TwistedSubgroup, size, phase, IsTwist}
 use Rattle.group_table.proofs.Square.{place_below}
 pub use Rattle.classes.proofs.Carrying.{table_group}
 use Rattle.classes.specs.Conjugacy.{conjugate, least_transporter}

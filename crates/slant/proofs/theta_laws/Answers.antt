@@ -1,4 +1,4 @@
-use Rattle.slant.proofs.Names.{sym, conj, conjugate, element, theta, gamma, transport_phase, kappa, slant_phase, coproduct_phase, carrying_phase, conjugation_phase}
+use Rattle.slant.proofs.Names.{sym, conj, element, theta, gamma, slant_phase, coproduct_phase}
 use Rattle.phases.proofs.PhaseLaws as laws
 use Rattle.slant.proofs.Instances.{three_cocycle, commuting, theta_associative}
 use Rattle.slant.proofs.theta_laws.Goals as goal

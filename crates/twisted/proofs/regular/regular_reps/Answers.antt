@@ -1,4 +1,4 @@
-use Rattle.twisted.proofs.Names.{◌≡◌, true, sym, ◌∙◌, refl, arith, length-append, passing_below-passes, passing_below-fails}
+use Rattle.twisted.proofs.Names.{sym, ◌∙◌, refl, arith, length-append, passing_below-passes, passing_below-fails}
 use Rattle.twisted.proofs.Representatives.{is_other_regular}
 use Rattle.twisted.proofs.regular.regular_reps.Goals as goal
 use Rattle.twisted.proofs.regular.regular_reps.Goals.{then-is_other_regular+in_ok-push-2, else-is_other_regular}
