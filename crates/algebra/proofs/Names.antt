@@ -7,7 +7,7 @@ pub use Rattle.std.proofs.lemmas.Bool.{cases_eq, eq-eqb, eqb-true, ne_eqb}
 pub use Rattle.std.proofs.lemmas.List.{length-map}
 pub use Rattle.std.proofs.lemmas.Nat.{mul-mod_first, mul-mod_second}
 pub use Rattle.std.specs.List.{range_with_len}
-pub use Rattle.std.specs.Prelude.{map, nat_eq, not, ◌&&◌}
+pub use Rattle.std.specs.Prelude.{map, nat_eq, ◌&&◌}
 pub use mathlib.Core.Path.{ap₂, fun_ext}
 pub use Rattle.algebra.specs.Below.{Below, IsGroupBelow, below_equal}
 pub use Rattle.algebra.specs.Congruences.{Same}

@@ -1,7 +1,7 @@
 -- The names of the standard library, of the crates below and of the definitions that the proofs use.
-pub use Rattle.std.proofs.Common.{Bool, List, None, Some, [], add-one, add-suc, add-zero, ap, arith, cond, eq-eqb, eq-or-lt_of_le, eqb-true, false, get_or, inl, inr, length, length-append, lit<, lit≤, min, nat_eq, nat_lt, refl, subst, suc, sym, true, zero, ℕ, ◌%◌, ◌&&◌, ◌*◌, ◌++◌, ◌+◌, ◌-◌, ◌/◌, ◌<◌, ◌↔◌, ◌∙◌, ◌∷◌, ◌≡◌, ◌≢◌, ◌≤◌}
+pub use Rattle.std.proofs.Common.{Bool, List, None, Some, [], add-one, add-suc, add-zero, ap, arith, cond, eq-eqb, eq-or-lt_of_le, eqb-true, false, get_or, inl, inr, length, length-append, lit<, lit≤, min, nat_eq, refl, subst, suc, sym, true, zero, ℕ, ◌%◌, ◌*◌, ◌++◌, ◌+◌, ◌-◌, ◌/◌, ◌<◌, ◌↔◌, ◌∙◌, ◌∷◌, ◌≡◌, ◌≢◌, ◌≤◌}
 pub use Rattle.std.proofs.Math.Nat.{div-lt_iff_lt-mul, mod-eq_of_lt, mod-lt}
-pub use Rattle.std.proofs.lemmas.Bool.{cases_lt, cases_order, ltb-true, ne_eqb}
+pub use Rattle.std.proofs.lemmas.Bool.{cases_lt, cases_order, ne_eqb}
 pub use Rattle.std.proofs.lemmas.List.{get_or_append_left, get_or_push}
 pub use Rattle.std.proofs.lemmas.Nat.{div-add-mod', div-mul-add, mod-mul-add, mul-add-lt}
 pub use Rattle.std.specs.Prelude.{is_some}
@@ -21,12 +21,12 @@ unfoldable pub use Rattle.algebra.specs.Totals.{equals}
 pub use Rattle.classes.specs.Conjugacy.{conjugate}
 pub use Rattle.group_table.proofs.Numbers.{passing_below-fails, passing_below-passes, passing_below-suc, passing_below-zero}
 pub use Rattle.group_table.proofs.Sentences.{group_below}
-pub use Rattle.group_table.specs.Group.{IsGroup, IsSmall, identity_of, product}
+pub use Rattle.group_table.specs.Group.{identity_of, product}
 unfoldable pub use Rattle.group_table.specs.Group.{group_fault}
 unfoldable pub use Rattle.group_table.specs.Numbers.{passing_below}
 pub use Rattle.orders.proofs.Powers.{power_below}
 unfoldable pub use Rattle.orders.specs.Group.{power}
-pub use Rattle.scan.proofs.Places.{all_below-at, and_true}
+pub use Rattle.scan.proofs.Places.{and_true}
 pub use Rattle.scan.proofs.Searches.{IsLeastPassing, first_finds, is_some_of, least_passing, least_passing_found, same_test, some_of}
 unfoldable pub use Rattle.scan.specs.First.{all_below, first}
 pub use Rattle.twisted.proofs.AlgebraLaws.{on_places, product_on_places, twist_roots}
@@ -38,7 +38,7 @@ pub use Rattle.twisted.proofs.PhaseLaws.{kappa_below}
 pub use Rattle.twisted.proofs.Translation.{carry_value, kappa_at, kappa_phase, phase_at, phases_cocycle, place_group, places, regular_of_test, some_root, test_of_regular}
 pub use Rattle.twisted.specs.Algebra.{root, twisted_product, unit_vector}
 pub use Rattle.twisted.specs.Regular.{is_regular, kappa}
-pub use Rattle.twisted.specs.Twist.{HasCocycle, IsModulus, IsTwist, TwistedSubgroup, element, phase, size}
+pub use Rattle.twisted.specs.Twist.{IsTwist, TwistedSubgroup, phase, size}
 pub use Rattle.central_ext.specs.Extension.{IsPair, ext_identity, ext_inverse, ext_product, place_power}
 unfoldable pub use Rattle.central_ext.specs.Extension.{ext_power}
 unfoldable pub use Rattle.central_ext.specs.Extension.{power_phase}

@@ -34,14 +34,14 @@ pub use Rattle.qd_ring.specs.RootSums.{IsSumOfRoots}
 pub use Rattle.qd_ring.specs.RowLists.{row_at, with_value}
 pub use Rattle.scan.proofs.Places.{and_true, first-zero, first_found, first_none-at, first_none-step, first_some}
 pub use Rattle.scan.specs.First.{first}
-pub use Rattle.std.proofs.Common.{Bool, List, None, Option, Some, [], add-one, ap, arith, eq-eqb, eqb-true, false, get_or, inl, inr, length, length-append, lit<, refl, rules, set, subst, suc, sym, true, zero, ℕ, ◌%◌, ◌*◌, ◌++◌, ◌+◌, ◌-◌, ◌/◌, ◌<◌, ◌^◌, ◌∙◌, ◌∷◌, ◌≡◌, ◌≢◌, ◌≤◌}
+pub use Rattle.std.proofs.Common.{Bool, List, None, Option, Some, [], add-one, ap, arith, eq-eqb, eqb-true, false, get_or, inl, inr, length, length-append, lit<, refl, rules, set, subst, suc, sym, true, zero, ℕ, ◌%◌, ◌*◌, ◌++◌, ◌+◌, ◌-◌, ◌/◌, ◌<◌, ◌∙◌, ◌∷◌, ◌≡◌, ◌≢◌, ◌≤◌}
 pub use Rattle.std.proofs.Math.ListN.{get_or-append}
 pub use Rattle.std.proofs.Math.Nat.{add-mod-mod, mod-add-mod, mod-eq_of_lt, mod-lt, mod-mod, mul-div-le, mul-le-mul_right, zero-mod}
 pub use Rattle.std.proofs.Math.Seq.{get_or-append_seam, set-append_seam}
 pub use Rattle.std.proofs.lemmas.Bool.{cases_eq, ne_eqb}
-pub use Rattle.std.proofs.lemmas.Nat.{mul-le, mul-mod, mul-mod_first, mul-mod_second}
+pub use Rattle.std.proofs.lemmas.Nat.{mul-le, mul-mod_first, mul-mod_second}
 pub use Rattle.std.proofs.lemmas.Result.{err_from_is_err_and}
-pub use Rattle.std.specs.Prelude.{IfErr, IfSome, OnOk, if◌then◌else◌, is_some, nat_le, slice_index, slice_index_or, unwrap_or, ℤ, ◌&&◌, ◌==◌}
+pub use Rattle.std.specs.Prelude.{IfErr, IfSome, OnOk, if◌then◌else◌, is_some, nat_le, slice_index, slice_index_or, unwrap_or, ◌&&◌, ◌==◌}
 pub use Rattle.twisted.specs.Regular.{rank}
 pub use Rattle.twisted.specs.Twist.{TwistedSubgroup, element, phase, size}
 pub use borrow.Author.Tests.{le-leb, leb-true}

@@ -11,7 +11,7 @@ pub use Rattle.group_table.proofs.Square.{place_below}
 pub use Rattle.group_table.specs.Group.{IsGroup, IsSmall, Table, identity_of, product}
 pub use Rattle.scan.proofs.Places.{all_below-at, and_true, first_none, first_none-at, or_none}
 pub use Rattle.scan.proofs.Searches.{asked, no_fault, passes, same_test, where_asked}
-pub use Rattle.std.proofs.Common.{Bool, List, None, Some, [], ap, arith, cond, false, get_or, inl, inr, length, map, nat_eq, refl, suc, sym, true, zero, ℕ, ◌%◌, ◌&&◌, ◌*◌, ◌++◌, ◌+◌, ◌-◌, ◌/◌, ◌<◌, ◌||◌, ◌↔◌, ◌∙◌, ◌∷◌, ◌≡◌, ◌≤◌, ◌⊎◌}
+pub use Rattle.std.proofs.Common.{Bool, List, None, [], ap, arith, false, get_or, inl, inr, length, nat_eq, refl, suc, sym, true, zero, ℕ, ◌%◌, ◌*◌, ◌++◌, ◌+◌, ◌-◌, ◌/◌, ◌<◌, ◌||◌, ◌↔◌, ◌∙◌, ◌∷◌, ◌≡◌, ◌≤◌, ◌⊎◌}
 pub use Rattle.std.proofs.Math.Bool.{or-true}
 pub use Rattle.std.proofs.Math.Nat.{add-mul-mod_self_left, div-lt_iff_lt-mul, mod-eq_of_lt, mod-lt, mod-mod, mul-le-mul_right, mul-mod_right}
 pub use Rattle.std.proofs.lemmas.Bool.{eq-eqb, eqb-true}

@@ -11,11 +11,11 @@ pub use Rattle.cyclotomic.specs.Division.{degree}
 unfoldable pub use Rattle.cyclotomic.specs.Fit.{product_fits, size_of, sizes_overflow, value_fits}
 pub use Rattle.cyclotomic.specs.Fit.{greatest_magnitude, value_size}
 unfoldable pub use Rattle.cyclotomic.specs.Laws.Action.{horner, iterate}
-pub use Rattle.cyclotomic.specs.Laws.Action.{LinearMap, act, act-at_power, act-cons, act-iterate, act-map, act-nil, act-nothing, act-nought, act-one, act-plus, act-power_power, act-remainder, act-same_map, act-scaled, act-times, act-x_to, act_comm, division-sum, iterate-add, iterate-inner, iterate-power, iterate-scale, iterate-suc, iterate-sum, iterate-zero, map_nought, map_power}
-pub use Rattle.cyclotomic.specs.Laws.Polynomials.{leading-last, leading-nil, length-lower, lower-last}
-pub use Rattle.cyclotomic.specs.Laws.Remainders.{length-remainder, zero_not_one}
+pub use Rattle.cyclotomic.specs.Laws.Action.{LinearMap, act, act-at_power, act-cons, act-iterate, act-map, act-nil, act-one, act-plus, act-power_power, act-remainder, act-same_map, act-times, act-x_to, division-sum, iterate-add, iterate-inner, iterate-power, iterate-scale, iterate-suc, iterate-sum, iterate-zero, map_nought, map_power}
+pub use Rattle.cyclotomic.specs.Laws.Polynomials.{leading-last, lower-last}
+pub use Rattle.cyclotomic.specs.Laws.Remainders.{length-remainder}
 unfoldable pub use Rattle.cyclotomic.specs.Laws.Values.{value_shift}
-pub use Rattle.cyclotomic.specs.Laws.Values.{act-itself, product-act, product-of, product_assoc, product_comm, product_one, product_sum, same_value, sum_assoc, sum_comm, sum_negative, sum_nought, times_x, value_of-act, value_of-itself, value_of-plus, value_of-scaled, value_of-times}
+pub use Rattle.cyclotomic.specs.Laws.Values.{act-itself, product-act, product-of, same_value, times_x, value_of-act}
 unfoldable pub use Rattle.cyclotomic.specs.Polynomial.{at_power, coefficient, leading, lower, plus, scaled, times, x_to}
 pub use Rattle.cyclotomic.specs.Polynomial.{IsSamePolynomial, zeros}
 unfoldable pub use Rattle.cyclotomic.specs.Ring.{value_image, value_multiple, value_nought, value_of, value_product, value_sum}
@@ -30,4 +30,4 @@ pub use Rattle.std.specs.List.{list_all, list_any}
 pub use Rattle.std.specs.Prelude.{find, nat_abs, nat_le, nat_lt, neg_ℤ, negsuc, not, pos, ℤ, ◌*ℤ◌, ◌+ℤ◌, ◌==◌, ◌↔◌}
 pub use borrow.Author.Differences.{abs_is, down, product_is, same_in, sum_is_lem, up}
 pub use borrow.Author.Tests.{le-leb, le-ltb, leb-true, ltb-false, ltb-true}
-pub use mathlib.Core.Path.{ap₂, fun_ext}
+pub use mathlib.Core.Path.{ap₂}

@@ -1,11 +1,9 @@
 -- The names of the standard library, of the crates below and of the definitions that the proofs use.
-pub use Rattle.std.proofs.Common.{Bool, List, [], add-one, ap, arith, cond, false, get_or, inl, inr, length, length-append, map, refl, subst, suc, sym, true, zero, ℕ, ◌%◌, ◌*◌, ◌+◌, ◌-◌, ◌<◌, ◌∙◌, ◌∷◌, ◌≡◌, ◌≢◌, ◌≤◌, ◌⊎◌}
+pub use Rattle.std.proofs.Common.{Bool, List, [], add-one, ap, arith, cond, false, get_or, inl, inr, length, length-append, map, refl, subst, suc, sym, true, zero, ℕ, ◌%◌, ◌+◌, ◌-◌, ◌<◌, ◌∙◌, ◌∷◌, ◌≡◌, ◌≢◌, ◌≤◌, ◌⊎◌}
 pub use Rattle.std.proofs.Math.Dec.{eqb}
-pub use Rattle.std.proofs.Math.Nat.{add-mod-mod, mod-add-mod, mod-eq_of_lt, zero-mod}
+pub use Rattle.std.proofs.Math.Nat.{mod-eq_of_lt}
 pub use Rattle.std.proofs.lemmas.Bool.{cases_lt}
 pub use Rattle.std.proofs.lemmas.List.{length-map}
-pub use Rattle.std.proofs.lemmas.Nat.{mul-mod_first}
-pub use Rattle.std.specs.Prelude.{◌==◌}
 pub use mathlib.Core.Path.{ap₂, fun_ext}
 pub use Rattle.algebra.proofs.FieldLaws.{decide, test_passes}
 pub use Rattle.algebra.proofs.PolynomialLaws.{value_cons, value_nil}
@@ -23,13 +21,13 @@ unfoldable pub use Rattle.central_ext.specs.PowersOfUnits.{algebra_power}
 pub use Rattle.centre_algebra.proofs.CentreRing.{Centre, basis_at, basis_product, centre_ring, lift, lift_at, lift_read, number_of, product_at, rank_positive, rep, rep_below, scales, spread, spread_below, sum_at, unit_at_place}
 pub use Rattle.centre_algebra.specs.CentralCharacters.{regular_sum}
 pub use Rattle.centre_powers.proofs.FixedPowers.{restricted, twist_ring}
-pub use Rattle.group_table.proofs.Numbers.{passing_below-ext, passing_below-fails, passing_below-passes}
+pub use Rattle.group_table.proofs.Numbers.{passing_below-fails, passing_below-passes}
 pub use Rattle.group_table.specs.Group.{identity_of}
 pub use Rattle.group_table.specs.Numbers.{passing_below}
 pub use Rattle.power_theory.specs.Rings.{Ring}
 pub use Rattle.prime_field.proofs.PolynomialRoots.{fewer_roots}
 pub use Rattle.prime_field.proofs.PolynomialValues.{coefficient_nought, residue_field, residues_apart, roots_are}
-pub use Rattle.prime_field.specs.Evaluation.{is_root, value_at}
+pub use Rattle.prime_field.specs.Evaluation.{is_root}
 pub use Rattle.prime_field.specs.Field.{field, field_residue}
 pub use Rattle.prime_field.specs.Laws.Field.{value_nought}
 pub use Rattle.prime_field.specs.Laws.Moduli.{modulus_over_one}

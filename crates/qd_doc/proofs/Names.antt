@@ -12,7 +12,7 @@ pub use Rattle.std.proofs.lemmas.List.Sums.{fold-append, sum_by-append, sum_by-c
 pub use Rattle.std.proofs.lemmas.Option.{slice_get-get_or, slice_get_past}
 pub use Rattle.std.proofs.lemmas.Result.{err_from_is_err_and}
 pub use Rattle.std.specs.Fmt.{decimal}
-pub use Rattle.std.specs.List.{AllByRecursion, before_first, flat_map, list_all, list_any, range_with_len}
+pub use Rattle.std.specs.List.{AllByRecursion, flat_map, list_all, list_any, range_with_len}
 pub use Rattle.std.specs.Prelude.{All, IfOk, IfSome, MatchResult, OnErr, OnOk, find, fold, nat_abs, negsuc, slice_get, slice_index, slice_set, sum_by, unwrap_or}
 unfoldable pub use Rattle.cyclotomic.specs.Conductors.{conductors, is_conductor, least_conductor, phi_of}
 unfoldable pub use Rattle.cyclotomic.specs.Fit.{size_of}
@@ -45,7 +45,6 @@ pub use Rattle.qd_text.specs.declared.expected.Expected.TheVariants.{Characters,
 pub use Rattle.qd_text.specs.declared.natural.NumberFault.{NumberFault}
 pub use Rattle.qd_text.specs.declared.natural.NumberFault.TheVariants.{NotNumber}
 pub use Rattle.scan.proofs.Places.{and_true, first_found, first_none-at, first_none-step}
-pub use Rattle.scan.specs.First.{option_or}
 unfoldable pub use Rattle.scan.specs.First.{first}
 pub use lib.Pointwise.{pointwise, pointwise_decides}
 pub use Rattle.qd_doc.specs.Blocks.{Block, block, block_at, last_rows, with_last_rows, with_row, with_value}
@@ -55,7 +54,7 @@ pub use Rattle.qd_doc.specs.Contents.{IsGivenInRange, IsInRange, IsValueOf, Pars
 unfoldable pub use Rattle.qd_doc.specs.Contents.{blocks_of, characters_of, document_of, exponents_end, exponents_of, last_below, pieces, sparse_exponents}
 pub use Rattle.qd_doc.specs.Grammar.{Run, after_characters, ending, number_at, once, refusal_at, text_at, times, what_after}
 unfoldable pub use Rattle.qd_doc.specs.Grammar.{entry_runs, expected, exponent_runs, first_refusal, front_runs, kind_at, runs_after, stop_of}
-pub use Rattle.qd_doc.specs.Kinds.{ClassOrEnd, ConductorNumber, ElementBelow, EndWord, FormWord, Natural, NoToken, OrderNumber, RootsNumber, RowClassOrEnd, ValueRowClassOrEnd, What, Word, fault_refusal, is_class_or_end, is_form, is_row_class_or_end, is_word, judgement, number_refusal, value_refusal, wanted}
+pub use Rattle.qd_doc.specs.Kinds.{ClassOrEnd, ConductorNumber, ElementBelow, EndWord, FormWord, Natural, NoToken, OrderNumber, RootsNumber, ValueRowClassOrEnd, What, Word, is_word, judgement, number_refusal, value_refusal, wanted}
 unfoldable pub use Rattle.qd_doc.specs.Kinds.{missing, refusal}
 pub use Rattle.qd_doc.specs.Reading.{Fails, Gives, IsOffset, listing_of, read_listing, read_number, skip, ◌>>=◌}
 unfoldable pub use Rattle.qd_doc.specs.Reading.{read, read_blocks, read_characters, read_document, read_end, read_entries, read_entry, read_exponents, read_given, read_numbers, read_order, read_roots, read_sparse}

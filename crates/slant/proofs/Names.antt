@@ -3,9 +3,9 @@ pub use Rattle.classes.proofs.Conjugacy.{centraliser_exactly}
 pub use Rattle.cochain.specs.Cochain.{Cochain, IsCocycle, value}
 pub use Rattle.group_table.proofs.Lawful.{identity_is_unit, is_group}
 pub use Rattle.group_table.proofs.Numbers.{length-passing_below, passing_below-ascending}
-pub use Rattle.group_table.proofs.Sentences.{closed, group_below, identity_below, two_sided_inverse}
+pub use Rattle.group_table.proofs.Sentences.{identity_below}
 pub use Rattle.group_table.proofs.Square.{column_below, length-by_pairs, listed_at, pair_at, row_below}
-pub use Rattle.group_table.specs.Group.{IsGroup, IsSmall, Table, identity_of, inverse, product}
+pub use Rattle.group_table.specs.Group.{IsGroup, IsSmall, Table, product}
 pub use Rattle.orders.specs.Group.{IsGroupBelow}
 pub use Rattle.slant.specs.Twists.{place_in, product_place, table_of}
 pub use Rattle.std.proofs.Common.{List, ap, arith, eq-eqb, eqb-true, get_or, length, nat_eq, refl, sym, ℕ, ◌%◌, ◌*◌, ◌+◌, ◌-◌, ◌/◌, ◌<◌, ◌∙◌, ◌≡◌, ◌≤◌}

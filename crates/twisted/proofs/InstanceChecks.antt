@@ -10,24 +10,24 @@ use Rattle.twisted.specs.Regular.{kappa, is_regular, regular_representatives, ra
 use Rattle.twisted.specs.Instances.{four_twist, permutation_twist, FourIsTwist, PermutationsAreTwist, FourRegular, PermutationsRegular}
 
 -- the laws of a 2-cocycle as one test
-law_holds : TwistedSubgroup → ℕ → ℕ → ℕ → Bool
+unfoldable pub law_holds : TwistedSubgroup → ℕ → ℕ → ℕ → Bool
 law_holds s p q r = nat_eq ((phase s p q + phase s (product s.group p q) r) % s.modulus) ((phase s p (product s.group q r) + phase s q r) % s.modulus)
 
-laws_hold : TwistedSubgroup → Bool
+unfoldable pub laws_hold : TwistedSubgroup → Bool
 laws_hold s = all_below (size s) (λ p. all_below (size s) (λ q. all_below (size s) (law_holds s p q)))
 
-is_normal : TwistedSubgroup → Bool
+unfoldable pub is_normal : TwistedSubgroup → Bool
 is_normal s = all_below (size s) (λ p. nat_eq (phase s (identity_of s.group) p) 0 && nat_eq (phase s p (identity_of s.group)) 0)
 
-ascends : TwistedSubgroup → Bool
+unfoldable pub ascends : TwistedSubgroup → Bool
 ascends s = all_below (size s) (λ r. all_below r (λ p. nat_lt (element s p) (element s r)))
 
-phases_fit : TwistedSubgroup → Bool
+unfoldable pub phases_fit : TwistedSubgroup → Bool
 phases_fit s = all_below (length s.phases) (λ i. nat_lt (get_or s.phases i 0) s.modulus)
 
 -- a group with phases that pass the tests is a twist
 module _ (s : TwistedSubgroup) (laws : laws_hold s ≡ true) (normal : is_normal s ≡ true) (up : ascends s ≡ true) (fit : phases_fit s ≡ true) where
-  twist_of_tests : IsGroup s.group → IsSmall s.group.order → length s.elements ≡ s.group.order → (p : ℕ) × (p < size s) × (element s p ≡ s.at) → IsModulus s.modulus
+  pub twist_of_tests : IsGroup s.group → IsSmall s.group.order → length s.elements ≡ s.group.order → (p : ℕ) × (p < size s) × (element s p ≡ s.at) → IsModulus s.modulus
       → length s.phases ≡ s.group.order * s.group.order → IsTwist s
   unfolding laws_hold law_holds is_normal ascends phases_fit
   twist_of_tests group small count holds_at modulus square = record {
