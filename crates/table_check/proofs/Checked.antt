@@ -1,11 +1,6 @@
 -- What the check answers, from what its parts find.
-use Rattle.std.proofs.Common.{◌≡◌, ℕ, Some, None, Err, List, refl, sym, subst}
-use Rattle.std.specs.Prelude.{ℤ}
-use Rattle.scan.specs.First.{option_or}
-use Rattle.twisted.specs.Twist.{TwistedSubgroup}
-use Rattle.table_check.specs.Characters.{RowsOver, characters_of}
-use Rattle.table_check.specs.Check.{row_miss, algebra_miss, table_miss}
-use Rattle.table_check.specs.Answers.{Finds, Checks}
+use Rattle.table_check.proofs.Names.{◌≡◌, ℕ, Some, None, Err, List, refl, sym, subst, ℤ, option_or, TwistedSubgroup, RowsOver, characters_of, row_miss, algebra_miss, Finds, Checks}
+use Rattle.table_check.specs.Check.{table_miss}
 use Rattle.table_check.specs.declared.refusal.TableRefusal.{TableRefusal}
 use Rattle.table_check.specs.declared.refusal.TableRefusal.TheVariants.{Overflow, Count, Identity, NoTwist, NoVacuum, Memory}
 

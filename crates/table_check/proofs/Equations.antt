@@ -1,39 +1,23 @@
 -- What an equation finds at a place.
-use Rattle.std.proofs.Common.{◌≡◌, ℕ, ◌&&◌, ◌==◌, Bool, eqb-true, true, false, Some, None, refl, ap, ◌∙◌}
-use Rattle.cyclotomic.specs.CyclotomicRing.{cyclotomic_value}
-use Rattle.qd_ring.specs.declared.cyc.Cyc.{Cyc}
+use Rattle.table_check.proofs.Names.{◌≡◌, ℕ, ◌&&◌, Bool, true, false, Some, None, refl, ap, ◌∙◌, cyclotomic_value, Cyc, TwistedSubgroup, Forms, Characters, is_same, unless_holds, clause_of, left_of, right_of, site_of, fit_at, equation_miss, Finds, Clause, Miss}
 use Rattle.qd_ring.specs.declared.site.Site.{Site}
-use Rattle.twisted.specs.Twist.{TwistedSubgroup}
-use Rattle.table_check.specs.Formed.{Forms}
-use Rattle.table_check.specs.Characters.{Characters}
-use Rattle.table_check.specs.Check.{is_same, unless_holds}
-use Rattle.table_check.specs.Answers.{clause_of, is_twist, left_of, right_of, site_of, fit_at, equation_miss, Finds}
+use Rattle.table_check.specs.Answers.{is_twist}
 use Rattle.table_check.specs.declared.identity_name.IdentityName.{IdentityName}
-use Rattle.table_check.specs.declared.identity_name.IdentityName.TheVariants.{Degree, Unitary, Central, Product, Sum, Column}
-use Rattle.table_check.specs.declared.miss.Clause.{Clause}
-use Rattle.table_check.specs.declared.miss.Miss.{Miss}
+use Rattle.table_check.specs.declared.identity_name.IdentityName.TheVariants as names
 use Rattle.table_check.specs.declared.refusal.TableRefusal.TheVariants.{Overflow, Identity}
 
 no_twist : (name : IdentityName) → is_twist (clause_of name) ≡ false
-no_twist Degree = refl
-no_twist Unitary = refl
-no_twist Central = refl
-no_twist Product = refl
-no_twist Sum = refl
-no_twist Column = refl
+no_twist names.Degree = refl
+no_twist names.Unitary = refl
+no_twist names.Central = refl
+no_twist names.Product = refl
+no_twist names.Sum = refl
+no_twist names.Column = refl
 
 -- a clause whose test fails is missed
 pub missed_at : (test : Bool) (clause : Clause) (i j x : ℕ) → test ≡ false
     → unless_holds test clause i j x ≡ Some (record { clause = clause; i = i; j = j; x = x })
 missed_at test clause i j x fails = rw fails refl
-
--- two numbers that are apart
-pub different : (a b : ℕ) → (a ≡ b → ⊥) → (a == b) ≡ false
-different a b apart = by (a == b) refl
-  where
-    by : (test : Bool) → (a == b) ≡ test → test ≡ false
-    by true same = absurd (apart (eqb-true a b same))
-    by false same = refl
 
 module _ {k : ℕ} (s : TwistedSubgroup) (table : Characters k) (name : IdentityName) (i j x : ℕ) where
   abbrev here : Miss

@@ -1,53 +1,26 @@
 -- A good table whose sides fit misses nothing.
-use Rattle.std.proofs.Common.{◌≡◌, ◌<◌, ◌*◌, ◌&&◌, ℕ, suc, Bool, true, false, Option, Some, None, refl, ap, sym, ◌∙◌, nat_le, eqb-true, eq-eqb, arith}
-use Rattle.std.specs.Prelude.{is_some, IfSome}
-use Rattle.std.proofs.lemmas.Bool.{le-leb, false≢true}
+use Rattle.table_check.proofs.Names.{◌≡◌, ◌<◌, ◌*◌, ◌&&◌, ℕ, suc, Bool, true, false, Option, Some, None, refl, sym, ◌∙◌, nat_le, arith, is_some, IfSome, le-leb, false≢true, eqb-true, eq-eqb, first, all_below-all, both, let_in, first_finds, is_some_of, identity_of, cyclotomic, value_one, CyclotomicValue, TwistedSubgroup, size, element, rank, Characters, Formed, whole, unitary_left, unitary_right, twist_left, twist_right, central_left, central_right, product_left, product_right, sum_left, sum_right, column_left, column_right, IsDegree, IsGood, is_same, where_holds, agree, degree_of, twist_of, is_vacuum, has_vacuum, twists_fit, table_miss}
 use Rattle.std.proofs.Math.Nat.{le-mul_of_pos_right}
-use Rattle.scan.specs.First.{first}
-use Rattle.scan.proofs.Places.{first_none-at, all_below-all}
-use Rattle.group_table.specs.Group.{identity_of}
-use Rattle.cyclotomic.specs.Cyclotomic.{cyclotomic}
-use Rattle.cyclotomic.specs.Ring.{value_one}
-use Rattle.cyclotomic.specs.CyclotomicRing.{CyclotomicValue}
-use Rattle.twisted.specs.Twist.{TwistedSubgroup, size, element}
-use Rattle.twisted.specs.Regular.{rank}
-use Rattle.table_check.specs.Characters.{Characters}
-use Rattle.table_check.specs.Formed.{Formed, whole}
-use Rattle.table_check.specs.Sides.{unitary_left, unitary_right, twist_left, twist_right, central_left, central_right, product_left, product_right, sum_left, sum_right, column_left, column_right}
-use Rattle.table_check.specs.Good.{IsDegree, IsGood}
 use Rattle.table_check.specs.Fitting.{both_fit, SidesFit, GoodTablesMissNothing}
-use Rattle.table_check.specs.Check.{is_same, where_holds, agree, degree_of, twist_of, is_vacuum, has_vacuum, twists_fit, table_miss}
 use Rattle.table_check.proofs.Found.{HoldsOfEach, holds_of_miss}
 use Rattle.table_check.proofs.Same.{is_same-Decides}
 
--- what is found at some number is found
-found_there : {A : Type 0} (n i : ℕ) (at : ℕ → Option A) (x : A) → i < n → at i ≡ Some x → is_some (first n at) ≡ true
-found_there {A = A} n i at x inside here = by (first n at) refl
-  where
-    by : (o : Option A) → first n at ≡ o → is_some o ≡ true
-    by (Some y) e = refl
-    by None e = absurd (false≢true (sym (ap is_some (first_none-at n i at e inside)) ∙ ap is_some here))
-
-taken : (test : Bool) (n : ℕ) → test ≡ true → where_holds test n ≡ Some n
-taken true n e = refl
-taken false n e = absurd (false≢true e)
-
-both_true : (a b : Bool) → a ≡ true → b ≡ true → (a && b) ≡ true
-both_true true true e f = refl
-both_true true false e f = f
-both_true false b e f = e
+-- where a number passes the test, one is found
+found_there : (n i : ℕ) (test : ℕ → Bool) → i < n → test i ≡ true → is_some (first n (λ j. where_holds (test j) j)) ≡ true
+found_there n i test inside passes =
+    let found = first_finds n i (λ j. where_holds (test j) j) i inside (let_in (test i) i passes) in
+    is_some_of (first n (λ j. where_holds (test j) j)) found.0 found.1
 
 agreed : {k : ℕ} (left right : Formed k) → both_fit left right ≡ true → left.value ≡ right.value → agree left right ≡ true
-agreed left right fit same = both_true (left.fits && right.fits) (is_same left.value right.value) fit ((is_same-Decides left.value right.value).1 same)
+agreed left right fit same = both (left.fits && right.fits) (is_same left.value right.value) fit ((is_same-Decides left.value right.value).1 same)
 
 degree_found : (k m : ℕ) (u : CyclotomicValue k) → IsDegree k m u → is_some (degree_of k m u) ≡ true
 degree_found k m u d =
-    let below : d.degree < suc m = omega (arith, d.square, le-mul_of_pos_right {m = d.degree} d.degree (omega (arith, d.positive))) in
-    let test = both_true (nat_le 1 d.degree && nat_le (d.degree * d.degree) m) (is_same u (whole k d.degree))
-    (both_true (nat_le 1 d.degree) (nat_le (d.degree * d.degree) m) (le-leb 1 d.degree d.positive) (le-leb (d.degree * d.degree) m d.square))
-    ((is_same-Decides u (whole k d.degree)).1 d.same) in
-    found_there (suc m) d.degree (λ n. where_holds ((nat_le 1 n && nat_le (n * n) m) && is_same u (whole k n)) n) d.degree below
-    (taken ((nat_le 1 d.degree && nat_le (d.degree * d.degree) m) && is_same u (whole k d.degree)) d.degree test)
+    found_there (suc m) d.degree (λ n. (nat_le 1 n && nat_le (n * n) m) && is_same u (whole k n))
+    (omega (arith, d.square, le-mul_of_pos_right {m = d.degree} d.degree (omega (arith, d.positive))))
+    (both (nat_le 1 d.degree && nat_le (d.degree * d.degree) m) (is_same u (whole k d.degree))
+    (both (nat_le 1 d.degree) (nat_le (d.degree * d.degree) m) (le-leb 1 d.degree d.positive) (le-leb (d.degree * d.degree) m d.square))
+    ((is_same-Decides u (whole k d.degree)).1 d.same))
 
 -- nothing is found where whatever is found is absurd
 none_found : {A : Type 0} (o : Option A) → IfSome o (λ x. ⊥) → o ≡ None
@@ -62,15 +35,15 @@ module _ {k : ℕ} (s : TwistedSubgroup) (table : Characters k) (good : IsGood s
   twist_found : (i : ℕ) → i < table.count → is_some (twist_of s table i) ≡ true
   twist_found i row =
       let t = good.twist i row in
-      found_there k t.twist (λ v. where_holds (is_same (twist_left s table i).value (twist_right s table i v).value) v) t.twist t.below
-      (taken _ t.twist ((is_same-Decides (twist_left s table i).value (twist_right s table i t.twist).value).1 t.same))
+      found_there k t.twist (λ v. is_same (twist_left s table i).value (twist_right s table i v).value) t.below
+      ((is_same-Decides (twist_left s table i).value (twist_right s table i t.twist).value).1 t.same)
 
   vacuum_found : element s (identity_of s.group) ≡ s.at → has_vacuum s table ≡ true
   vacuum_found here =
       let v = good.vacuum here in
-      found_there table.count v.0 (λ i. where_holds (is_vacuum s table i) i) v.0 v.1
-      (taken (is_vacuum s table v.0) v.0 (all_below-all (size s) (λ x. is_same (table.chi v.0 x) (value_one (cyclotomic k)))
-      (λ x place. (is_same-Decides (table.chi v.0 x) (value_one (cyclotomic k))).1 (v.2 x place))))
+      found_there table.count v.0 (is_vacuum s table) v.1
+      (all_below-all (size s) (λ x. is_same (table.chi v.0 x) (value_one (cyclotomic k)))
+      (λ x place. (is_same-Decides (table.chi v.0 x) (value_one (cyclotomic k))).1 (v.2 x place)))
 
   none_fails : HoldsOfEach s table (λ miss. ⊥)
   none_fails = record {
@@ -78,7 +51,7 @@ module _ {k : ℕ} (s : TwistedSubgroup) (table : Characters k) (good : IsGood s
     degree = λ i row. holds_not_fails _ (degree_found k (size s) (table.chi i (identity_of s.group)) (good.degree i row));
     unitary = λ i x row place.
         holds_not_fails _ (agreed (unitary_left s table i x) (unitary_right s table i x) (fit.unitary i x row place) (good.unitary i x row place));
-    twist = λ i row. holds_not_fails _ (both_true (twists_fit s table i) (is_some (twist_of s table i)) (fit.twist i row) (twist_found i row));
+    twist = λ i row. holds_not_fails _ (both (twists_fit s table i) (is_some (twist_of s table i)) (fit.twist i row) (twist_found i row));
     central = λ i y x row other place.
         holds_not_fails _
         (agreed (central_left s table i y x) (central_right s table i y x) (fit.central i y x row other place) (good.central i y x row other place));

@@ -1,23 +1,10 @@
 -- The terms of the sides that are folded, and those that are left out.
-use Rattle.std.proofs.Common.{◌≡◌, ◌%◌, ◌&&◌, ◌==◌, ℕ, List, true, false, refl, ap, sym, ◌∙◌, subst}
-use Rattle.cyclotomic.specs.Conductors.{is_conductor}
-use Rattle.cyclotomic.specs.Cyclotomic.{cyclotomic}
-use Rattle.cyclotomic.specs.Fit.{value_fits}
-use Rattle.cyclotomic.specs.Ring.{value_product}
-use Rattle.cyclotomic.specs.CyclotomicRing.{CyclotomicValue, root}
-use Rattle.cyclotomic.proofs.Inverses.{root_modulo}
-use Rattle.classes.specs.Conjugacy.{conjugate}
+use Rattle.table_check.proofs.Names.{◌≡◌, ◌%◌, ◌&&◌, ◌==◌, ℕ, List, Option, true, false, refl, ap, sym, ◌∙◌, subst, eq-eqb, is_some, IfSome, is_conductor, cyclotomic, value_fits, value_product, CyclotomicValue, cyclotomic_value, root, conjugate, root_modulo, conjugate_by, Cyc, Formed, Forms, given, conjugated, multiplied, turned, IsSparseOf, TwistedSubgroup, phase, kappa, left_quotient, exponent, Characters, conjugate_value, product_term, row_term, column_term}
 use Rattle.qd_ring.specs.declared.monomial.Monomial.{Monomial}
-use Rattle.qd_ring.specs.Formed.{Formed, given, conjugated, multiplied, turned}
 use Rattle.qd_ring.specs.SparseValues.{value_of_terms}
-use Rattle.qd_ring.specs.Folding.{IsSparseOf, IsTurnedProduct}
+use Rattle.qd_ring.specs.Folding.{IsTurnedProduct}
 use Rattle.qd_ring.proofs.FoldingLaws.{turned_is_product, plain_is_product}
 use Rattle.qd_ring.proofs.NoughtLaws.{IsNought, unless_so}
-use Rattle.twisted.specs.Twist.{TwistedSubgroup, phase}
-use Rattle.twisted.specs.Regular.{kappa}
-use Rattle.twisted.specs.Algebra.{left_quotient, exponent}
-use Rattle.table_check.specs.Characters.{Characters}
-use Rattle.table_check.specs.Sides.{conjugate_value, product_term, row_term, column_term}
 
 -- a root may be reduced modulo K
 turned_reduced : (k : ℕ) → is_conductor k ≡ true → (e r : ℕ) (u : Formed k) → r ≡ e % k → turned k r u ≡ turned k e u
@@ -46,7 +33,14 @@ module _ (k : ℕ) (s : TwistedSubgroup) (table : Characters k) where
       subst (λ e. IsTurnedProduct k (row_term s table x y i) e (value_of_terms k a) (value_of_terms k b)) (sym none)
       (plain_is_product k (conjugate_value s table i x) (given k (table.chi i y)) a b of_a (record { fits = refl; stands = stands }))
 
--- a place that doesn't carry x to y has the term 0
-pub column_left_out : (k : ℕ) (s : TwistedSubgroup) (x y c : ℕ) → (conjugate s.group c x == y) ≡ false → IsNought (column_term {k = k} s x y c)
-column_left_out k s x y c other =
-    unless_so k (conjugate s.group c x == y) (conjugated k (given k (root k (exponent k s (kappa s c x))))) other
+-- the term of a place c that carries x to y, and that of one that doesn't
+module _ (k : ℕ) (s : TwistedSubgroup) (x y c : ℕ) where
+  pub column_formed : is_conductor k ≡ true → (r : ℕ) (z : CyclotomicValue k) (u : Option (Cyc k)) → conjugate_by s.group c x ≡ y
+      → r ≡ exponent k s (kappa s c x) % k → z ≡ root k r → is_some u ≡ value_fits (conjugate k z)
+      → IfSome u (λ v. cyclotomic_value k v.coefficients ≡ conjugate k z) → Forms (column_term {k = k} s x y c) u
+  column_formed entry r z u carried r_is z_is there stands =
+      let same : z ≡ root k (exponent k s (kappa s c x)) = z_is ∙ ap (root k) r_is ∙ sym (root_modulo k entry (exponent k s (kappa s c x))) in
+      rw (eq-eqb (conjugate_by s.group c x) y carried, ← same) (record { there = there; stands = stands })
+
+  pub column_left_out : (conjugate_by s.group c x == y) ≡ false → IsNought (column_term {k = k} s x y c)
+  column_left_out other = unless_so k (conjugate_by s.group c x == y) (conjugated k (given k (root k (exponent k s (kappa s c x))))) other

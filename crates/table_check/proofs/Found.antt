@@ -1,17 +1,6 @@
 -- What holds of each place that may be missed holds of the place that is missed first.
-use Rattle.std.proofs.Common.{◌≡◌, ◌<◌, ◌&&◌, ◌==◌, ℕ, zero, suc, Bool, true, false, Option, Some, None, refl, arith, if◌then◌else◌}
-use Rattle.std.specs.Prelude.{is_some, IfSome}
-use Rattle.scan.specs.First.{first, option_or}
-use Rattle.scan.proofs.Places.{first-zero, first-suc}
-use Rattle.group_table.specs.Group.{identity_of}
-use Rattle.twisted.specs.Twist.{TwistedSubgroup, size, element}
-use Rattle.twisted.specs.Regular.{rank}
-use Rattle.table_check.specs.Characters.{Characters}
-use Rattle.table_check.specs.Check.{unless_holds, agree, degree_of, twist_of, twists_fit, has_vacuum, count_miss, degree_at, degree_miss, unitary_at, unitary_miss, twist_at, twist_miss, central_at, central_miss, product_at, product_miss, sum_at, sum_miss, column_at, column_miss, vacuum_miss, row_miss, algebra_miss, table_miss}
-use Rattle.table_check.specs.Sides.{unitary_left, unitary_right, central_left, central_right, product_left, product_right, sum_left, sum_right, column_left, column_right}
-use Rattle.table_check.specs.declared.miss.Clause.{Clause}
-use Rattle.table_check.specs.declared.miss.Clause.TheVariants.{Count, Degree, Unitary, Twist, Central, Product, Sum, Column, Vacuum}
-use Rattle.table_check.specs.declared.miss.Miss.{Miss}
+use Rattle.table_check.proofs.Names.{◌≡◌, ◌<◌, ◌&&◌, ◌==◌, ℕ, zero, suc, Bool, true, false, Option, Some, None, refl, arith, if◌then◌else◌, is_some, IfSome, first, option_or, first-zero, first-suc, identity_of, TwistedSubgroup, size, element, rank, Characters, unitary_left, unitary_right, central_left, central_right, product_left, product_right, sum_left, sum_right, column_left, column_right, unless_holds, agree, degree_of, twist_of, twists_fit, has_vacuum, count_miss, degree_at, degree_miss, unitary_at, unitary_miss, twist_at, twist_miss, central_at, central_miss, product_at, product_miss, sum_at, sum_miss, column_at, column_miss, vacuum_miss, row_miss, algebra_miss, Clause, Count, Degree, Unitary, Twist, Central, Product, Sum, Column, Vacuum, Miss}
+use Rattle.table_check.specs.Check.{table_miss}
 
 abbrev pub at : Clause → ℕ → ℕ → ℕ → Miss
 at clause i j x = record { clause = clause; i = i; j = j; x = x }

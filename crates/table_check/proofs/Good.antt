@@ -1,51 +1,23 @@
 -- Where nothing is missed, the table is good.
-use Rattle.std.proofs.Common.{◌≡◌, ◌≤◌, ◌<◌, ◌*◌, ◌&&◌, ℕ, suc, Bool, true, false, Option, Some, None, refl, ap, subst, unwrap_or, nat_le, eqb-true, eq-eqb, if◌then◌else◌}
-use Rattle.std.specs.Prelude.{is_some}
-use Rattle.std.proofs.lemmas.Bool.{leb-true}
-use Rattle.scan.specs.First.{first}
-use Rattle.scan.proofs.Places.{first_none-at, first_some, or_none, and_true, all_below-at}
-use Rattle.group_table.specs.Group.{identity_of}
-use Rattle.cyclotomic.specs.Cyclotomic.{cyclotomic}
-use Rattle.cyclotomic.specs.Ring.{value_one}
-use Rattle.cyclotomic.specs.CyclotomicRing.{CyclotomicValue}
-use Rattle.twisted.specs.Twist.{TwistedSubgroup, size, element}
-use Rattle.twisted.specs.Regular.{rank}
-use Rattle.table_check.specs.Characters.{Characters}
-use Rattle.table_check.specs.Formed.{Formed, whole}
-use Rattle.table_check.specs.Sides.{unitary_left, unitary_right, twist_left, twist_right, central_left, central_right, product_left, product_right, sum_left, sum_right, column_left, column_right}
-use Rattle.table_check.specs.Good.{IsVacuum, IsGood}
-use Rattle.table_check.specs.Check.{is_same, where_holds, unless_holds, agree, degree_of, twist_of, is_vacuum, has_vacuum, count_miss, degree_at, degree_miss, unitary_miss, twists_fit, twist_at, twist_miss, central_miss, product_miss, sum_miss, column_miss, vacuum_miss, row_miss, algebra_miss, table_miss}
-use Rattle.table_check.specs.declared.miss.Clause.{Clause}
-use Rattle.table_check.specs.declared.miss.Clause.TheVariants.{Count, Degree, Unitary, Twist, Central, Product, Sum, Column, Vacuum}
+use Rattle.table_check.proofs.Names.{◌≡◌, ◌≤◌, ◌<◌, ◌*◌, ◌&&◌, ℕ, suc, Bool, true, Option, Some, None, subst, eqb-true, eq-eqb, if◌then◌else◌, nat_le, is_some, leb-true, first, first_none-at, first_some, or_none, and_true, all_below-at, passes, let_through, some_of, identity_of, cyclotomic, value_one, CyclotomicValue, TwistedSubgroup, size, element, rank, Characters, Formed, whole, unitary_left, unitary_right, twist_left, twist_right, central_left, central_right, product_left, product_right, sum_left, sum_right, column_left, column_right, IsVacuum, IsGood, is_same, where_holds, unless_holds, agree, degree_of, twist_of, is_vacuum, has_vacuum, count_miss, degree_at, degree_miss, unitary_miss, twists_fit, twist_at, twist_miss, central_miss, product_miss, sum_miss, column_miss, vacuum_miss, row_miss, algebra_miss, Miss, Vacuum}
+use Rattle.table_check.specs.Check.{table_miss}
 use Rattle.table_check.proofs.Same.{is_same-Decides}
-use Rattle.table_check.proofs.Conjugates.{unless_none}
-
--- what is there
-some_there : {A : Type 0} (o : Option A) → is_some o ≡ true → (x : A) × (o ≡ Some x)
-some_there (Some x) e = (x, refl)
-some_there None e = cc
-
--- a number that was found passes the test
-holds_there : (test : Bool) (n d : ℕ) → where_holds test n ≡ Some d → (test ≡ true) × (n ≡ d)
-holds_there true n d e = (refl, ap (λ o. unwrap_or o n) e)
-holds_there false n d e = cc
 
 -- nothing stands at a place, where nothing is found
 none_at : {A : Type 0} (n : ℕ) (at : ℕ → Option A) → first n at ≡ None → (i : ℕ) → i < n → at i ≡ None
 none_at n at none i below = first_none-at n i at none below
 
 -- two sides that agree have one value
-same_sides : {k : ℕ} (left right : Formed k) (clause : Clause) (i j x : ℕ) → unless_holds (agree left right) clause i j x ≡ None
-    → left.value ≡ right.value
-same_sides left right clause i j x none =
-    let agreed = unless_none (agree left right) clause i j x none in
+same_sides : {k : ℕ} (left right : Formed k) (miss : Miss) → (if agree left right then None else Some miss) ≡ None → left.value ≡ right.value
+same_sides left right miss none =
+    let agreed = passes (agree left right) miss none in
     (is_same-Decides left.value right.value).0 (and_true (left.fits && right.fits) (is_same left.value right.value) agreed).1
 
 -- the degree that was found is one
 pub degree_there : (k m d : ℕ) (u : CyclotomicValue k) → degree_of k m u ≡ Some d → (1 ≤ d) × (d * d ≤ m) × (u ≡ whole k d)
 degree_there k m d u found =
     let at = first_some (suc m) (λ n. where_holds ((nat_le 1 n && nat_le (n * n) m) && is_same u (whole k n)) n) d found in
-    let there = holds_there ((nat_le 1 at.place && nat_le (at.place * at.place) m) && is_same u (whole k at.place)) at.place d at.here in
+    let there = let_through ((nat_le 1 at.place && nat_le (at.place * at.place) m) && is_same u (whole k at.place)) at.place d at.here in
     let test = and_true (nat_le 1 at.place && nat_le (at.place * at.place) m) (is_same u (whole k at.place)) there.0 in
     let sizes = and_true (nat_le 1 at.place) (nat_le (at.place * at.place) m) test.0 in
     subst (λ n. (1 ≤ n) × (n * n ≤ m) × (u ≡ whole k n)) there.1
@@ -56,23 +28,23 @@ module _ {k : ℕ} (s : TwistedSubgroup) (table : Characters k) where
   pub twist_there : (i t : ℕ) → twist_of s table i ≡ Some t → (t < k) × ((twist_left s table i).value ≡ (twist_right s table i t).value)
   twist_there i t found =
       let at = first_some k (λ v. where_holds (is_same (twist_left s table i).value (twist_right s table i v).value) v) t found in
-      let there = holds_there (is_same (twist_left s table i).value (twist_right s table i at.place).value) at.place t at.here in
+      let there = let_through (is_same (twist_left s table i).value (twist_right s table i at.place).value) at.place t at.here in
       subst (λ v. (v < k) × ((twist_left s table i).value ≡ (twist_right s table i v).value)) there.1
       (at.below, (is_same-Decides (twist_left s table i).value (twist_right s table i at.place).value).0 there.0)
 
   vacuum_there : has_vacuum s table ≡ true → (i : ℕ) × (i < table.count) × IsVacuum s table i
   vacuum_there holds =
-      let found = some_there (first table.count (λ i. where_holds (is_vacuum s table i) i)) holds in
+      let found = some_of (first table.count (λ i. where_holds (is_vacuum s table i) i)) holds in
       let at = first_some table.count (λ i. where_holds (is_vacuum s table i) i) found.0 found.1 in (
         at.place,
         at.below,
         λ x place. (is_same-Decides (table.chi at.place x) (value_one (cyclotomic k))).0
-            (all_below-at (size s) x (λ y. is_same (table.chi at.place y) (value_one (cyclotomic k))) (holds_there _ at.place found.0 at.here).0 place),
+            (all_below-at (size s) x (λ y. is_same (table.chi at.place y) (value_one (cyclotomic k))) (let_through _ at.place found.0 at.here).0 place),
       )
 
   vacuum_asked : vacuum_miss s table ≡ None → element s (identity_of s.group) ≡ s.at → has_vacuum s table ≡ true
   vacuum_asked none here =
-      unless_none (has_vacuum s table) Vacuum 0 0 0
+      passes (has_vacuum s table) _
       (subst (λ b. (if b then unless_holds (has_vacuum s table) Vacuum 0 0 0 else None) ≡ None) (eq-eqb (element s (identity_of s.group)) s.at here) none)
 
   -- the parts of what is not missed
@@ -112,11 +84,11 @@ module _ {k : ℕ} (s : TwistedSubgroup) (table : Characters k) where
 
   -- row i has a degree
   pub degree_is : (i : ℕ) → degree_miss s table ≡ None → i < table.count → is_some (degree_of k (size s) (table.chi i (identity_of s.group))) ≡ true
-  degree_is i none row = unless_none _ Degree i 0 (identity_of s.group) (first_none-at table.count i (degree_at s table) none row)
+  degree_is i none row = passes _ _ (first_none-at table.count i (degree_at s table) none row)
 
   -- row i has a twist, and no root multiple of its degree overflows
   pub twist_is : (i : ℕ) → twist_miss s table ≡ None → i < table.count → (twists_fit s table i ≡ true) × (is_some (twist_of s table i) ≡ true)
-  twist_is i none row = and_true (twists_fit s table i) (is_some (twist_of s table i)) (unless_none _ Twist i 0 0 (first_none-at table.count i (twist_at s table) none row))
+  twist_is i none row = and_true (twists_fit s table i) (is_some (twist_of s table i)) (passes _ _ (first_none-at table.count i (twist_at s table) none row))
 
   -- where nothing is missed, the table is good
   pub nothing_missed : table_miss s table ≡ None → IsGood s table
@@ -124,25 +96,25 @@ module _ {k : ℕ} (s : TwistedSubgroup) (table : Characters k) where
       let e = identity_of s.group in
       let c = clauses none in
       record {
-        count = eqb-true table.count (rank s) (unless_none _ Count 0 0 0 c.count);
+        count = eqb-true table.count (rank s) (passes _ _ c.count);
         degree = λ i row.
-            let there = some_there (degree_of k (size s) (table.chi i e)) (degree_is i c.degree row) in
+            let there = some_of (degree_of k (size s) (table.chi i e)) (degree_is i c.degree row) in
             let d = degree_there k (size s) there.0 (table.chi i e) there.1 in
             record { degree = there.0; positive = d.0; square = d.1; same = d.2 };
         unitary = λ i x row place.
-            same_sides (unitary_left s table i x) (unitary_right s table i x) Unitary i 0 x (none_at _ _ (none_at _ _ c.unitary i row) x place);
+            same_sides (unitary_left s table i x) (unitary_right s table i x) _ (none_at _ _ (none_at _ _ c.unitary i row) x place);
         twist = λ i row.
-            let there = some_there (twist_of s table i) (twist_is i c.twist row).1 in
+            let there = some_of (twist_of s table i) (twist_is i c.twist row).1 in
             let t = twist_there i there.0 there.1 in
             record { twist = there.0; below = t.0; same = t.1 };
         central = λ i y x row other place.
-            same_sides (central_left s table i y x) (central_right s table i y x) Central i y x
+            same_sides (central_left s table i y x) (central_right s table i y x) _
             (none_at _ _ (none_at _ _ (none_at _ _ c.central i row) y other) x place);
         product = λ i j x row other place.
-            same_sides (product_left s table i j x) (product_right s table i j x) Product i j x
+            same_sides (product_left s table i j x) (product_right s table i j x) _
             (none_at _ _ (none_at _ _ (none_at _ _ c.product i row) j other) x place);
-        sum = λ x place. same_sides (sum_left s table x) (sum_right s table x) Sum 0 0 x (none_at _ _ c.sum x place);
+        sum = λ x place. same_sides (sum_left s table x) (sum_right s table x) _ (none_at _ _ c.sum x place);
         column = λ x y place other.
-            same_sides (column_left s table x y) (column_right s table x y) Column 0 y x (none_at _ _ (none_at _ _ c.column x place) y other);
+            same_sides (column_left s table x y) (column_right s table x y) _ (none_at _ _ (none_at _ _ c.column x place) y other);
         vacuum = λ here. vacuum_there (vacuum_asked c.vacuum here);
       }

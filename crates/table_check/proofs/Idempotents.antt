@@ -1,23 +1,13 @@
 -- A good table gives orthogonal central idempotents that add up to one.
-use Rattle.std.proofs.Common.{◌≡◌, ◌≢◌, ℕ, ◌<◌, ◌%◌, ◌==◌, Bool, true, false, refl, ap, sym, ◌∙◌, eq-eqb, eqb-true, if◌then◌else◌}
+use Rattle.table_check.proofs.Names.{◌≡◌, ◌≢◌, ℕ, ◌<◌, ◌%◌, ◌==◌, Bool, true, false, refl, ap, sym, ◌∙◌, eq-eqb, ne_eqb, identity_of, is_conductor, cyclotomic, value_product, CyclotomicValue, cyclotomic_ring, TwistedSubgroup, size, phase, IsTwist, left_quotient, exponent, Characters, given, whole, where_so, right_quotient, product_term, product_sum, IsGood}
 use Rattle.algebra.specs.Sums.{pick}
 use Rattle.algebra.proofs.SumLaws.{sum_ext}
-use Rattle.group_table.specs.Group.{identity_of}
-use Rattle.cyclotomic.specs.Conductors.{is_conductor}
-use Rattle.cyclotomic.specs.Cyclotomic.{cyclotomic}
-use Rattle.cyclotomic.specs.Ring.{value_product, value_nought}
-use Rattle.cyclotomic.specs.CyclotomicRing.{CyclotomicValue, cyclotomic_ring}
 use Rattle.cyclotomic.proofs.Orthogonality.{x_root, power-root}
-use Rattle.twisted.specs.Twist.{TwistedSubgroup, size, phase, IsTwist}
-use Rattle.twisted.specs.Algebra.{left_quotient, exponent, twisted_product, IsCentral}
+use Rattle.twisted.specs.Algebra.{twisted_product, IsCentral}
 use Rattle.twisted.specs.Algebra as algebra
 use Rattle.twisted.proofs.AlgebraLaws.{twist_roots, on_places, central_from_places}
 use Rattle.twisted.proofs.CentreLaws.{times_unit, unit_times}
 use Rattle.twisted.proofs.Translation.{places, place_group, phase_at, kappa_at, phases_cocycle, kappa_phase, some_root}
-use Rattle.table_check.specs.Characters.{Characters}
-use Rattle.table_check.specs.Formed.{Formed, given, whole, conjugated, multiplied, where_so}
-use Rattle.table_check.specs.Sides.{right_quotient, degree_value, product_term, product_sum}
-use Rattle.table_check.specs.Good.{IsGood}
 use Rattle.table_check.proofs.WholeValues.{conjugate_apart}
 use Rattle.table_check.specs.Idempotents.{row_element, row_degree, AreIdempotents, GoodTablesGiveIdempotents}
 
@@ -46,22 +36,6 @@ module _ (k : ℕ) (entry : is_conductor k ≡ true) (s : TwistedSubgroup) (twis
             (phase_at s twist) (kappa_at s twist) (phases_cocycle s twist) (kappa_phase s twist) (on_places (cyclotomic_ring k) (x_root k entry) s twist divides (row_element s table i)) c v);
       })
 
-  -- the sides of the clause on products, by whether the rows are one
-  left_same : (b : Bool) (u v : Formed k) → b ≡ true → (if b then u else v).value ≡ u.value
-  left_same true u v e = refl
-  left_same false u v e = absurd cc
-
-  left_other : (b : Bool) (u v : Formed k) → b ≡ false → (if b then u else v).value ≡ v.value
-  left_other true u v e = absurd cc
-  left_other false u v e = refl
-
-  different : (i j : ℕ) → i ≢ j → (i == j) ≡ false
-  different i j apart = by (i == j) refl
-    where
-      by : (b : Bool) → (i == j) ≡ b → b ≡ false
-      by true e = absurd (apart (eqb-true i j e))
-      by false e = refl
-
   picked : (b : Bool) (u : CyclotomicValue k) → (where_so k b (given k u)).value ≡ pick (cyclotomic_ring k) b u
   unfolding pick
   picked true u = refl
@@ -73,15 +47,8 @@ module _ (k : ℕ) (entry : is_conductor k ≡ true) (s : TwistedSubgroup) (twis
     degree = good.degree;
     central = central;
     idempotent = λ i x row place.
-        ap (value_product (cyclotomic k) (row_degree s table i)) (product_is i i x)
-        ∙ sym (left_same (i == i) (multiplied k (degree_value s table i) (product_sum s table i i x)) (product_sum s table i i x) (eq-eqb i i refl))
-        ∙ good.product i i x row row place
-        ∙ left_same (i == i) (multiplied k (given k (whole k (size s))) (conjugated k (given k (table.chi i x)))) (given k value_nought) (eq-eqb i i refl);
-    orthogonal = λ i j x row other place apart.
-        product_is i j x
-        ∙ sym (left_other (i == j) (multiplied k (degree_value s table i) (product_sum s table i j x)) (product_sum s table i j x) (different i j apart))
-        ∙ good.product i j x row other place
-        ∙ left_other (i == j) (multiplied k (given k (whole k (size s))) (conjugated k (given k (table.chi i x)))) (given k value_nought) (different i j apart);
+        ap (value_product (cyclotomic k) (row_degree s table i)) (product_is i i x) ∙ rw (eq-eqb i i refl) at (good.product i i x row row place);
+    orthogonal = λ i j x row other place apart. product_is i j x ∙ rw (ne_eqb i j apart) at (good.product i j x row other place);
     nonzero = λ i row. conjugate_apart k entry (good.degree i row).degree (row_degree s table i) (good.degree i row).positive (good.degree i row).same;
     complete = λ x place. good.sum x place ∙ picked (x == identity_of s.group) (whole k (size s));
   }

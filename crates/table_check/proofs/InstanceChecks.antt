@@ -1,9 +1,8 @@
 -- The worked twist is one.
-use Rattle.std.proofs.Common.{◌≡◌, ◌<◌, ℕ, None, refl, sym, ◌∙◌, lit<, lit≤, arith, subst, slice_index, [], ◌∷◌}
+use Rattle.table_check.proofs.Names.{◌≡◌, ◌<◌, ℕ, None, refl, sym, ◌∙◌, lit<, lit≤, arith, subst, slice_index, [], ◌∷◌, phase, IsTwist}
 use Rattle.std.proofs.Math.Nat.{mod-one}
 use Rattle.group_table.specs.Group.{group_fault}
 use Rattle.scan.specs.First.{first, all_below}
-use Rattle.twisted.specs.Twist.{phase, IsTwist}
 use Rattle.table_check.specs.Instances.{one_twist}
 
 lawful : group_fault one_twist.group ≡ None

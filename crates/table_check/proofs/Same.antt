@@ -1,11 +1,8 @@
 -- Values are the same exactly where their coefficients are.
-use Rattle.std.proofs.Common.{◌≡◌, ℕ, refl, ap}
-use Rattle.std.specs.Prelude.{Decides}
+use Rattle.table_check.proofs.Names.{◌≡◌, ℕ, refl, ap, Decides, Value, is_same}
 use Rattle.std.proofs.lemmas.Bool.Decides.{Decides-int_eq}
 use Rattle.std.proofs.lemmas.Slice.Eq.{slice_eq-Decides}
-use Rattle.cyclotomic.specs.Ring.{Value}
 use Rattle.cyclotomic.specs.Laws.Values.{same_value}
-use Rattle.table_check.specs.Check.{is_same}
 
 pub is_same-Decides : {n : ℕ} (u v : Value n) → Decides (is_same u v) (u ≡ v)
 is_same-Decides u v = (

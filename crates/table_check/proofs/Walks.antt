@@ -1,12 +1,6 @@
 -- What a walk over the places of a clause finds.
-use Rattle.std.proofs.Common.{◌≡◌, ◌<◌, ℕ, Option, Some, None, refl, arith, subst}
-use Rattle.scan.specs.First.{first}
-use Rattle.scan.proofs.Places.{first_none, first_found}
-use Rattle.twisted.specs.Twist.{TwistedSubgroup}
-use Rattle.table_check.specs.Answers.{Finds}
-use Rattle.table_check.specs.Characters.{Characters}
+use Rattle.table_check.proofs.Names.{◌≡◌, ◌<◌, ℕ, Option, Some, None, refl, arith, subst, first, first_none, first_found, TwistedSubgroup, Finds, Characters, Miss}
 use Rattle.table_check.specs.Walks.{IsFirstAnswer}
-use Rattle.table_check.specs.declared.miss.Miss.{Miss}
 use Rattle.table_check.specs.declared.refusal.TableRefusal.{TableRefusal}
 
 -- the first answer is that of what is missed first

@@ -1,23 +1,17 @@
 -- Whole numbers as values: conjugation, and which of them are not 0.
-use Rattle.std.proofs.Common.{◌≡◌, ℕ, zero, suc, ◌-◌, ◌<◌, ◌≤◌, ◌++◌, true, [], ◌∷◌, get_or, refl, sym, ap, ◌∙◌, arith}
-use Rattle.std.specs.Prelude.{pos, nat_lt}
+use Rattle.table_check.proofs.Names.{◌≡◌, ℕ, zero, suc, ◌-◌, ◌<◌, ◌≤◌, ◌++◌, true, [], ◌∷◌, get_or, refl, sym, ap, ◌∙◌, arith, pos, nat_lt, list_all, ltb-true, is_conductor, cyclotomic, CyclotomicValue, cyclotomic_ring, conjugate, whole}
 use borrow.Author.Differences.{up}
-use Rattle.std.specs.List.{list_all}
-use Rattle.std.proofs.lemmas.Bool.{ltb-true}
 use Rattle.algebra.specs.Involutions.{Involution}
 use Rattle.algebra.proofs.InvolutionLaws.{bar_nought}
-use Rattle.cyclotomic.specs.Conductors.{conductors, phi_of, is_conductor}
-use Rattle.cyclotomic.specs.Cyclotomic.{cyclotomic}
+use Rattle.cyclotomic.specs.Conductors.{conductors, phi_of}
 use Rattle.cyclotomic.specs.Division.{degree, remainder}
 use Rattle.cyclotomic.specs.Polynomial.{zeros}
 use Rattle.cyclotomic.specs.Ring.{value_nought, value_of}
-use Rattle.cyclotomic.specs.CyclotomicRing.{CyclotomicValue, cyclotomic_ring, conjugate}
 use Rattle.cyclotomic.specs.Laws.Remainders.{remainder-short}
 use Rattle.cyclotomic.proofs.Fields.{cyclotomic_degree}
 use Rattle.cyclotomic.proofs.Images.{image-sum}
 use Rattle.cyclotomic.proofs.Inverses.{conjugation_prime, galois_product, conjugate_conjugate}
 use Rattle.cyclotomic.proofs.Tests.{at_each_conductor}
-use Rattle.table_check.specs.Formed.{whole}
 
 -- complex conjugation respects sums and products, and is its own inverse
 abbrev pub conjugation : (k : ℕ) → is_conductor k ≡ true → Involution (cyclotomic_ring k)

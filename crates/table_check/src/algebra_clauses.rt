@@ -11,32 +11,12 @@ use crate::identity_name::IdentityName;
 use crate::refusal::TableRefusal;
 use crate::row_clauses::vacuum_refusal;
 use crate::sides::{
-    central_left, central_right, column_left, column_right, product_left, product_right, sum_left,
-    sum_right,
+    column_left, column_right, left_quotient, product_sides, sum_left, sum_right, with_phase,
 };
 use crate::walk::{first_answer, first_of_pairs, first_of_triples};
 use qd_ring::Part;
 
-/// The clause on central elements at one place.
-fn central_at<const K: u32>(
-    table: &Conjugated<K>,
-    i: u32,
-    y: u32,
-    x: u32,
-) -> Option<TableRefusal<K>>
-    requires i_below { i < length table.now.rows }
-    requires y_below { y < size table.now.over }
-    requires x_below { x < size table.now.over }
-    ensures finds { FindsIn K table.now (λ s t. central_at s t i y x) result }
-{
-    let twist = table.candidate().over();
-    let site = site_over(twist, Part::Central, i, twist.element(y), twist.element(x));
-    let left = central_left(table, i, y, x);
-    let right = central_right(table, i, y, x);
-    equation(IdentityName::Central, site, left, right)
-}
-
-/// The clause on central elements.
+/// The clause on central elements: `u_y E_i` and `E_i u_y` at the place `x`.
 fn central_refusal<const K: u32>(table: &Conjugated<K>) -> Option<TableRefusal<K>>
     ensures finds { FindsIn K table.now (λ s t. central_miss s t) result }
 {
@@ -50,27 +30,17 @@ fn central_refusal<const K: u32>(table: &Conjugated<K>) -> Option<TableRefusal<K
             requires { (i < length table.now.rows) × (y < size table.now.over)
                 × (x < size table.now.over) }
             ensures { FindsIn K table.entry.now (λ s t. central_at s t i y x) result }
-        { central_at(table, i, y, x) },
+        {
+            let candidate = table.candidate();
+            let twist = candidate.over();
+            let after = left_quotient(twist, y, x);
+            let left = with_phase(candidate, y, after, &table.kept(i, after).value);
+            let before = twist.group().product(x, twist.group().inverse(y));
+            let right = with_phase(candidate, before, y, &table.kept(i, before).value);
+            let site = site_over(twist, Part::Central, i, twist.element(y), twist.element(x));
+            equation(IdentityName::Central, site, left, right)
+        },
     )
-}
-
-/// The clause on products at one place.
-fn product_at<const K: u32>(
-    table: &Conjugated<K>,
-    i: u32,
-    j: u32,
-    x: u32,
-) -> Option<TableRefusal<K>>
-    requires i_below { i < length table.now.rows }
-    requires j_below { j < length table.now.rows }
-    requires x_below { x < size table.now.over }
-    ensures finds { FindsIn K table.now (λ s t. product_at s t i j x) result }
-{
-    let twist = table.candidate().over();
-    let site = site_over(twist, Part::Product, i, j, twist.element(x));
-    let left = product_left(table, i, j, x);
-    let right = product_right(table, i, j, x);
-    equation(IdentityName::Product, site, left, right)
 }
 
 /// The clause on products.
@@ -87,22 +57,12 @@ fn product_refusal<const K: u32>(table: &Conjugated<K>) -> Option<TableRefusal<K
             requires { (i < length table.now.rows) × (j < length table.now.rows)
                 × (x < size table.now.over) }
             ensures { FindsIn K table.entry.now (λ s t. product_at s t i j x) result }
-        { product_at(table, i, j, x) },
-    )
-}
-
-/// The clause on the sum at one place.
-fn sum_at<const K: u32>(table: &Conjugated<K>, x: u32) -> Option<TableRefusal<K>>
-    requires x_below { x < size table.now.over }
-    ensures finds { FindsIn K table.now (λ s t. sum_at s t x) result }
-{
-    let twist = table.candidate().over();
-    let site = site_over(twist, Part::Sum, 0, 0, twist.element(x));
-    equation(
-        IdentityName::Sum,
-        site,
-        sum_left(table, x),
-        sum_right(table, x),
+        {
+            let twist = table.candidate().over();
+            let site = site_over(twist, Part::Product, i, j, twist.element(x));
+            let (left, right) = product_sides(table, i, j, x);
+            equation(IdentityName::Product, site, left, right)
+        },
     )
 }
 
@@ -116,22 +76,14 @@ fn sum_refusal<const K: u32>(table: &Conjugated<K>) -> Option<TableRefusal<K>>
         |x| -> Option<TableRefusal<K>>
             requires { x < size table.now.over }
             ensures { FindsIn K table.entry.now (λ s t. sum_at s t x) result }
-        { sum_at(table, x) },
+        {
+            let twist = table.candidate().over();
+            let site = site_over(twist, Part::Sum, 0, 0, twist.element(x));
+            let left = sum_left(table, x);
+            let right = sum_right(table.candidate(), x);
+            equation(IdentityName::Sum, site, left, right)
+        },
     )
-}
-
-/// The clause on columns at one pair of places.
-fn column_at<const K: u32>(table: &Conjugated<K>, x: u32, y: u32) -> Option<TableRefusal<K>>
-    requires x_below { x < size table.now.over }
-    requires y_below { y < size table.now.over }
-    ensures finds { FindsIn K table.now (λ s t. column_at s t x y) result }
-{
-    let candidate = table.candidate();
-    let twist = candidate.over();
-    let site = site_over(twist, Part::Column, 0, twist.element(y), twist.element(x));
-    let left = column_left(table, x, y);
-    let right = column_right(candidate, x, y);
-    equation(IdentityName::Column, site, left, right)
 }
 
 /// The clause on columns.
@@ -145,7 +97,14 @@ fn column_refusal<const K: u32>(table: &Conjugated<K>) -> Option<TableRefusal<K>
         |x, y| -> Option<TableRefusal<K>>
             requires { (x < size table.now.over) × (y < size table.now.over) }
             ensures { FindsIn K table.entry.now (λ s t. column_at s t x y) result }
-        { column_at(table, x, y) },
+        {
+            let candidate = table.candidate();
+            let twist = candidate.over();
+            let site = site_over(twist, Part::Column, 0, twist.element(y), twist.element(x));
+            let left = column_left(table, x, y);
+            let right = column_right(candidate, x, y);
+            equation(IdentityName::Column, site, left, right)
+        },
     )
 }
 

@@ -12,7 +12,7 @@ ghost use Rattle.table_check.specs.Sides.{FormsIn, conjugate_value};
 use crate::candidate::Candidate;
 use crate::kept::Kept;
 use group_table::Memory;
-use qd_ring::{Cyc, Terms};
+use qd_ring::Terms;
 use std::alloc::Global;
 use std::marker::Model;
 
@@ -51,7 +51,11 @@ fn conjugate_row<const K: u32>(
         let Some(conjugate) = table.value(i, x).try_conj() else {
             unreachable!()
         };
-        row.push(Kept::of(conjugate))?;
+        let terms = Terms::of(&conjugate);
+        row.push(Kept {
+            value: conjugate,
+            terms,
+        })?;
     }
     Ok(row)
 }
@@ -89,31 +93,16 @@ impl<const K: u32> Conjugated<K> {
     }
 
     /// The conjugate of the value of row `i` at the place `x`, as it is kept.
-    fn kept(&self, i: u32, x: u32) -> &Kept<K>
+    pub fn kept(&self, i: u32, x: u32) -> &Kept<K>
         requires i_below { i < length self.now.rows }
         requires x_below { x < size self.now.over }
-        ensures kept { cyclotomic_value K result.now.value.coefficients
+        ensures value { cyclotomic_value K result.now.value.coefficients
             ≡ conjugate K ((characters_of K self.now.rows).chi i x) }
+        ensures forms { FormsIn K self.now (λ s t. conjugate_value s t i x)
+            (Some result.now.value) }
+        ensures terms { let values = characters_of K self.now.rows in
+            IsSparseOf K (conjugate_value self.now.over values i x) result.now.terms }
     {
         &self.conjugates[i as usize][x as usize]
-    }
-
-    /// The conjugate of the value of row `i` at the place `x`.
-    pub fn conjugate(&self, i: u32, x: u32) -> Cyc<K>
-        requires i_below { i < length self.now.rows }
-        requires x_below { x < size self.now.over }
-        ensures forms { FormsIn K self.now (λ s t. conjugate_value s t i x) (Some result) }
-    {
-        self.kept(i, x).value
-    }
-
-    /// Its sparse form.
-    pub fn terms(&self, i: u32, x: u32) -> &Terms<K>
-        requires i_below { i < length self.now.rows }
-        requires x_below { x < size self.now.over }
-        ensures terms { let values = characters_of K self.now.rows in
-            IsSparseOf K (conjugate_value self.now.over values i x) result.now }
-    {
-        &self.kept(i, x).terms
     }
 }

@@ -15,13 +15,3 @@ pub struct Kept<const K: u32> {
     pub terms: Terms<K>,
     ghost same: { value_of_terms K terms ≡ cyclotomic_value K value.coefficients },
 }
-
-impl<const K: u32> Kept<K> {
-    /// The value, to be kept.
-    pub fn of(value: Cyc<K>) -> Kept<K>
-        ensures { result.value ≡ value.entry }
-    {
-        let terms = Terms::of(&value);
-        Kept { value, terms }
-    }
-}

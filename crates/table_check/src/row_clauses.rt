@@ -15,24 +15,11 @@ use crate::candidate::Candidate;
 use crate::compared::{equation, is_same, site_over};
 use crate::identity_name::IdentityName;
 use crate::refusal::TableRefusal;
-use crate::sides::{degree, twist_left, twist_right, unitary_left, unitary_right};
+use crate::sides::{degree, twist_left, twist_right, unitary_right};
 use crate::walk::{first_answer, first_of_pairs};
 use qd_ring::{Cyc, Part};
 use scan::{first_below, holds_below};
 use twisted::centre_rank;
-
-/// The clause on the number of rows.
-fn count_refusal<const K: u32>(table: &Candidate<K>) -> Option<TableRefusal<K>>
-    ensures finds { FindsIn K table.now (λ s t. count_miss s t) result }
-{
-    let rows = table.rows();
-    let rank = centre_rank(table.over());
-    if rows == rank {
-        None
-    } else {
-        Some(TableRefusal::Count { rows, rank })
-    }
-}
 
 /// The greatest whole number whose square is at most `n`.
 fn square_root(n: u32) -> u32
@@ -76,27 +63,6 @@ pub fn degree_of<const K: u32>(order: u32, value: &Cyc<K>) -> Option<u32>
     )
 }
 
-/// The clause on degrees, for one row.
-fn degree_at<const K: u32>(table: &Candidate<K>, i: u32) -> Option<TableRefusal<K>>
-    requires i_below { i < length table.now.rows }
-    ensures finds { FindsIn K table.now (λ s t. degree_at s t i) result }
-{
-    let twist = table.over();
-    let order = twist.size();
-    let value = degree(table, i);
-    if degree_of(order, &value).is_some() {
-        return None;
-    }
-    Some(TableRefusal::Identity {
-        name: IdentityName::Degree,
-        i,
-        j: 0,
-        x: twist.element(twist.group().identity()),
-        left: value,
-        right: Cyc::whole(i128::from(square_root(order))),
-    })
-}
-
 /// The clause on degrees.
 fn degree_refusal<const K: u32>(table: &Candidate<K>) -> Option<TableRefusal<K>>
     ensures finds { FindsIn K table.now (λ s t. degree_miss s t) result }
@@ -107,21 +73,24 @@ fn degree_refusal<const K: u32>(table: &Candidate<K>) -> Option<TableRefusal<K>>
         |i| -> Option<TableRefusal<K>>
             requires { i < length table.now.rows }
             ensures { FindsIn K table.entry.now (λ s t. degree_at s t i) result }
-        { degree_at(table, i) },
+        {
+            let twist = table.over();
+            let order = twist.size();
+            let left = degree(table, i);
+            if degree_of(order, &left).is_some() {
+                None
+            } else {
+                Some(TableRefusal::Identity {
+                    name: IdentityName::Degree,
+                    i,
+                    j: 0,
+                    x: twist.element(twist.group().identity()),
+                    left,
+                    right: Cyc::whole(i128::from(square_root(order))),
+                })
+            }
+        },
     )
-}
-
-/// The clause on inverses at one place.
-fn unitary_at<const K: u32>(table: &Candidate<K>, i: u32, x: u32) -> Option<TableRefusal<K>>
-    requires i_below { i < length table.now.rows }
-    requires x_below { x < size table.now.over }
-    ensures finds { FindsIn K table.now (λ s t. unitary_at s t i x) result }
-{
-    let twist = table.over();
-    let site = site_over(twist, Part::Unitary, i, 0, twist.element(x));
-    let left = unitary_left(table, i, x);
-    let right = unitary_right(table, i, x);
-    equation(IdentityName::Unitary, site, left, right)
 }
 
 /// The clause on inverses.
@@ -136,7 +105,13 @@ fn unitary_refusal<const K: u32>(table: &Candidate<K>) -> Option<TableRefusal<K>
         |i, x| -> Option<TableRefusal<K>>
             requires { (i < length table.now.rows) × (x < size table.now.over) }
             ensures { FindsIn K table.entry.now (λ s t. unitary_at s t i x) result }
-        { unitary_at(table, i, x) },
+        {
+            let twist = table.over();
+            let site = site_over(twist, Part::Unitary, i, 0, twist.element(x));
+            let left = table.value(i, twist.group().inverse(x));
+            let right = unitary_right(table, i, x);
+            equation(IdentityName::Unitary, site, Some(left), right)
+        },
     )
 }
 
@@ -155,19 +130,6 @@ fn twists_fit<const K: u32>(table: &Candidate<K>, i: u32) -> bool
     )
 }
 
-/// Whether the own value of row `i` is its degree times the root with exponent `t`.
-fn is_twist<const K: u32>(table: &Candidate<K>, i: u32, t: u32) -> bool
-    requires i_below { i < length table.now.rows }
-    requires t_below { t < K }
-    requires fits { (twist_right table.now.over (characters_of K table.now.rows) i t).fits ≡ true }
-    ensures twist { result ≡ has_twist table.now.over (characters_of K table.now.rows) i t }
-{
-    match twist_right(table, i, t) {
-        Some(multiple) => is_same(&twist_left(table, i), &multiple),
-        None => unreachable!(),
-    }
-}
-
 /// The least exponent `t` of a root by which the own value of row `i` is a multiple of its degree; `None` where there is none.
 pub fn twist_of<const K: u32>(table: &Candidate<K>, i: u32) -> Option<u32>
     requires i_below { i < length table.now.rows }
@@ -181,24 +143,17 @@ pub fn twist_of<const K: u32>(table: &Candidate<K>, i: u32) -> Option<u32>
                 × (twists_fit table.now.over (characters_of K table.now.rows) i ≡ true) }
             ensures { result ≡ where_holds
                 (has_twist table.entry.now.over (characters_of K table.entry.now.rows) i t) t }
-        { if is_twist(table, i, t) { Some(t) } else { None } },
+        {
+            let Some(multiple) = twist_right(table, i, t) else {
+                unreachable!()
+            };
+            if is_same(&twist_left(table, i), &multiple) {
+                Some(t)
+            } else {
+                None
+            }
+        },
     )
-}
-
-/// The clause on twists, for one row.
-fn twist_at<const K: u32>(table: &Candidate<K>, i: u32) -> Option<TableRefusal<K>>
-    requires i_below { i < length table.now.rows }
-    ensures finds { FindsIn K table.now (λ s t. twist_at s t i) result }
-{
-    if !twists_fit(table, i) {
-        let site = site_over(table.over(), Part::Twist, i, 0, 0);
-        return Some(TableRefusal::Overflow { site });
-    }
-    if twist_of(table, i).is_some() {
-        return None;
-    }
-    let value = twist_left(table, i);
-    Some(TableRefusal::NoTwist { row: i, value })
 }
 
 /// The clause on twists.
@@ -211,7 +166,17 @@ fn twist_refusal<const K: u32>(table: &Candidate<K>) -> Option<TableRefusal<K>>
         |i| -> Option<TableRefusal<K>>
             requires { i < length table.now.rows }
             ensures { FindsIn K table.entry.now (λ s t. twist_at s t i) result }
-        { twist_at(table, i) },
+        {
+            if !twists_fit(table, i) {
+                let site = site_over(table.over(), Part::Twist, i, 0, 0);
+                Some(TableRefusal::Overflow { site })
+            } else if twist_of(table, i).is_some() {
+                None
+            } else {
+                let value = twist_left(table, i);
+                Some(TableRefusal::NoTwist { row: i, value })
+            }
+        },
     )
 }
 
@@ -219,8 +184,10 @@ fn twist_refusal<const K: u32>(table: &Candidate<K>) -> Option<TableRefusal<K>>
 pub fn row_refusal<const K: u32>(table: &Candidate<K>) -> Option<TableRefusal<K>>
     ensures finds { FindsIn K table.now (λ s t. row_miss s t) result }
 {
-    if let Some(refusal) = count_refusal(table) {
-        return Some(refusal);
+    let rows = table.rows();
+    let rank = centre_rank(table.over());
+    if rows != rank {
+        return Some(TableRefusal::Count { rows, rank });
     }
     if let Some(refusal) = degree_refusal(table) {
         return Some(refusal);
@@ -231,38 +198,6 @@ pub fn row_refusal<const K: u32>(table: &Candidate<K>) -> Option<TableRefusal<K>
     twist_refusal(table)
 }
 
-/// Whether row `i` has only the value 1.
-fn is_vacuum<const K: u32>(table: &Candidate<K>, i: u32) -> bool
-    requires i_below { i < length table.now.rows }
-    ensures vacuum { result ≡ is_vacuum table.now.over (characters_of K table.now.rows) i }
-{
-    let places = table.over().size();
-    holds_below(
-        places,
-        |x| -> bool
-            requires { (i < length table.now.rows) × (x < size table.now.over) }
-            ensures { let rows = characters_of K table.entry.now.rows in
-                result ≡ is_same (rows.chi i x) (value_one (cyclotomic K)) }
-        { is_same(&table.value(i, x), &Cyc::one()) },
-    )
-}
-
-/// Whether some row has only the value 1.
-fn has_vacuum<const K: u32>(table: &Candidate<K>) -> bool
-    ensures vacuum { result ≡ has_vacuum table.now.over (characters_of K table.now.rows) }
-{
-    let rows = table.rows();
-    let vacuum = first_below(
-        rows,
-        |i| -> Option<u32>
-            requires { i < length table.now.rows }
-            ensures { result ≡ where_holds
-                (is_vacuum table.entry.now.over (characters_of K table.entry.now.rows) i) i }
-        { if is_vacuum(table, i) { Some(i) } else { None } },
-    );
-    vacuum.is_some()
-}
-
 /// The clause on the vacuum.
 pub fn vacuum_refusal<const K: u32>(table: &Candidate<K>) -> Option<TableRefusal<K>>
     ensures finds { FindsIn K table.now (λ s t. vacuum_miss s t) result }
@@ -271,8 +206,27 @@ pub fn vacuum_refusal<const K: u32>(table: &Candidate<K>) -> Option<TableRefusal
     if twist.element(twist.group().identity()) != twist.at() {
         return None;
     }
-    if has_vacuum(table) {
+    let rows = table.rows();
+    let vacuum = first_below(
+        rows,
+        |i| -> Option<u32>
+            requires { i < length table.now.rows }
+            ensures { result ≡ where_holds
+                (is_vacuum table.entry.now.over (characters_of K table.entry.now.rows) i) i }
+        {
+            let vacuum = holds_below(
+                table.over().size(),
+                |x| -> bool
+                    requires { (i < length table.now.rows) × (x < size table.now.over) }
+                    ensures { let rows = characters_of K table.entry.now.rows in
+                        result ≡ is_same (rows.chi i x) (value_one (cyclotomic K)) }
+                { is_same(&table.value(i, x), &Cyc::one()) },
+            );
+            if vacuum { Some(i) } else { None }
+        },
+    );
+    if vacuum.is_some() {
         return None;
     }
-    Some(TableRefusal::NoVacuum { rows: table.rows() })
+    Some(TableRefusal::NoVacuum { rows })
 }

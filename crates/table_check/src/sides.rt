@@ -1,14 +1,12 @@
 //! The sides of the clauses, each as it is formed.
 
-ghost use Rattle.std.specs.Prelude.{◌≡◌, ◌==◌, ◌+◌, ◌<◌, ◌%◌, ℕ, length, Some, IsTrue, IfSome};
+ghost use Rattle.std.specs.Prelude.{◌≡◌, ◌<◌, ◌%◌, length, Some};
 ghost use Rattle.cyclotomic.specs.CyclotomicRing.{cyclotomic_value};
 ghost use Rattle.twisted.specs.Twist.{size};
 ghost use Rattle.twisted.specs.Algebra.{left_quotient, exponent};
-ghost use Rattle.table_check.specs.Characters.{characters_of, IsShaped};
-ghost use Rattle.classes.specs.Conjugacy.{conjugate};
-ghost use Rattle.qd_ring.specs.Formed.{Forms, given, whole};
-ghost use Rattle.qd_ring.specs.Folding.{folded_value, IsFolded};
-ghost use Rattle.table_check.specs.Sides.{FormsIn, degree_value, own_place, right_quotient, with_phase, unitary_left, unitary_right, twist_left, twist_right, central_left, central_right, product_sum, product_left, product_right, sum_left, sum_right, column_left, column_term, column_right, product_term, sum_term, row_term};
+ghost use Rattle.table_check.specs.Characters.{characters_of};
+ghost use Rattle.qd_ring.specs.Formed.{Forms, given};
+ghost use Rattle.table_check.specs.Sides.{FormsIn, degree_value, with_phase, unitary_right, twist_left, twist_right, product_sum, product_left, product_right, product_term, sum_left, sum_right, sum_term, column_left, column_right, row_term};
 
 use crate::candidate::Candidate;
 use crate::conjugated::Conjugated;
@@ -16,7 +14,7 @@ use qd_ring::{Cyc, Folded, Root, Terms, Total};
 use twisted::{Twist, conjugate, kappa};
 
 /// The place of `y^-1 x`.
-fn left_quotient(twist: &Twist, y: u32, x: u32) -> u32
+pub fn left_quotient(twist: &Twist, y: u32, x: u32) -> u32
     requires y_below { y < size twist.now }
     requires x_below { x < size twist.now }
     ensures quotient { result ≡ left_quotient twist.now y x }
@@ -24,25 +22,6 @@ fn left_quotient(twist: &Twist, y: u32, x: u32) -> u32
 {
     let group = twist.group();
     group.product(group.inverse(y), x)
-}
-
-/// The place of `x y^-1`.
-fn right_quotient(twist: &Twist, x: u32, y: u32) -> u32
-    requires y_below { y < size twist.now }
-    requires x_below { x < size twist.now }
-    ensures quotient { result ≡ right_quotient twist.now x y }
-    ensures below { result < size twist.now }
-{
-    let group = twist.group();
-    group.product(x, group.inverse(y))
-}
-
-/// The place of the element that the twist belongs to.
-fn own_place(twist: &Twist) -> u32
-    ensures place { result ≡ own_place twist.now }
-    ensures below { result < size twist.now }
-{
-    twist.place(twist.at()).unwrap_or(0)
 }
 
 /// The root of an exponent modulo the modulus of the twist.
@@ -54,7 +33,12 @@ fn root<const K: u32>(table: &Candidate<K>, v: u32) -> Root<K>
 }
 
 /// The multiple of a value by the root of the phase at the places `x` and `y`.
-fn with_phase<const K: u32>(table: &Candidate<K>, x: u32, y: u32, value: &Cyc<K>) -> Option<Cyc<K>>
+pub fn with_phase<const K: u32>(
+    table: &Candidate<K>,
+    x: u32,
+    y: u32,
+    value: &Cyc<K>,
+) -> Option<Cyc<K>>
     requires x_below { x < size table.now.over }
     requires y_below { y < size table.now.over }
     ensures forms { let value = given K (cyclotomic_value K value.now.coefficients) in
@@ -71,23 +55,6 @@ pub fn degree<const K: u32>(table: &Candidate<K>, i: u32) -> Cyc<K>
         ≡ (degree_value table.now.over (characters_of K table.now.rows) i).value }
 {
     table.value(i, table.over().group().identity())
-}
-
-/// The order of the centraliser.
-fn order<const K: u32>(table: &Candidate<K>) -> Cyc<K>
-    ensures order { cyclotomic_value K result.coefficients ≡ whole K (size table.now.over) }
-{
-    let order = table.over().size();
-    Cyc::whole(i128::from(order))
-}
-
-/// The value of row `i` at the inverse of the place `x`.
-pub fn unitary_left<const K: u32>(table: &Candidate<K>, i: u32, x: u32) -> Option<Cyc<K>>
-    requires i_below { i < length table.now.rows }
-    requires x_below { x < size table.now.over }
-    ensures forms { FormsIn K table.now (λ s t. unitary_left s t i x) result }
-{
-    Some(table.value(i, table.over().group().inverse(x)))
 }
 
 /// What the value of row `i` at the inverse of `x` should be: the conjugate of that at `x`, with the phase of the two.
@@ -108,7 +75,9 @@ pub fn twist_left<const K: u32>(table: &Candidate<K>, i: u32) -> Cyc<K>
     ensures value { cyclotomic_value K result.coefficients
         ≡ (twist_left table.now.over (characters_of K table.now.rows) i).value }
 {
-    table.value(i, own_place(table.over()))
+    let twist = table.over();
+    let place = twist.place(twist.at()).unwrap_or(0);
+    table.value(i, place)
 }
 
 /// The degree times the root with exponent `t` modulo K.
@@ -119,30 +88,6 @@ pub fn twist_right<const K: u32>(table: &Candidate<K>, i: u32, t: u32) -> Option
     ensures forms { FormsIn K table.now (λ s rows. twist_right s rows i t) result }
 {
     degree(table, i).try_times(Root::new(t))
-}
-
-/// The value of `u_y E_i` at the place `x`.
-pub fn central_left<const K: u32>(table: &Conjugated<K>, i: u32, y: u32, x: u32) -> Option<Cyc<K>>
-    requires i_below { i < length table.now.rows }
-    requires y_below { y < size table.now.over }
-    requires x_below { x < size table.now.over }
-    ensures forms { FormsIn K table.now (λ s t. central_left s t i y x) result }
-{
-    let candidate = table.candidate();
-    let z = left_quotient(candidate.over(), y, x);
-    with_phase(candidate, y, z, &table.conjugate(i, z))
-}
-
-/// The value of `E_i u_y` at the place `x`.
-pub fn central_right<const K: u32>(table: &Conjugated<K>, i: u32, y: u32, x: u32) -> Option<Cyc<K>>
-    requires i_below { i < length table.now.rows }
-    requires y_below { y < size table.now.over }
-    requires x_below { x < size table.now.over }
-    ensures forms { FormsIn K table.now (λ s t. central_right s t i y x) result }
-{
-    let candidate = table.candidate();
-    let z = right_quotient(candidate.over(), x, y);
-    with_phase(candidate, z, y, &table.conjugate(i, z))
 }
 
 /// The term at `y` of the value of `E_i E_j` at the place `x`.
@@ -161,51 +106,10 @@ fn product_term<const K: u32>(
 {
     let candidate = table.candidate();
     let z = left_quotient(candidate.over(), y, x);
-    let Some(product) = table.conjugate(i, y).try_mul(&table.conjugate(j, z)) else {
+    let Some(product) = table.kept(i, y).value.try_mul(&table.kept(j, z).value) else {
         return None;
     };
     with_phase(candidate, y, z, &product)
-}
-
-/// Adds the term at `y` of the value of `E_i E_j` at the place `x`, where there is room for it.
-fn add_product_term<const K: u32>(
-    folded: &mut Folded<K>,
-    table: &Conjugated<K>,
-    i: u32,
-    j: u32,
-    x: u32,
-    y: u32,
-) -> bool
-    requires i_below { i < length table.now.rows }
-    requires j_below { j < length table.now.rows }
-    requires y_below { y < size table.now.over }
-    requires x_below { x < size table.now.over }
-    ensures folded { let term = product_term table.now.over (characters_of K table.now.rows) i j x
-        in IsTrue result → IsFolded K term y (folded_value K folded.old) folded.old.bound
-        → IsFolded K term (y + 1) (folded_value K folded.new) folded.new.bound }
-{
-    let candidate = table.candidate();
-    let z = left_quotient(candidate.over(), y, x);
-    let phase = candidate.over().phase(y, z);
-    folded.add_product(table.terms(i, y), table.terms(j, z), root(candidate, phase))
-}
-
-/// The value of `E_i E_j` at the place `x`, where its terms may be folded.
-fn folded_product_sum<const K: u32>(table: &Conjugated<K>, i: u32, j: u32, x: u32) -> Option<Cyc<K>>
-    requires i_below { i < length table.now.rows }
-    requires j_below { j < length table.now.rows }
-    requires x_below { x < size table.now.over }
-    ensures forms { IfSome result
-        (λ sum. FormsIn K table.now (λ s t. product_sum s t i j x) (Some sum)) }
-{
-    let places = table.candidate().over().size();
-    let mut folded = Folded::zero();
-    for y in 0..places {
-        if !add_product_term(&mut folded, table, i, j, x, y) {
-            return None;
-        }
-    }
-    Some(folded.finish())
 }
 
 /// The value of `E_i E_j` at the place `x`, term by term.
@@ -226,58 +130,51 @@ fn exact_product_sum<const K: u32>(table: &Conjugated<K>, i: u32, j: u32, x: u32
     Some(total.sum())
 }
 
-/// The value of `E_i E_j` at the place `x`.
+/// The value of `E_i E_j` at the place `x`: in one buffer, or term by term where there is no room.
 fn product_sum<const K: u32>(table: &Conjugated<K>, i: u32, j: u32, x: u32) -> Option<Cyc<K>>
     requires i_below { i < length table.now.rows }
     requires j_below { j < length table.now.rows }
     requires x_below { x < size table.now.over }
     ensures forms { FormsIn K table.now (λ s t. product_sum s t i j x) result }
 {
-    match folded_product_sum(table, i, j, x) {
-        Some(sum) => Some(sum),
-        None => exact_product_sum(table, i, j, x),
+    let candidate = table.candidate();
+    let twist = candidate.over();
+    let places = twist.size();
+    let mut folded = Folded::zero();
+    for y in 0..places {
+        let z = left_quotient(twist, y, x);
+        let phase = root(candidate, twist.phase(y, z));
+        if !folded.add_product(&table.kept(i, y).terms, &table.kept(j, z).terms, phase) {
+            return exact_product_sum(table, i, j, x);
+        }
     }
+    Some(folded.finish())
 }
 
-/// The value of `d_i E_i E_i` at the place `x`, or of `E_i E_j` for two different rows.
-pub fn product_left<const K: u32>(table: &Conjugated<K>, i: u32, j: u32, x: u32) -> Option<Cyc<K>>
+/// The two sides of the clause on products at the place `x`: `d_i E_i E_i` and `m E_i`, or `E_i E_j` and 0 for two different rows.
+pub fn product_sides<const K: u32>(
+    table: &Conjugated<K>,
+    i: u32,
+    j: u32,
+    x: u32,
+) -> (Option<Cyc<K>>, Option<Cyc<K>>)
     requires i_below { i < length table.now.rows }
     requires j_below { j < length table.now.rows }
     requires x_below { x < size table.now.over }
-    ensures forms { FormsIn K table.now (λ s t. product_left s t i j x) result }
+    ensures left { FormsIn K table.now (λ s t. product_left s t i j x) result.0 }
+    ensures right { FormsIn K table.now (λ s t. product_right s t i j x) result.1 }
 {
-    let Some(value) = product_sum(table, i, j, x) else {
-        return None;
-    };
-    if i == j {
-        degree(table.candidate(), i).try_mul(&value)
-    } else {
-        Some(value)
+    let candidate = table.candidate();
+    let sum = product_sum(table, i, j, x);
+    if i != j {
+        return (sum, Some(Cyc::zero()));
     }
-}
-
-/// The value of `m E_i` at the place `x`, or 0 for two different rows.
-pub fn product_right<const K: u32>(table: &Conjugated<K>, i: u32, j: u32, x: u32) -> Option<Cyc<K>>
-    requires i_below { i < length table.now.rows }
-    requires j_below { j < length table.now.rows }
-    requires x_below { x < size table.now.over }
-    ensures forms { FormsIn K table.now (λ s t. product_right s t i j x) result }
-{
-    let order = order(table.candidate());
-    if i == j {
-        order.try_mul(&table.conjugate(i, x))
-    } else {
-        Some(Cyc::zero())
+    let order: Cyc<K> = Cyc::whole(i128::from(candidate.over().size()));
+    let right = order.try_mul(&table.kept(i, x).value);
+    match sum {
+        Some(sum) => (degree(candidate, i).try_mul(&sum), right),
+        None => (None, right),
     }
-}
-
-/// The value of `d_i E_i` at the place `x`.
-fn sum_term<const K: u32>(table: &Conjugated<K>, x: u32, i: u32) -> Option<Cyc<K>>
-    requires x_below { x < size table.now.over }
-    requires i_below { i < length table.now.rows }
-    ensures forms { FormsIn K table.now (λ s t. sum_term s t x i) result }
-{
-    degree(table.candidate(), i).try_mul(&table.conjugate(i, x))
 }
 
 /// The sum of the `d_i E_i`, at the place `x`.
@@ -285,10 +182,12 @@ pub fn sum_left<const K: u32>(table: &Conjugated<K>, x: u32) -> Option<Cyc<K>>
     requires x_below { x < size table.now.over }
     ensures forms { FormsIn K table.now (λ s t. sum_left s t x) result }
 {
-    let rows = table.candidate().rows();
+    let candidate = table.candidate();
+    let rows = candidate.rows();
     let mut total = Total::zero();
     for i in 0..rows {
-        let Some(more) = total.with(sum_term(table, x, i)) else {
+        let term = degree(candidate, i).try_mul(&table.kept(i, x).value);
+        let Some(more) = total.with(term) else {
             return None;
         };
         total = more;
@@ -297,75 +196,30 @@ pub fn sum_left<const K: u32>(table: &Conjugated<K>, x: u32) -> Option<Cyc<K>>
 }
 
 /// The value of `m u_e` at the place `x`.
-pub fn sum_right<const K: u32>(table: &Conjugated<K>, x: u32) -> Option<Cyc<K>>
+pub fn sum_right<const K: u32>(table: &Candidate<K>, x: u32) -> Option<Cyc<K>>
     requires x_below { x < size table.now.over }
     ensures forms { FormsIn K table.now (λ s t. sum_right s t x) result }
 {
-    let order = order(table.candidate());
-    if x == table.candidate().over().group().identity() {
-        Some(order)
+    let twist = table.over();
+    if x == twist.group().identity() {
+        Some(Cyc::whole(i128::from(twist.size())))
     } else {
         Some(Cyc::zero())
     }
 }
 
-/// The conjugate of the value of row `i` at `x`, times its value at `y`.
-fn row_term<const K: u32>(table: &Conjugated<K>, x: u32, y: u32, i: u32) -> Option<Cyc<K>>
-    requires x_below { x < size table.now.over }
-    requires y_below { y < size table.now.over }
-    requires i_below { i < length table.now.rows }
-    ensures forms { FormsIn K table.now (λ s t. row_term s t x y i) result }
-{
-    let conjugate = table.conjugate(i, x);
-    conjugate.try_mul(&table.candidate().value(i, y))
-}
-
-/// Adds the conjugate of the value of row `i` at `x`, times its value at `y`, where there is room for it.
-fn add_row_term<const K: u32>(
-    folded: &mut Folded<K>,
-    table: &Conjugated<K>,
-    x: u32,
-    y: u32,
-    i: u32,
-) -> bool
-    requires x_below { x < size table.now.over }
-    requires y_below { y < size table.now.over }
-    requires i_below { i < length table.now.rows }
-    ensures folded { let term = row_term table.now.over (characters_of K table.now.rows) x y in
-        IsTrue result → IsFolded K term i (folded_value K folded.old) folded.old.bound
-        → IsFolded K term (i + 1) (folded_value K folded.new) folded.new.bound }
-{
-    let value = Terms::of(&table.candidate().value(i, y));
-    folded.add_product(table.terms(i, x), &value, Root::new(0))
-}
-
-/// The sum over the rows of the conjugate of the value at `x` times the value at `y`, where its terms may be folded.
-fn folded_column_left<const K: u32>(table: &Conjugated<K>, x: u32, y: u32) -> Option<Cyc<K>>
-    requires x_below { x < size table.now.over }
-    requires y_below { y < size table.now.over }
-    ensures forms { IfSome result
-        (λ sum. FormsIn K table.now (λ s t. column_left s t x y) (Some sum)) }
-{
-    let rows = table.candidate().rows();
-    let mut folded = Folded::zero();
-    for i in 0..rows {
-        if !add_row_term(&mut folded, table, x, y, i) {
-            return None;
-        }
-    }
-    Some(folded.finish())
-}
-
-/// The same, term by term.
+/// The sum over the rows of the conjugate of the value at `x` times the value at `y`, term by term.
 fn exact_column_left<const K: u32>(table: &Conjugated<K>, x: u32, y: u32) -> Option<Cyc<K>>
     requires x_below { x < size table.now.over }
     requires y_below { y < size table.now.over }
     ensures forms { FormsIn K table.now (λ s t. column_left s t x y) result }
 {
-    let rows = table.candidate().rows();
+    let candidate = table.candidate();
+    let rows = candidate.rows();
     let mut total = Total::zero();
     for i in 0..rows {
-        let Some(more) = total.with(row_term(table, x, y, i)) else {
+        let term = table.kept(i, x).value.try_mul(&candidate.value(i, y));
+        let Some(more) = total.with(term) else {
             return None;
         };
         total = more;
@@ -373,55 +227,37 @@ fn exact_column_left<const K: u32>(table: &Conjugated<K>, x: u32, y: u32) -> Opt
     Some(total.sum())
 }
 
-/// The sum over the rows of the conjugate of the value at `x` times the value at `y`.
+/// The same: in one buffer, or term by term where there is no room.
 pub fn column_left<const K: u32>(table: &Conjugated<K>, x: u32, y: u32) -> Option<Cyc<K>>
     requires x_below { x < size table.now.over }
     requires y_below { y < size table.now.over }
     ensures forms { FormsIn K table.now (λ s t. column_left s t x y) result }
 {
-    match folded_column_left(table, x, y) {
-        Some(sum) => Some(sum),
-        None => exact_column_left(table, x, y),
+    let candidate = table.candidate();
+    let rows = candidate.rows();
+    let mut folded = Folded::zero();
+    for i in 0..rows {
+        let value = Terms::of(&candidate.value(i, y));
+        if !folded.add_product(&table.kept(i, x).terms, &value, Root::new(0)) {
+            return exact_column_left(table, x, y);
+        }
     }
+    Some(folded.finish())
 }
 
-/// Whether `c` carries `x` to `y`.
-fn carries<const K: u32>(table: &Candidate<K>, x: u32, y: u32, c: u32) -> bool
-    requires x_below { x < size table.now.over }
-    requires c_below { c < size table.now.over }
-    ensures carries { result ≡ (conjugate table.now.over.group c x == y) }
-{
-    conjugate(table.over().group(), c, x) == y
-}
-
-/// The conjugate of the root of the conjugation phase of `c` and `x` where `c` carries `x` to `y`, else 0.
-#[tactic(auto, using(cyclotomic::proofs::Inverses::root_modulo))]
-fn column_term<const K: u32>(table: &Candidate<K>, x: u32, y: u32, c: u32) -> Option<Cyc<K>>
-    requires x_below { x < size table.now.over }
-    requires y_below { y < size table.now.over }
-    requires c_below { c < size table.now.over }
-    ensures forms { Forms (column_term table.now.over x y c) result }
-{
-    let twist = table.over();
-    if conjugate(twist.group(), c, x) == y {
-        let phase = kappa(twist, c, x);
-        Cyc::from_root(root(table, phase)).try_conj()
-    } else {
-        Some(Cyc::zero())
-    }
-}
-
-/// The sum of these over all `c`; those that are 0 are left out.
+/// The sum, over all `c` that carry `x` to `y`, of the conjugates of the roots of the conjugation phases of `c` and `x`.
 pub fn column_right<const K: u32>(table: &Candidate<K>, x: u32, y: u32) -> Option<Cyc<K>>
     requires x_below { x < size table.now.over }
     requires y_below { y < size table.now.over }
     ensures forms { FormsIn K table.now (λ s t. column_right s t x y) result }
 {
-    let places = table.over().size();
+    let twist = table.over();
+    let places = twist.size();
     let mut total = Total::zero();
     for c in 0..places {
-        if carries(table, x, y, c) {
-            let Some(more) = total.with(column_term(table, x, y, c)) else {
+        if conjugate(twist.group(), c, x) == y {
+            let phase = root(table, kappa(twist, c, x));
+            let Some(more) = total.with(Cyc::from_root(phase).try_conj()) else {
                 return None;
             };
             total = more;

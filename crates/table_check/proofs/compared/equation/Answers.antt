@@ -1,8 +1,4 @@
-use Rattle.std.proofs.Common.{sym, ◌∙◌, ap, ◌&&◌, subst}
-use Rattle.std.specs.Prelude.{is_some}
-use Rattle.scan.proofs.Places.{and_false}
-use Rattle.table_check.specs.Answers.{clause_of, left_of, right_of}
-use Rattle.table_check.specs.Formed.{Forms}
+use Rattle.table_check.proofs.Names.{sym, ◌∙◌, ap, ◌&&◌, subst, is_some, and_false, clause_of, left_of, right_of, Forms}
 use Rattle.table_check.proofs.Equations.{overflow_found, difference_found, nothing_found}
 use Rattle.table_check.proofs.compared.equation.Goals as goal
 

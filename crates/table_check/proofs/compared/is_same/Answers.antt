@@ -1,10 +1,8 @@
 -- Arrays that stand for one value are one, so their equality is that of the values.
-use Rattle.std.proofs.Common.{ap, sym, ◌∙◌}
+use Rattle.table_check.proofs.Names.{ap, sym, ◌∙◌, cyclotomic_value, is_same}
 use Rattle.std.specs.Bool.{one_answer}
 use Rattle.std.specs.Cmp.Rules.{signed_items}
-use Rattle.cyclotomic.specs.CyclotomicRing.{cyclotomic_value}
 use Rattle.qd_ring.proofs.CycSums.{arrays_same}
-use Rattle.table_check.specs.Check.{is_same}
 use Rattle.table_check.proofs.Same.{is_same-Decides}
 use Rattle.table_check.proofs.compared.is_same.Goals as goal
 

@@ -1,12 +1,5 @@
-use Rattle.std.proofs.Common.{ap, ◌∙◌, map, arith}
-use Rattle.std.proofs.lemmas.Bool.{false≢true}
-use Rattle.std.specs.List.{range_with_len}
-use Rattle.cyclotomic.specs.CyclotomicRing.{cyclotomic_value, conjugate}
-use Rattle.cyclotomic.specs.Fit.{value_fits}
-use Rattle.twisted.specs.Twist.{size}
-use Rattle.table_check.specs.Characters.{characters_of}
-use Rattle.table_check.specs.Conjugates.{values_of}
-use Rattle.table_check.proofs.Conjugates.{conjugate_fits, values_more}
+use Rattle.table_check.proofs.Names.{ap, ◌∙◌, map, arith, false≢true, range_with_len, cyclotomic_value, conjugate, value_fits, size, characters_of, values_of}
+use Rattle.table_check.proofs.Conjugates.{conjugate_fits, mapped_more}
 use Rattle.table_check.proofs.conjugated.conjugate_row.Goals as goal
 
 pub loop-x-init : goal.loop-x-init
@@ -23,8 +16,8 @@ pub loop-x-preserved : goal.loop-x-preserved
 loop-x-preserved g c =
     let table = characters_of g.row.K c.args.table.now.rows in
     ap (values_of g.row.K) c.in_ok-push.ensures.items
-    ∙ values_more c.args.table.now.over table (size c.args.table.now.over) c.args.i c.loop-x.x c.loop-x.row.items c.of.result c.loop-x.invariant
-    (ap (λ u. cyclotomic_value g.row.K u.coefficients) c.of.ensures ∙ c.in-Some.ensures.value ∙ ap (conjugate g.row.K) c.value.ensures.value)
+    ∙ mapped_more (λ u. cyclotomic_value g.row.K u.value.coefficients) (λ y. conjugate g.row.K (table.chi c.args.i y)) c.loop-x.x c.loop-x.row.items _ c.loop-x.invariant
+    (c.in-Some.ensures.value ∙ ap (conjugate g.row.K) c.value.ensures.value)
 
 pub returns : goal.returns
 returns g c = record {

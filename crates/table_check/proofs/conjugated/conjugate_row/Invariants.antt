@@ -1,8 +1,4 @@
-use Rattle.std.proofs.Common.{◌≡◌, map}
-use Rattle.std.specs.List.{range_with_len}
-use Rattle.cyclotomic.specs.CyclotomicRing.{conjugate}
-use Rattle.table_check.specs.Characters.{characters_of}
-use Rattle.table_check.specs.Conjugates.{values_of}
+use Rattle.table_check.proofs.Names.{◌≡◌, map, range_with_len, conjugate, characters_of, values_of}
 use Rattle.table_check.proofs.conjugated.conjugate_row.Given as goal
 
 -- the conjugates before x

@@ -1,9 +1,4 @@
-use Rattle.std.proofs.Common.{◌≡◌, ◌==◌, true, false, refl, rules, eq-eqb}
-use Rattle.group_table.specs.Group.{identity_of}
-use Rattle.twisted.specs.Twist.{element}
-use Rattle.table_check.specs.Characters.{characters_of}
-use Rattle.table_check.specs.Check.{has_vacuum}
-use Rattle.table_check.specs.declared.miss.Clause.TheVariants.{Vacuum}
+use Rattle.table_check.proofs.Names.{◌≡◌, ◌==◌, true, false, refl, rules, eq-eqb, identity_of, element, characters_of, has_vacuum, Vacuum}
 use Rattle.table_check.proofs.row_clauses.vacuum_refusal.Goals as goal
 
 pub returns : goal.returns

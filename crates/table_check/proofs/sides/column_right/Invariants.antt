@@ -1,6 +1,4 @@
-use Rattle.cyclotomic.specs.CyclotomicRing.{cyclotomic_value}
-use Rattle.table_check.specs.Sides.{column_term}
-use Rattle.qd_ring.specs.Totals.{IsTotal}
+use Rattle.table_check.proofs.Names.{IsTotal, cyclotomic_value, column_term}
 use Rattle.table_check.proofs.sides.column_right.Given as goal
 
 -- the terms before c

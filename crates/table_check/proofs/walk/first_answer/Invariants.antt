@@ -1,4 +1,4 @@
-use Rattle.std.proofs.Common.{ℕ, ◌<◌, None}
+use Rattle.table_check.proofs.Names.{ℕ, ◌<◌, None}
 use Rattle.table_check.proofs.walk.first_answer.Given as goal
 
 -- nothing was answered before i

@@ -1,8 +1,5 @@
-use Rattle.std.proofs.Common.{ap, ◌∙◌, map, arith, subst}
-use Rattle.twisted.specs.Twist.{size}
-use Rattle.table_check.specs.Characters.{IsShaped, characters_of}
-use Rattle.table_check.specs.Conjugates.{values_of, conjugate_rows}
-use Rattle.table_check.proofs.Conjugates.{rows_more}
+use Rattle.table_check.proofs.Names.{ap, ◌∙◌, map, arith, subst, size, IsShaped, characters_of, values_of, conjugate_row, conjugate_rows}
+use Rattle.table_check.proofs.Conjugates.{mapped_more}
 use Rattle.table_check.proofs.conjugated.Conjugated.of.Goals as goal
 
 pub loop-i-init : goal.loop-i-init
@@ -11,8 +8,8 @@ loop-i-init g c = ap (map (λ row. values_of g.row.K row.items)) c.new-conjugate
 pub loop-i-preserved : goal.loop-i-preserved
 loop-i-preserved g c =
     ap (map (λ row. values_of g.row.K row.items)) c.in_ok-push.ensures.items
-    ∙ rows_more c.args.candidate.over (characters_of g.row.K c.args.candidate.rows) (size c.args.candidate.over) c.loop-i.i c.loop-i.conjugates.items c.in_ok-conjugate_row.field-0
-    c.loop-i.invariant c.in_ok-conjugate_row.ensures.row
+    ∙ mapped_more (λ row. values_of g.row.K row.items) (conjugate_row (size c.args.candidate.over) (characters_of g.row.K c.args.candidate.rows)) c.loop-i.i
+    c.loop-i.conjugates.items c.in_ok-conjugate_row.field-0 c.loop-i.invariant c.in_ok-conjugate_row.ensures.row
 
 pub invariant_of-result : goal.invariant_of-result
 invariant_of-result g c = (

@@ -1,7 +1,4 @@
-use Rattle.std.proofs.Common.{◌≡◌, map}
-use Rattle.twisted.specs.Twist.{size}
-use Rattle.table_check.specs.Characters.{characters_of}
-use Rattle.table_check.specs.Conjugates.{values_of, conjugate_rows}
+use Rattle.table_check.proofs.Names.{◌≡◌, map, size, characters_of, values_of, conjugate_rows}
 use Rattle.table_check.proofs.conjugated.Conjugated.of.Given as goal
 
 -- the rows before i

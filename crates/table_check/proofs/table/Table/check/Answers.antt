@@ -1,7 +1,4 @@
-use Rattle.std.proofs.Common.{◌≡◌, ap, ◌∙◌, sym, subst, None, Err}
-use Rattle.table_check.specs.Answers.{Checks}
-use Rattle.table_check.specs.Check.{row_miss, table_miss}
-use Rattle.table_check.specs.Characters.{RowsOver, IsShaped, characters_of}
+use Rattle.table_check.proofs.Names.{◌≡◌, ap, ◌∙◌, sym, subst, None, Err, Checks, row_miss, table_miss, RowsOver, IsShaped, characters_of}
 use Rattle.table_check.proofs.Checked.{row_refused, algebra_refused, none_refused_of}
 use Rattle.table_check.proofs.Good.{nothing_missed}
 use Rattle.table_check.proofs.table.Table.check.Goals as goal

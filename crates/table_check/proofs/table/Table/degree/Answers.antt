@@ -1,12 +1,4 @@
-use Rattle.std.proofs.Common.{◌≤◌, ◌*◌, ◌<◌, length, subst, sym, ◌∙◌, ap}
-use Rattle.std.specs.Prelude.{is_some}
-use Rattle.std.proofs.lemmas.Bool.{false≢true}
-use mathlib.Core.Path.{ap₂}
-use Rattle.cyclotomic.specs.CyclotomicRing.{cyclotomic_value}
-use Rattle.group_table.specs.Group.{identity_of}
-use Rattle.twisted.specs.Twist.{size}
-use Rattle.table_check.specs.Check.{degree_of}
-use Rattle.table_check.specs.Characters.{RowsOver, characters_of}
+use Rattle.table_check.proofs.Names.{◌≤◌, ◌*◌, ◌<◌, length, subst, sym, ◌∙◌, ap, is_some, false≢true, ap₂, cyclotomic_value, identity_of, size, degree_of, RowsOver, characters_of}
 use Rattle.table_check.proofs.Good.{clauses, degree_is, degree_there}
 use Rattle.table_check.proofs.table.Table.degree.Goals as goal
 

@@ -1,6 +1,4 @@
-use Rattle.std.proofs.Common.{subst}
-use Rattle.table_check.specs.Characters.{RowsOver, characters_of}
-use Rattle.table_check.specs.Good.{IsGood}
+use Rattle.table_check.proofs.Names.{subst, RowsOver, characters_of, IsGood}
 use Rattle.table_check.proofs.Good.{nothing_missed}
 use Rattle.table_check.proofs.table.Table.rows.Goals as goal
 

@@ -1,8 +1,4 @@
-use Rattle.std.proofs.Common.{◌≡◌, rules, ◌<◌, length, subst, sym, ◌∙◌, ap}
-use Rattle.std.specs.Prelude.{is_some}
-use Rattle.std.proofs.lemmas.Bool.{false≢true}
-use Rattle.table_check.specs.Characters.{RowsOver, characters_of}
-use Rattle.table_check.specs.Sides.{twist_left, twist_right}
+use Rattle.table_check.proofs.Names.{◌≡◌, rules, ◌<◌, length, subst, sym, ◌∙◌, ap, is_some, false≢true, RowsOver, characters_of, twist_left, twist_right}
 use Rattle.table_check.proofs.Good.{clauses, twist_is, twist_there}
 use Rattle.table_check.proofs.table.Table.twist.Goals as goal
 

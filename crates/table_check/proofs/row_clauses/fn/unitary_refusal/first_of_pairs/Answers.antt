@@ -1,0 +1,7 @@
+use Rattle.table_check.proofs.Names.{rules, characters_of}
+use Rattle.table_check.proofs.row_clauses.fn.unitary_refusal.first_of_pairs.Goals as goal
+
+pub returns : goal.returns
+returns g c =
+    let t = c.captures.table.now in
+    c.equation.ensures.finds t.over (characters_of g.row.K t.rows) c.args.i 0 c.args.x (cc) (search rules) (search rules)

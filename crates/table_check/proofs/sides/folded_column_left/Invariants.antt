@@ -1,8 +1,0 @@
-use Rattle.table_check.specs.Characters.{characters_of}
-use Rattle.table_check.specs.Sides.{row_term}
-use Rattle.qd_ring.specs.Folding.{folded_value, IsFolded}
-use Rattle.table_check.proofs.sides.folded_column_left.Given as goal
-
--- the terms before i
-abbrev pub invariant-loop-i : goal.invariant-loop-i
-invariant-loop-i g l = IsFolded g.row.K (row_term l.table.over (characters_of g.row.K l.table.rows) l.x l.y) l.i (folded_value g.row.K l.folded) l.folded.bound
