@@ -42,7 +42,8 @@ fn regular_number(twist: &Twist, classes: &Classes, representatives: &Nats, y: u
 fn class_factor(twist: &Twist, classes: &Classes, powers: &RootPowers, y: u32) -> u32
     requires classes { classes.now ≡ twist.now.group }
     requires y_below { y < size twist.now }
-    ensures factor { result ≡ class_factor twist.now powers.now.q powers.now.conductor powers.now.root y }
+    ensures factor { result
+        ≡ class_factor twist.now powers.now.q powers.now.conductor powers.now.root y }
     ensures below { result < powers.now.q }
 {
     if !is_regular(twist, y) {
@@ -105,7 +106,9 @@ fn character_ratio(
     requires values { (t : ℕ) → t < rank twist.now
         → central_value central.now row t < powers.now.q }
     requires y_below { y < size twist.now }
-    ensures ratio { result ≡ character_ratio twist.now powers.now.q powers.now.conductor powers.now.root (central_value central.now row) y }
+    ensures ratio { result
+        ≡ character_ratio twist.now powers.now.q powers.now.conductor powers.now.root
+        (central_value central.now row) y }
     ensures below { result < powers.now.q }
 {
     powers.product(

@@ -75,7 +75,8 @@ impl RootPowers {
     /// The residue of the root of unity with the exponent `v` modulo the modulus of the twist.
     pub(crate) fn root(&self, twist: &Twist, v: u32) -> u32
         requires at_most { v ≤ twist.now.modulus }
-        ensures root { result ≡ root_residue twist.now self.now.q self.now.conductor self.now.root v }
+        ensures root { result
+            ≡ root_residue twist.now self.now.q self.now.conductor self.now.root v }
         ensures below { result < self.now.q }
     {
         self.power(v * (self.field.conductor / twist.modulus()))

@@ -39,7 +39,8 @@ impl Model for Classes {
 
     ghost view = { λ classes. classes.group };
 
-    ghost invariant = { λ classes. IsClassTable classes.group classes.classes.items classes.numbers classes.reaches.items };
+    ghost invariant = { λ classes.
+        IsClassTable classes.group classes.classes.items classes.numbers classes.reaches.items };
 }
 
 impl Classes {
@@ -108,7 +109,8 @@ impl Classes {
         ensures size { result ≡ length (members_of self.now (representative_at self.now c)) }
         ensures positive { 1 ≤ result }
         ensures at_most_order { result ≤ self.now.order }
-        ensures equation { result * length (centraliser_of self.now (representative_at self.now c)) ≡ self.now.order }
+        ensures equation { result * length (centraliser_of self.now (representative_at self.now c))
+            ≡ self.now.order }
     {
         self.class(c).members.len()
     }
@@ -118,7 +120,8 @@ impl Classes {
     pub fn member(&self, c: u32, i: u32) -> u32
         requires c_below { c < length (representatives self.now) }
         requires i_below { i < length (members_of self.now (representative_at self.now c)) }
-        ensures member { result ≡ slice_index (members_of self.now (representative_at self.now c)) i }
+        ensures member { result
+            ≡ slice_index (members_of self.now (representative_at self.now c)) i }
         ensures below { result < self.now.order }
         ensures class { class_of self.now result ≡ c }
     {
@@ -151,7 +154,8 @@ impl Classes {
         ensures transporter { result ≡ transporter_of self.now g }
         ensures below { result < self.now.order }
         ensures carries { conjugate self.now result (representative_of self.now g) ≡ g }
-        ensures least { (k : ℕ) → k < self.now.order → conjugate self.now k (representative_of self.now g) ≡ g → result ≤ k }
+        ensures least { (k : ℕ) → k < self.now.order
+            → conjugate self.now k (representative_of self.now g) ≡ g → result ≤ k }
     {
         self.reach(g).transporter
     }

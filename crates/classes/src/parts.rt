@@ -85,7 +85,8 @@ fn other_representatives(alloc: Global, group: &Group, reaches: &[Reach]) -> Res
 pub fn class_list(alloc: Global, group: &Group, reaches: &[Reach]) -> Result<Vec<Class>, Memory>
     requires group { IsGroup group.now }
     requires reaches { ListsReaches group.now reaches.now }
-    ensures classes { IfOk result (λ classes. classes.items ≡ map (class_at group.now) (representatives group.now)) }
+    ensures classes { IfOk result
+        (λ classes. classes.items ≡ map (class_at group.now) (representatives group.now)) }
 {
     let others = other_representatives(alloc, group, reaches)?;
     let mut classes = vec![in alloc; class(alloc, group, reaches, group.identity())?]?;
@@ -120,7 +121,9 @@ fn first_class(group: &Group, classes: &[Class], representative: u32) -> Option<
     requires group { IsGroup group.now }
     requires small { IsSmall group.now.order }
     requires classes { classes.now ≡ map (class_at group.now) (representatives group.now) }
-    ensures first { result ≡ first (length (representatives group.now)) (λ c. if representative_at group.now c == representative then Some c else None) }
+    ensures first { result
+        ≡ first (length (representatives group.now))
+        (λ c. if representative_at group.now c == representative then Some c else None) }
 {
     first_below(class_count(group, classes), |c| {
         if is_represented(group, classes, representative, c) {

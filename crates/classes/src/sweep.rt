@@ -32,8 +32,10 @@ pub fn conjugate(group: &Group, k: u32, a: u32) -> u32
 fn sweep_row(group: &Group, a: u32, reaches: &mut [Option<Reach>])
     requires a_below { a < group.now.order }
     requires count { length reaches.old ≡ group.now.order }
-    requires lower { (g : ℕ) → g < group.now.order → slice_index_or reaches.old g None ≡ reach_below group.now a g }
-    ensures reached { (g : ℕ) → g < group.now.order → slice_index_or reaches.new g None ≡ reach_below group.now (a + 1) g }
+    requires lower { (g : ℕ) → g < group.now.order → slice_index_or reaches.old g None
+        ≡ reach_below group.now a g }
+    ensures reached { (g : ℕ) → g < group.now.order → slice_index_or reaches.new g None
+        ≡ reach_below group.now (a + 1) g }
 {
     for k in 0..group.order() {
         let g = conjugate(group, k, a) as usize;
@@ -50,7 +52,10 @@ fn sweep_rows(alloc: Global, group: &Group) -> Result<Vec<Option<Reach>>, Memory
     ensures group { OnOk result (IsGroup group.now) }
     ensures small { OnOk result (IsSmall group.now.order) }
     ensures count { IfOk result (λ found. length found.items ≡ group.now.order) }
-    ensures found { IfOk result (λ found. (g : ℕ) → g < group.now.order → slice_index_or found.items g None ≡ reach_below group.now group.now.order g) }
+    ensures found { IfOk result
+        (λ found.
+        (g : ℕ) → g < group.now.order → slice_index_or found.items g None
+        ≡ reach_below group.now group.now.order g) }
 {
     let order = group.order();
     let mut found = vec![in alloc; None; order as usize]?;

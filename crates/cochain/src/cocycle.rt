@@ -40,8 +40,12 @@ impl Cocycle {
     ) -> Result<Cocycle, CocycleRefusal>
         requires roots { IsRoots roots }
         requires cube { length exponents.now ≡ group.order * group.order * group.order }
-        ensures made { IfOk result (λ w. (cocycle_fault (cochain_of group roots exponents.now) ≡ None) × (w ≡ cochain_of group roots exponents.now)) }
-        ensures refused { IfErr result (λ refusal. Refuses refusal (cocycle_fault (cochain_of group roots exponents.now))) }
+        ensures made { IfOk result
+            (λ w.
+            (cocycle_fault (cochain_of group roots exponents.now) ≡ None)
+            × (w ≡ cochain_of group roots exponents.now)) }
+        ensures refused { IfErr result
+            (λ refusal. Refuses refusal (cocycle_fault (cochain_of group roots exponents.now))) }
     {
         let _order = group.order();
         let cochain = ThreeCochain::new(alloc, group, roots, exponents)?;
@@ -74,8 +78,10 @@ impl Cocycle {
     /// `b` is not 1.
     pub fn gauge(&self, alloc: Global, b: &Nats) -> Result<Cocycle, GaugeRefusal>
         requires square { length b.now ≡ self.now.group.order * self.now.group.order }
-        ensures made { IfOk result (λ w. (gauge_fault self.now b.now ≡ None) × (w ≡ gauged self.now b.now)) }
-        ensures refused { IfErr result (λ refusal. RefusesGauge refusal (gauge_fault self.now b.now)) }
+        ensures made { IfOk result
+            (λ w. (gauge_fault self.now b.now ≡ None) × (w ≡ gauged self.now b.now)) }
+        ensures refused { IfErr result
+            (λ refusal. RefusesGauge refusal (gauge_fault self.now b.now)) }
     {
         match gauge_fault(&self.cochain, b.as_slice()) {
             Some(refusal) => Err(refusal),

@@ -21,9 +21,11 @@ impl Model for ThreeCochain {
 
     ghost Value = { Cochain };
 
-    ghost view = { λ w. record { group = w.group; roots = w.roots; exponents = w.exponents.items } };
+    ghost view = { λ w.
+        record { group = w.group; roots = w.roots; exponents = w.exponents.items } };
 
-    ghost invariant = { λ w. IsCochain (record { group = w.group; roots = w.roots; exponents = w.exponents.items }) };
+    ghost invariant = { λ w.
+        IsCochain (record { group = w.group; roots = w.roots; exponents = w.exponents.items }) };
 }
 
 /// What stands at `(g, h, k)` in a cube of numbers with edge `n`.

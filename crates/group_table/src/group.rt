@@ -30,7 +30,8 @@ impl Model for Group {
 
     ghost view = { λ group. table_with group.order group.table };
 
-    ghost invariant = { λ group. IsKept (table_with group.order group.table) group.identity group.inverses };
+    ghost invariant = { λ group.
+        IsKept (table_with group.order group.table) group.identity group.inverses };
 }
 
 impl Group {
@@ -40,8 +41,10 @@ impl Group {
         requires small { IsSmall order }
         requires square { length table.now ≡ order * order }
         ensures made { IfOk result (λ group.
-            (group_fault (table_with order table.now) ≡ None) × (group ≡ table_with order table.now)) }
-        ensures refused { IfErr result (λ refusal. Refuses refusal (group_fault (table_with order table.now))) }
+            (group_fault (table_with order table.now) ≡ None)
+            × (group ≡ table_with order table.now)) }
+        ensures refused { IfErr result
+            (λ refusal. Refuses refusal (group_fault (table_with order table.now))) }
     {
         let identity = checked_identity(order, table.as_slice()).map_err(GroupRefusal::Fault)?;
         let table = table.copy(alloc)?;
@@ -127,7 +130,8 @@ impl Group {
     /// The order of `g`: the least number from 1 on by which its power is the identity.
     pub fn element_order(&self, g: u32) -> u32
         requires g_below { g < self.now.order }
-        ensures order { result ≡ order_of self.now.order (product self.now) (identity_of self.now) g }
+        ensures order { result
+            ≡ order_of self.now.order (product self.now) (identity_of self.now) g }
         ensures least { IsOrder (product self.now) (identity_of self.now) g result }
         ensures positive { 1 ≤ result }
         ensures at_most_order { result ≤ self.now.order }
@@ -137,7 +141,8 @@ impl Group {
 
     /// The exponent: the least number from 1 on by which the power of each element is the identity.
     pub fn exponent(&self) -> u32
-        ensures exponent { result ≡ exponent_of self.now.order (product self.now) (identity_of self.now) }
+        ensures exponent { result
+            ≡ exponent_of self.now.order (product self.now) (identity_of self.now) }
         ensures least { IsExponent self.now.order (product self.now) (identity_of self.now) result }
         ensures positive { 1 ≤ result }
         ensures at_most_order { result ≤ self.now.order }

@@ -148,7 +148,8 @@ pub fn checked_identity(n: u32, table: &[u32]) -> Result<u32, GroupFault>
     requires square { length table.now ≡ n * n }
     requires small { n ≤ 60 }
     ensures lawful { IfOk result (λ e.
-        (group_fault (table_with n table.now) ≡ None) × (e ≡ identity_of (table_with n table.now))) }
+        (group_fault (table_with n table.now) ≡ None)
+        × (e ≡ identity_of (table_with n table.now))) }
     ensures fault { IfErr result (λ fault. group_fault (table_with n table.now) ≡ Some fault) }
 {
     if let Some(fault) = entry_fault(n, table) {

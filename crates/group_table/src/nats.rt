@@ -36,7 +36,9 @@ impl Nats {
     where
         F: Drop,
         requires callable { (i : ℕ) → i < n → F.pre test i }
-        ensures passing { (passes : ℕ → Bool) → ((i : ℕ) (r : Bool) → i < n → F.post test i r → r ≡ passes i) → IfOk result (λ numbers. numbers ≡ passing_below n passes) }
+        ensures passing { (passes : ℕ → Bool)
+            → ((i : ℕ) (r : Bool) → i < n → F.post test i r → r ≡ passes i)
+            → IfOk result (λ numbers. numbers ≡ passing_below n passes) }
     {
         let mut numbers = Nats::empty(alloc);
         for i in 0..n {
@@ -74,7 +76,8 @@ impl Nats {
         F: Drop,
         requires few { n ≤ 60 }
         requires callable { (g h : ℕ) → g < n → h < n → F.pre number g h }
-        ensures pairs { (at : ℕ → ℕ → ℕ) → ((g h v : ℕ) → g < n → h < n → F.post number g h v → v ≡ at g h) →
+        ensures pairs { (at : ℕ → ℕ → ℕ)
+            → ((g h v : ℕ) → g < n → h < n → F.post number g h v → v ≡ at g h) →
             IfOk result (λ numbers. numbers ≡ by_pairs n at) }
     {
         Nats::tabulate(alloc, n * n, |i| number(i / n, i % n))

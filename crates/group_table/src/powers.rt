@@ -41,7 +41,8 @@ fn least_order(n: u32, table: &[u32], e: u32, g: u32) -> Option<u32>
     requires small { n ≤ 60 }
     requires identity { e ≡ identity_of (table_with n table.now) }
     requires g_below { g < n }
-    ensures least { result ≡ least_from_one n (is_unit_power (product (table_with n table.now)) e g) }
+    ensures least { result
+        ≡ least_from_one n (is_unit_power (product (table_with n table.now)) e g) }
 {
     first_below(n, |i| {
         if is_unit_power(n, table, e, g, i + 1) {
@@ -69,7 +70,8 @@ fn least_exponent(n: u32, table: &[u32], e: u32) -> Option<u32>
     requires group { IsGroup (table_with n table.now) }
     requires small { n ≤ 60 }
     requires identity { e ≡ identity_of (table_with n table.now) }
-    ensures least { result ≡ least_from_one n (are_unit_powers n (product (table_with n table.now)) e) }
+    ensures least { result
+        ≡ least_from_one n (are_unit_powers n (product (table_with n table.now)) e) }
 {
     first_below(n, |i| {
         if holds_below(n, |g| is_unit_power(n, table, e, g, i + 1)) {

@@ -21,7 +21,8 @@ impl Model for Matrix {
 
     ghost view = { λ matrix. record { width = matrix.width; numbers = matrix.numbers.items } };
 
-    ghost invariant = { λ matrix. IsSquare (record { width = matrix.width; numbers = matrix.numbers.items }) };
+    ghost invariant = { λ matrix.
+        IsSquare (record { width = matrix.width; numbers = matrix.numbers.items }) };
 }
 
 impl Matrix {

@@ -28,7 +28,10 @@ pub fn append_characters(out: &mut Vec<u8>, characters: &Option<Given>) -> Resul
 /// The line of the conductor, and the blocks.
 fn append_given(out: &mut Vec<u8>, given: &Given) -> Result<(), Memory>
     ensures added { OnOk result
-        (out.new.items ≡ out.old.items ++ flat_map line ((codes "characters" ∷ decimal given.now.conductor ∷ []) ∷ flat_map block_lines given.now.blocks)) }
+        (out.new.items ≡ out.old.items
+        ++ flat_map line
+        ((codes "characters" ∷ decimal given.now.conductor ∷ []) ∷ flat_map block_lines
+        given.now.blocks)) }
 {
     append_word(out, "characters ")?;
     append_number(out, u128::from(given.conductor))?;
@@ -62,7 +65,8 @@ fn append_block(out: &mut Vec<u8>, blocks: &Blocks, b: u32) -> Result<(), Memory
 fn append_rows(out: &mut Vec<u8>, blocks: &Blocks, b: u32) -> Result<(), Memory>
     requires listed { b < length blocks.now }
     ensures added { OnOk result
-        (out.new.items ≡ out.old.items ++ flat_map line (map row_words (block_at blocks.now b).rows)) }
+        (out.new.items ≡ out.old.items
+        ++ flat_map line (map row_words (block_at blocks.now b).rows)) }
 {
     for r in 0..blocks.rows(b) {
         append_row(out, blocks, b, r)?;
@@ -75,7 +79,8 @@ fn append_row(out: &mut Vec<u8>, blocks: &Blocks, b: u32, r: u32) -> Result<(), 
     requires listed { b < length blocks.now }
     requires row { r < length (block_at blocks.now b).rows }
     ensures added { OnOk result
-        (out.new.items ≡ out.old.items ++ line (row_words (row_at (block_at blocks.now b).rows r))) }
+        (out.new.items ≡ out.old.items
+        ++ line (row_words (row_at (block_at blocks.now b).rows r))) }
 {
     append_word(out, "row")?;
     append_values(out, blocks, b, r)?;
@@ -87,7 +92,8 @@ fn append_values(out: &mut Vec<u8>, blocks: &Blocks, b: u32, r: u32) -> Result<(
     requires listed { b < length blocks.now }
     requires row { r < length (block_at blocks.now b).rows }
     ensures added { OnOk result
-        (out.new.items ≡ out.old.items ++ flat_map (λ next. 32 ∷ next) (map value_text (row_at (block_at blocks.now b).rows r))) }
+        (out.new.items ≡ out.old.items
+        ++ flat_map (λ next. 32 ∷ next) (map value_text (row_at (block_at blocks.now b).rows r))) }
 {
     for p in 0..blocks.width(b, r) {
         append_word(out, " ")?;

@@ -136,7 +136,8 @@ impl Blocks {
         requires listed { b < length self.now }
         requires row { r < length (block_at self.now b).rows }
         requires place { p < length (row_at (block_at self.now b).rows r) }
-        ensures value { result.coefficients ≡ slice_index_or (row_at (block_at self.now b).rows r) p [] }
+        ensures value { result.coefficients
+            ≡ slice_index_or (row_at (block_at self.now b).rows r) p [] }
     {
         let place = place_of_row(&self.heads, b, r, self.rows.len() as u32);
         let (start, _) = range_of(&self.rows, place, self.values.len() as usize);

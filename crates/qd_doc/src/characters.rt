@@ -36,7 +36,8 @@ fn begins_value(bytes: &Vec<u8>, token: Token) -> bool
 fn value(bytes: &Vec<u8>, token: Token, phi: u32) -> Result<Part, DocRefusal>
     requires inside { IsWithin bytes.now.items token }
     requires powers { phi ≤ 42 }
-    ensures spelled { result ≡ unless (fault_refusal token.start (value_of phi (text_of bytes.now.items token)))
+    ensures spelled { result
+        ≡ unless (fault_refusal token.start (value_of phi (text_of bytes.now.items token)))
         (Part.Value (plain (coefficients phi (text_of bytes.now.items token)))) }
 {
     match read_plain(bytes, token.start, token.len, phi) {
@@ -96,7 +97,8 @@ fn row_class_or_end(bytes: &Vec<u8>, token: Token) -> Result<Part, DocRefusal>
 fn value_or_word(bytes: &Vec<u8>, token: Token, phi: u32) -> Result<Part, DocRefusal>
     requires inside { IsWithin bytes.now.items token }
     requires powers { phi ≤ 42 }
-    ensures said { result ≡ unless (refusal (ValueRowClassOrEnd phi) (lexeme_of bytes.now.items token))
+    ensures said { result
+        ≡ unless (refusal (ValueRowClassOrEnd phi) (lexeme_of bytes.now.items token))
         (part_of phi Stage.Row (text_of bytes.now.items token)) }
 {
     if begins_value(bytes, token) {
@@ -111,7 +113,8 @@ fn token_part(bytes: &Vec<u8>, token: Token, phi: u32, stage: Stage) -> Result<P
     requires inside { IsWithin bytes.now.items token }
     requires powers { phi ≤ 42 }
     requires word { stage ≢ Stage.Class }
-    ensures said { result ≡ unless (refusal (kind_after phi stage) (lexeme_of bytes.now.items token))
+    ensures said { result
+        ≡ unless (refusal (kind_after phi stage) (lexeme_of bytes.now.items token))
         (part_of phi stage (text_of bytes.now.items token)) }
 {
     match stage {
@@ -125,7 +128,8 @@ fn token_part(bytes: &Vec<u8>, token: Token, phi: u32, stage: Stage) -> Result<P
 fn number_part(bytes: &Vec<u8>, at: u32) -> Result<(Part, u32), DocRefusal>
     requires offset { IsOffset bytes.now.items at }
     ensures gives { Gives (λ found. (found.0, tokens_from found.1 bytes.now.items)) result
-        (read (λ text. Part.Number (value text)) (length bytes.now.items) Natural (tokens_from at bytes.now.items)) }
+        (read (λ text. Part.Number (value text)) (length bytes.now.items) Natural
+        (tokens_from at bytes.now.items)) }
     ensures offset { IfOk result (λ found. IsOffset bytes.now.items found.1) }
     ensures later { IfOk result (λ found. at < found.1) }
 {
@@ -145,7 +149,8 @@ fn next_part(bytes: &Vec<u8>, at: u32, phi: u32, stage: Stage) -> Result<(Part, 
     requires powers { phi ≤ 42 }
     requires word { stage ≢ Stage.Class }
     ensures gives { Gives (λ found. (found.0, tokens_from found.1 bytes.now.items)) result
-        (read (part_of phi stage) (length bytes.now.items) (kind_after phi stage) (tokens_from at bytes.now.items)) }
+        (read (part_of phi stage) (length bytes.now.items) (kind_after phi stage)
+        (tokens_from at bytes.now.items)) }
     ensures offset { IfOk result (λ found. IsOffset bytes.now.items found.1) }
     ensures later { IfOk result (λ found. at < found.1) }
 {
@@ -159,7 +164,8 @@ fn part(bytes: &Vec<u8>, at: u32, phi: u32, stage: Stage) -> Result<(Part, u32),
     requires offset { IsOffset bytes.now.items at }
     requires powers { phi ≤ 42 }
     ensures gives { Gives (λ found. (found.0, tokens_from found.1 bytes.now.items)) result
-        (read (part_of phi stage) (length bytes.now.items) (kind_after phi stage) (tokens_from at bytes.now.items)) }
+        (read (part_of phi stage) (length bytes.now.items) (kind_after phi stage)
+        (tokens_from at bytes.now.items)) }
     ensures offset { IfOk result (λ found. IsOffset bytes.now.items found.1) }
     ensures later { IfOk result (λ found. at < found.1) }
 {
@@ -205,7 +211,8 @@ fn blocks(alloc: Global, bytes: &Vec<u8>, at: u32, phi: u32) -> Result<(Blocks, 
     requires offset { IsOffset bytes.now.items at }
     requires powers { phi ≤ 42 }
     ensures gives { Gives (λ found. (found.0, tokens_from found.1 bytes.now.items)) result
-        (read_blocks (length bytes.now.items) phi Stage.Conductor [] (tokens_from at bytes.now.items)) }
+        (read_blocks (length bytes.now.items) phi Stage.Conductor []
+        (tokens_from at bytes.now.items)) }
     ensures offset { IfOk result (λ found. IsOffset bytes.now.items found.1) }
 {
     let mut blocks = Blocks::empty(alloc);

@@ -94,7 +94,8 @@ fn triple(order: u32, x: u32, y: u32, z: u32) -> u32
 fn next_entry(bytes: &Vec<u8>, at: u32, order: u32) -> Result<Entry, DocRefusal>
     requires offset { IsOffset bytes.now.items at }
     requires order { order ≤ 60 }
-    ensures gives { Gives (λ entry. ((entry.place, entry.exponent), tokens_from entry.next bytes.now.items)) result
+    ensures gives { Gives
+        (λ entry. ((entry.place, entry.exponent), tokens_from entry.next bytes.now.items)) result
         (read_entry (length bytes.now.items) order (tokens_from at bytes.now.items)) }
     ensures offset { IfOk result (λ entry. IsOffset bytes.now.items entry.next) }
     ensures within { IfOk result (λ entry. entry.place < order * order * order) }
@@ -122,7 +123,8 @@ fn entries(
     requires order { order ≤ 60 }
     requires all { vec_len exponents.old ≡ order * order * order }
     ensures gives { Gives (λ next. (exponents.new.items, tokens_from next bytes.now.items)) result
-        (read_entries (length bytes.now.items) order count exponents.old.items (tokens_from at bytes.now.items)) }
+        (read_entries (length bytes.now.items) order count exponents.old.items
+        (tokens_from at bytes.now.items)) }
     ensures offset { IfOk result (IsOffset bytes.now.items) }
     ensures all { vec_len exponents.new ≡ order * order * order }
 {

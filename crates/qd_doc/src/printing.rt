@@ -43,7 +43,8 @@ pub fn printed_is_read()
 /// The lines before the table.
 fn append_front(out: &mut Vec<u8>, order: u32) -> Result<(), Memory>
     ensures added { OnOk result
-        (out.new.items ≡ out.old.items ++ (codes "qdouble 1\norder " ++ (decimal order ++ codes "\ntable\n"))) }
+        (out.new.items ≡ out.old.items
+        ++ (codes "qdouble 1\norder " ++ (decimal order ++ codes "\ntable\n"))) }
 {
     append_word(out, "qdouble 1\norder ")?;
     append_number(out, u128::from(order))?;

@@ -28,7 +28,8 @@ pub fn parse(alloc: Global, bytes: &Vec<u8>, form: Form) -> Result<Document, Doc
 #[tactic(auto, unfolding(crate::specs::Reading::read_order))]
 fn order(bytes: &Vec<u8>) -> Result<Numeral, DocRefusal>
     requires offset { IsOffset bytes.now.items 0 }
-    ensures gives { Gives (λ numeral. (numeral.value, tokens_from numeral.next bytes.now.items)) result
+    ensures gives { Gives
+        (λ numeral. (numeral.value, tokens_from numeral.next bytes.now.items)) result
         (read_order (length bytes.now.items) (tokens_from 0 bytes.now.items)) }
     ensures offset { IfOk result (λ numeral. IsOffset bytes.now.items numeral.next) }
     ensures order { IfOk result (λ numeral. (1 ≤ numeral.value) × (numeral.value ≤ 60)) }
@@ -48,7 +49,8 @@ fn order(bytes: &Vec<u8>) -> Result<Numeral, DocRefusal>
 #[tactic(auto, unfolding(crate::specs::Reading::read_roots))]
 fn roots(bytes: &Vec<u8>, at: u32) -> Result<Numeral, DocRefusal>
     requires offset { IsOffset bytes.now.items at }
-    ensures gives { Gives (λ numeral. (numeral.value, tokens_from numeral.next bytes.now.items)) result
+    ensures gives { Gives
+        (λ numeral. (numeral.value, tokens_from numeral.next bytes.now.items)) result
         (read_roots (length bytes.now.items) (tokens_from at bytes.now.items)) }
     ensures offset { IfOk result (λ numeral. IsOffset bytes.now.items numeral.next) }
     ensures roots { IfOk result (λ numeral. (1 ≤ numeral.value) × (numeral.value ≤ 64)) }

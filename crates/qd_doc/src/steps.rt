@@ -26,10 +26,12 @@ pub struct Numeral {
 pub fn token(bytes: &Vec<u8>, at: u32, expected: Expected) -> Result<Token, DocRefusal>
     requires offset { IsOffset bytes.now.items at }
     ensures token { IfOk result (λ token.
-        tokens_from at bytes.now.items ≡ lexeme_of bytes.now.items token ∷ tokens_from (token.start + token.len) bytes.now.items) }
+        tokens_from at bytes.now.items
+        ≡ lexeme_of bytes.now.items token ∷ tokens_from (token.start + token.len) bytes.now.items) }
     ensures inside { IfOk result (IsWithin bytes.now.items) }
     ensures nothing { IfErr result (λ _. tokens_from at bytes.now.items ≡ []) }
-    ensures refusal { IfErr result (λ refusal. refusal ≡ DocRefusal.Syntax (length bytes.now.items) expected) }
+    ensures refusal { IfErr result
+        (λ refusal. refusal ≡ DocRefusal.Syntax (length bytes.now.items) expected) }
     ensures later { IfOk result (λ token. at < token.start + token.len) }
 {
     match next_token(bytes, at) {
@@ -105,7 +107,8 @@ fn check_value(kind: Kind, start: u32, value: u32) -> Result<(), DocRefusal>
 #[tactic(auto, using(qd_text::proofs::Digits::values), unfolding(crate::specs::Reading::read, crate::specs::Kinds::refusal, crate::specs::Kinds::missing))]
 pub fn natural(bytes: &Vec<u8>, at: u32, kind: Kind) -> Result<Numeral, DocRefusal>
     requires offset { IsOffset bytes.now.items at }
-    ensures gives { Gives (λ numeral. (numeral.value, tokens_from numeral.next bytes.now.items)) result
+    ensures gives { Gives
+        (λ numeral. (numeral.value, tokens_from numeral.next bytes.now.items)) result
         (read_number (length bytes.now.items) (what_of kind) (tokens_from at bytes.now.items)) }
     ensures offset { IfOk result (λ numeral. IsOffset bytes.now.items numeral.next) }
     ensures of_kind { IfOk result (λ numeral. IsOf kind numeral.value) }

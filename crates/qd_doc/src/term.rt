@@ -47,7 +47,8 @@ fn push_term(
     ensures each { All (IsTermOf (length great.old.items)) terms.old.items
         → All (IsTermOf (length great.new.items)) terms.new.items }
     ensures term { OnOk result
-        (AddsTerm terms.old.items terms.new.items great.new.items power (slice_index_or coefficients.now power (pos 0))) }
+        (AddsTerm terms.old.items terms.new.items great.new.items power
+        (slice_index_or coefficients.now power (pos 0))) }
 {
     let coefficient = coefficients[power as usize];
     if coefficient == 0 {
@@ -70,7 +71,8 @@ fn push_terms(
     ensures great_kept { take (length great.old.items) great.new.items ≡ great.old.items }
     ensures each { All (IsTermOf (length great.new.items)) terms.new.items }
     ensures value { OnOk result
-        (value_of_terms great.new.items (drop (length terms.old.items) terms.new.items) ≡ coefficients.now) }
+        (value_of_terms great.new.items (drop (length terms.old.items) terms.new.items)
+        ≡ coefficients.now) }
 {
     for power in 0..42 {
         push_term(terms, great, coefficients, power)?;
@@ -85,7 +87,8 @@ pub fn push_value(terms: &mut Vec<Term>, great: &mut Vec<i128>, v: &Plain) -> Re
     ensures great_kept { take (length great.old.items) great.new.items ≡ great.old.items }
     ensures each { All (IsTermOf (length great.new.items)) terms.new.items }
     ensures value { OnOk result
-        (value_of_terms great.new.items (drop (length terms.old.items) terms.new.items) ≡ v.now.coefficients) }
+        (value_of_terms great.new.items (drop (length terms.old.items) terms.new.items)
+        ≡ v.now.coefficients) }
     ensures unchanged { OnErr result (terms.new.items ≡ terms.old.items) }
 {
     let before = terms.len();
@@ -111,7 +114,8 @@ pub fn plain_of(terms: &[Term], great: &[i128]) -> Plain
 /// Puts a term into some coefficients.
 fn put(coefficients: &mut [i128; 42], great: &[i128], term: Term)
     requires term { IsTermOf (length great.now) term }
-    ensures put { coefficients.new ≡ slice_set coefficients.old (power_of term) (coefficient_of great.now term) }
+    ensures put { coefficients.new
+        ≡ slice_set coefficients.old (power_of term) (coefficient_of great.now term) }
 {
     match term {
         Term::Small { power, coefficient } => coefficients[power as usize] = i128::from(

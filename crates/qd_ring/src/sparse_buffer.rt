@@ -88,7 +88,8 @@ fn reduced_product(k: u32, buffer: &mut [i128], a: &[Monomial], b: &[Monomial]) 
     requires b_powers { All (λ term. term.power < k) b.now }
     requires room { total_of_terms a.now * total_of_terms b.now < 2 ^ 126 }
     ensures array { is_array k result ≡ true }
-    ensures value { cyclotomic_value k result ≡ value_product (cyclotomic k) (value_of_terms k a.now)
+    ensures value { cyclotomic_value k result
+        ≡ value_product (cyclotomic k) (value_of_terms k a.now)
         (value_of_terms k b.now) }
 {
     add_product(k, buffer, a, b, 0);
@@ -103,7 +104,8 @@ pub(crate) fn product(k: u32, a: &[Monomial], b: &[Monomial]) -> [i128; 42]
     requires b_powers { All (λ term. term.power < k) b.now }
     requires room { total_of_terms a.now * total_of_terms b.now < 2 ^ 126 }
     ensures array { is_array k result ≡ true }
-    ensures value { cyclotomic_value k result ≡ value_product (cyclotomic k) (value_of_terms k a.now)
+    ensures value { cyclotomic_value k result
+        ≡ value_product (cyclotomic k) (value_of_terms k a.now)
         (value_of_terms k b.now) }
 {
     let mut buffer = [0i128; 120];

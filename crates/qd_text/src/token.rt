@@ -19,7 +19,8 @@ pub fn next_token(bytes: &Vec<u8>, from: u32) -> Option<Token>
     ensures none { IfNone result (tokens_from from bytes.now.items ≡ []) }
     // The tokens are this one, and then those from its end on.
     ensures token { IfSome result (λ token.
-        tokens_from from bytes.now.items ≡ lexeme_of bytes.now.items token ∷ tokens_from (token.start + token.len) bytes.now.items) }
+        tokens_from from bytes.now.items
+        ≡ lexeme_of bytes.now.items token ∷ tokens_from (token.start + token.len) bytes.now.items) }
     ensures inside { IfSome result (IsWithin bytes.now.items) }
     ensures later { IfSome result (λ token. from ≤ token.start) }
 {

@@ -9,7 +9,8 @@ pub fn first_below<T, F: Fn(u32) -> Option<T>>(n: u32, at: F) -> Option<T>
 where
     F: Drop,
     requires callable { (i : ℕ) → i < n → F.pre at i }
-    ensures least { (found : ℕ → Option T) → ((i : ℕ) (r : Option T) → i < n → F.post at i r → r ≡ found i) → result ≡ first n found }
+    ensures least { (found : ℕ → Option T)
+        → ((i : ℕ) (r : Option T) → i < n → F.post at i r → r ≡ found i) → result ≡ first n found }
 {
     for i in 0..n {
         let Some(fault) = at(i) else { continue };
@@ -23,7 +24,8 @@ pub fn holds_below<F: Fn(u32) -> bool>(n: u32, test: F) -> bool
 where
     F: Drop,
     requires callable { (i : ℕ) → i < n → F.pre test i }
-    ensures all { (holds : ℕ → Bool) → ((i : ℕ) (r : Bool) → i < n → F.post test i r → r ≡ holds i) → result ≡ all_below n holds }
+    ensures all { (holds : ℕ → Bool) → ((i : ℕ) (r : Bool) → i < n → F.post test i r → r ≡ holds i)
+        → result ≡ all_below n holds }
 {
     for i in 0..n {
         if !test(i) {

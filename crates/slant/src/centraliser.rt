@@ -27,7 +27,8 @@ fn place_in(elements: &Nats, x: u32) -> Option<u32>
 
 /// The place of the product of the elements at two places, among these.
 fn product_place(group: &Group, elements: &Nats, p: u32, r: u32) -> u32
-    requires elements { (q : ℕ) → q < length elements.now → slice_index elements.now q < group.now.order }
+    requires elements { (q : ℕ) → q < length elements.now
+        → slice_index elements.now q < group.now.order }
     requires p_below { p < length elements.now }
     requires r_below { r < length elements.now }
     ensures place { result ≡ product_place group.now elements.now p r }
@@ -38,7 +39,8 @@ fn product_place(group: &Group, elements: &Nats, p: u32, r: u32) -> u32
 
 /// The group of these elements, on their places.
 fn places_group(alloc: Global, group: &Group, elements: &Nats) -> Result<Group, Memory>
-    requires elements { (q : ℕ) → q < length elements.now → slice_index elements.now q < group.now.order }
+    requires elements { (q : ℕ) → q < length elements.now
+        → slice_index elements.now q < group.now.order }
     requires small { IsSmall (length elements.now) }
     requires lawful { IsGroup (table_of group.now elements.now) }
     ensures group { IfOk result (λ places. places ≡ table_of group.now elements.now) }
@@ -51,9 +53,11 @@ fn places_group(alloc: Global, group: &Group, elements: &Nats) -> Result<Group, 
 /// The slant product at `a` of these elements, for each pair of their places.
 fn phases(alloc: Global, w: &Cocycle, a: u32, elements: &Nats) -> Result<Nats, Memory>
     requires a_below { a < w.now.group.order }
-    requires elements { (q : ℕ) → q < length elements.now → slice_index elements.now q < w.now.group.order }
+    requires elements { (q : ℕ) → q < length elements.now
+        → slice_index elements.now q < w.now.group.order }
     requires small { IsSmall (length elements.now) }
-    ensures phases { IfOk result (λ phases. phases ≡ by_pairs (length elements.now) (phase_at w.now a elements.now)) }
+    ensures phases { IfOk result
+        (λ phases. phases ≡ by_pairs (length elements.now) (phase_at w.now a elements.now)) }
 {
     Nats::by_pairs(
         alloc,

@@ -31,7 +31,8 @@ impl<const K: u32> Model for Conjugated<K> {
 
     ghost view = { λ t. t.candidate };
 
-    ghost invariant = { λ t. IsShaped K t.candidate × AreConjugates K t.candidate t.conjugates.items };
+    ghost invariant = { λ t.
+        IsShaped K t.candidate × AreConjugates K t.candidate t.conjugates.items };
 }
 
 /// The conjugates of row `i`.

@@ -66,7 +66,13 @@ fn product_term<R: Ring>(
     requires a_values { All (R.IsValue ring.now) a.now }
     requires b_values { All (R.IsValue ring.now) b.now }
     ensures value { IfSome result (λ term. R.IsValue ring.now term) }
-    ensures term { let p = coefficient (R.of ring.now) (R.ops ring.now).nought a.now in let r = coefficient (R.of ring.now) (R.ops ring.now).nought b.now in let z = left_quotient twist.now y x in IsTerm (R.of ring.now) (term_fits (R.ops ring.now) (R.rules ring.now) (R.unit ring.now).root (exponent (R.order ring.now) twist.now (phase twist.now y z)) (p y) (r z)) (product_term (R.ops ring.now) (R.unit ring.now) twist.now p r x y) result }
+    ensures term { let p = coefficient (R.of ring.now) (R.ops ring.now).nought a.now
+        in let r = coefficient (R.of ring.now) (R.ops ring.now).nought b.now
+        in let z = left_quotient twist.now y x
+        in IsTerm (R.of ring.now)
+        (term_fits (R.ops ring.now) (R.rules ring.now) (R.unit ring.now).root
+        (exponent (R.order ring.now) twist.now (phase twist.now y z)) (p y) (r z))
+        (product_term (R.ops ring.now) (R.unit ring.now) twist.now p r x y) result }
 {
     let z = left_quotient(twist, y, x);
     let e = exponent(ring, twist, twist.phase(y, z));
@@ -81,8 +87,16 @@ fn product_at<R: Ring>(ring: &R, twist: &Twist, a: &Elem<R>, b: &Elem<R>, x: u32
     requires a_values { All (R.IsValue ring.now) a.now }
     requires b_values { All (R.IsValue ring.now) b.now }
     ensures value { IfSome result (λ sum. R.IsValue ring.now sum) }
-    ensures overflow { let p = coefficient (R.of ring.now) (R.ops ring.now).nought a.now in let r = coefficient (R.of ring.now) (R.ops ring.now).nought b.now in IfNone result (product_overflows (R.ops ring.now) (R.unit ring.now) twist.now (R.rules ring.now) p r x ≡ true) }
-    ensures sum { let p = coefficient (R.of ring.now) (R.ops ring.now).nought a.now in let r = coefficient (R.of ring.now) (R.ops ring.now).nought b.now in IfSome result (λ sum. R.of ring.now sum ≡ twisted_product (R.ops ring.now) (R.unit ring.now) twist.now p r x) }
+    ensures overflow { let p = coefficient (R.of ring.now) (R.ops ring.now).nought a.now
+        in let r = coefficient (R.of ring.now) (R.ops ring.now).nought b.now
+        in IfNone result
+        (product_overflows (R.ops ring.now) (R.unit ring.now) twist.now (R.rules ring.now) p r x
+        ≡ true) }
+    ensures sum { let p = coefficient (R.of ring.now) (R.ops ring.now).nought a.now
+        in let r = coefficient (R.of ring.now) (R.ops ring.now).nought b.now
+        in IfSome result
+        (λ sum.
+        R.of ring.now sum ≡ twisted_product (R.ops ring.now) (R.unit ring.now) twist.now p r x) }
 {
     try_sum_below(
         ring,
@@ -110,8 +124,21 @@ pub fn mul<R: Ring>(
     requires b_values { All (R.IsValue ring.now) b.now }
     ensures size { IfOk result (λ product. length product ≡ size twist.now) }
     ensures values { IfOk result (λ product. All (R.IsValue ring.now) product) }
-    ensures product { let p = coefficient (R.of ring.now) (R.ops ring.now).nought a.now in let r = coefficient (R.of ring.now) (R.ops ring.now).nought b.now in IfOk result (λ product. (x : ℕ) → x < size twist.now → coefficient (R.of ring.now) (R.ops ring.now).nought product x ≡ twisted_product (R.ops ring.now) (R.unit ring.now) twist.now p r x) }
-    ensures refused { let p = coefficient (R.of ring.now) (R.ops ring.now).nought a.now in let r = coefficient (R.of ring.now) (R.ops ring.now).nought b.now in IfErr result (λ refusal. Refuses refusal (λ place. (place < size twist.now) × (product_overflows (R.ops ring.now) (R.unit ring.now) twist.now (R.rules ring.now) p r place ≡ true))) }
+    ensures product { let p = coefficient (R.of ring.now) (R.ops ring.now).nought a.now
+        in let r = coefficient (R.of ring.now) (R.ops ring.now).nought b.now
+        in IfOk result
+        (λ product.
+        (x : ℕ) → x < size twist.now → coefficient (R.of ring.now) (R.ops ring.now).nought product x
+        ≡ twisted_product (R.ops ring.now) (R.unit ring.now) twist.now p r x) }
+    ensures refused { let p = coefficient (R.of ring.now) (R.ops ring.now).nought a.now
+        in let r = coefficient (R.of ring.now) (R.ops ring.now).nought b.now
+        in IfErr result
+        (λ refusal.
+        Refuses refusal
+        (λ place.
+        (place < size twist.now)
+        × (product_overflows (R.ops ring.now) (R.unit ring.now) twist.now (R.rules ring.now) p r
+        place ≡ true))) }
 {
     let mut product = Elem::zero(alloc, ring, twist)?;
     for place in 0..twist.size() {

@@ -53,7 +53,8 @@ pub fn is_regular(twist: &Twist, p: u32) -> bool
 /// Whether no conjugate of the place `p` is lower.
 fn is_least(twist: &Twist, p: u32) -> bool
     requires p_below { p < size twist.now }
-    ensures least { result ≡ all_below (size twist.now) (λ c. nat_le p (conjugate twist.now.group c p)) }
+    ensures least { result
+        ≡ all_below (size twist.now) (λ c. nat_le p (conjugate twist.now.group c p)) }
     ensures twist { IsTwist twist.now }
 {
     holds_below(twist.size(), |c| p <= conjugate(twist.group(), c, p))
@@ -72,7 +73,9 @@ fn is_representative(twist: &Twist, p: u32) -> bool
 /// Whether the place `p` represents a regular class other than that of the identity.
 fn is_other_regular(twist: &Twist, p: u32) -> bool
     requires p_below { p < size twist.now }
-    ensures other { result ≡ (((representative_of twist.now.group p == p) && not (p == identity_of twist.now.group)) && is_regular twist.now p) }
+    ensures other { result
+        ≡ (((representative_of twist.now.group p == p) && not (p == identity_of twist.now.group))
+        && is_regular twist.now p) }
 {
     is_representative(twist, p) && p != twist.group().identity() && is_regular(twist, p)
 }

@@ -23,8 +23,14 @@ pub fn class_sum<R: Ring>(alloc: Global, ring: &R, twist: &Twist, p: u32) -> Res
     requires regular { is_regular twist.now p ≡ true }
     ensures size { IfOk result (λ sum. length sum ≡ size twist.now) }
     ensures values { IfOk result (λ sum. All (R.IsValue ring.now) sum) }
-    ensures sum { IfOk result (λ sum. (y : ℕ) → y < size twist.now → coefficient (R.of ring.now) (R.ops ring.now).nought sum y ≡ class_sum (R.ops ring.now) (R.unit ring.now) twist.now p y) }
-    ensures central { IfOk result (λ sum. IsCentral (R.ops ring.now) (R.unit ring.now) twist.now (coefficient (R.of ring.now) (R.ops ring.now).nought sum)) }
+    ensures sum { IfOk result
+        (λ sum.
+        (y : ℕ) → y < size twist.now → coefficient (R.of ring.now) (R.ops ring.now).nought sum y
+        ≡ class_sum (R.ops ring.now) (R.unit ring.now) twist.now p y) }
+    ensures central { IfOk result
+        (λ sum.
+        IsCentral (R.ops ring.now) (R.unit ring.now) twist.now
+        (coefficient (R.of ring.now) (R.ops ring.now).nought sum)) }
 {
     let mut sum = Elem::zero(alloc, ring, twist)?;
     for c in 0..twist.size() {

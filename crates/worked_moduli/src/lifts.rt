@@ -30,7 +30,8 @@ fn is_below(central: &Central, width: u32, q: u32, i: u32) -> bool
 /// Whether all values are below `q`.
 fn are_below(central: &Central, width: u32, q: u32) -> bool
     requires width { central.now.width ≡ width }
-    ensures below { IsTrue result → (i t : ℕ) → i < length central.now.lists → t < width → central_value central.now i t < q }
+    ensures below { IsTrue result → (i t : ℕ) → i < length central.now.lists → t < width
+        → central_value central.now i t < q }
 {
     for i in 0..central.count() {
         if !is_below(central, width, q, i) {
