@@ -4,13 +4,7 @@ use Rattle.slant.specs.Twists.{twist_of}
 
 -- one element stands at one place
 pub element_injective : (t : TwistedSubgroup) → IsTwist t → (p r : ℕ) → p < size t → r < size t → element t p ≡ element t r → p ≡ r
-element_injective t twist p r p_below r_below e =
-    equal p r
-    (λ less. let up : element t p < element t r = twist.ascending p r less r_below in omega (arith, e, up))
-    (λ less. let up : element t r < element t p = twist.ascending r p less p_below in omega (arith, e, up))
-  where
-    equal : (x y : ℕ) → (x < y → ⊥) → (y < x → ⊥) → x ≡ y
-    equal x y not_below not_above = omega arith
+element_injective t twist p r p_below r_below e = grind (arith, e, twist.ascending p r, twist.ascending r p)
 
 -- the place of the element at a place
 pub place_of_element : (t : TwistedSubgroup) → IsTwist t → (p : ℕ) → p < size t → unwrap_or (place_of t (element t p)) 0 ≡ p

@@ -10,12 +10,8 @@ use Rattle.transport.proofs.GoodTables.{first, vacuum}
 member_injective : (t : Table) (a p r : ℕ) → p < length (members_of t a) → r < length (members_of t a) → get_or (members_of t a) p 0 ≡ get_or (members_of t a) r 0 → p ≡ r
 unfolding members_of
 member_injective t a p r p_below r_below e =
-    equal p r
-    (λ less. let up = passing_below-ascending t.order (is_conjugate t a) p r less r_below in omega (arith, e, up))
-    (λ less. let up = passing_below-ascending t.order (is_conjugate t a) r p less p_below in omega (arith, e, up))
-  where
-    equal : (x y : ℕ) → (x < y → ⊥) → (y < x → ⊥) → x ≡ y
-    equal x y not_below not_above = omega arith
+    let up = passing_below-ascending t.order (is_conjugate t a) in
+    grind (arith, e, up p r, up r p)
 
 module _ (k : ℕ) (s : SimplesOver) (S : AreSimples k s) where
   abbrev T : Setting (CyclotomicValue k) (Below s.cocycle.group.order)

@@ -1,6 +1,5 @@
 -- The twisted quantum double of a cocycle, as the setting of full characters.
-use Rattle.transport.proofs.Names.{◌≡◌, ℕ, ◌+◌, ◌-◌, ◌*◌, ◌/◌, ◌%◌, ◌<◌, true, refl, sym, ap, ◌∙◌, arith, zero-mul, mul_comm, mul_assoc, Below, below_equal, finite_below, representative_of, transporter_of, transporter_is, Cochain, IsCocycle, is_conductor, cyclotomic, CyclotomicValue, cyclotomic_ring, root, root_modulo, root_conjugate, conjugation, group, exponent, Setting, Classes, div-add-mod, add-mul, mul-add-mod_self_left, representative_below, representative_of_conjugate, three_cocycle, classes_by_conjugates, root_exponent}
-use Rattle.algebra.specs.Involutions.{Involution}
+use Rattle.transport.proofs.Names.{◌≡◌, ℕ, ◌+◌, ◌*◌, ◌/◌, ◌%◌, ◌<◌, true, refl, sym, ap, ◌∙◌, arith, zero-mul, mul_comm, mul_assoc, Below, below_equal, finite_below, representative_of, transporter_of, transporter_is, Cochain, IsCocycle, is_conductor, cyclotomic, CyclotomicValue, cyclotomic_ring, root, root_modulo, root_conjugate, conjugation, group, exponent, Setting, Classes, div-add-mod, add-mul, mul-add-mod_self_left, representative_below, representative_of_conjugate, three_cocycle, classes_by_conjugates, root_exponent}
 use Rattle.algebra.specs.Roots.{Roots}
 use Rattle.algebra.specs.Congruences.{Same}
 use Rattle.classes.specs.Conjugacy.{conjugate}

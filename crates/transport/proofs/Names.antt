@@ -47,14 +47,15 @@ pub use Rattle.slant.proofs.TwistLaws.{centraliser_is_twist, elements_commute, i
 unfoldable pub use Rattle.slant.specs.Phases.{gamma, kappa, theta, transport_phase}
 pub use Rattle.slant.specs.Phases.{carried}
 unfoldable pub use Rattle.slant.specs.Twists.{twist_of as twisted_centraliser}
-pub use Rattle.std.proofs.Common.{Bool, List, None, Option, Some, [], add-one, ap, append_assoc, ap₂, arith, cond, eq-eqb, eqb-true, false, get_or, le_trans, length, length-append, map, nat_eq, nat_le, not, pred, refl, rules, subst, suc, sym, true, vec_len, zero, zero-add, ℕ, ◌%◌, ◌&&◌, ◌*◌, ◌++◌, ◌+◌, ◌-◌, ◌/◌, ◌<◌, ◌==◌, ◌∙◌, ◌∷◌, ◌≡◌, ◌≤◌}
+pub use Rattle.std.proofs.Common.{Bool, List, None, Option, Some, [], add-one, ap, append_assoc, ap₂, arith, cond, eq-eqb, eqb-true, false, get_or, le_trans, length, length-append, map, nat_eq, nat_le, not, pred, refl, rules, subst, suc, sym, take, true, vec_len, zero, zero-add, ℕ, ◌%◌, ◌&&◌, ◌*◌, ◌++◌, ◌+◌, ◌-◌, ◌/◌, ◌<◌, ◌==◌, ◌∙◌, ◌∷◌, ◌≡◌, ◌≤◌}
 pub use Rattle.std.proofs.Math.Nat.{add-mul, div-add-mod, le_refl, mul-add-mod_self_left, mul-div_cancel, mul-le-mul, mul-one, mul_assoc, mul_comm, zero-mul}
+pub use Rattle.std.proofs.lemmas.Bool.{and_from, and_right, cases_eq, cases_lt, cond_both, le-leb, leb-true, ne_eqb}
 pub use Rattle.std.proofs.lemmas.Grind.{get_or_default_zero}
-pub use Rattle.std.proofs.lemmas.List.{get_or-map, get_or_default, length-map, map-append}
+pub use Rattle.std.proofs.lemmas.List.{get_or-map, get_or-take, get_or_default, length-map, length-take, map-append}
 pub use Rattle.std.proofs.lemmas.List.Elements.{All-append, All-get_or, All-nil, Contains-append_left, Contains-append_right, Contains-get_or}
-pub use Rattle.std.proofs.lemmas.List.FromFn.{get_or-map-range_with_len, length-map-range_with_len, map-range_with_len_more}
+pub use Rattle.std.proofs.lemmas.List.FromFn.{get_or-map-range_with_len, length-map-range_with_len, map-range_with_len_more, sum_by-map-range_with_len_more}
 pub use Rattle.std.proofs.lemmas.List.Sorted.{All-permutation, Contains-permutation, IsPermutation-cons, IsPermutation-map, IsPermutation-refl, IsPermutation-swap, IsPermutation-trans, ranks_by, sorted_far, sum_by-IsPermutation}
-pub use Rattle.std.proofs.lemmas.List.Sums.{count_by-le-length, sum_by-append, sum_by-cons, sum_by_push}
+pub use Rattle.std.proofs.lemmas.List.Sums.{count_by-le-length, get_or-le-sum_by, sum_by-append, sum_by-cons, sum_by_more_le}
 pub use Rattle.std.specs.Cmp.{IsStrictWeakOrder, IsTotalOrder, bool_cmp_total, int_cmp_total, nat_cmp_total, on_total, then_total, tied_itself}
 pub use Rattle.std.specs.Cmp.Lexicographic.{lists_total, slice_cmp}
 pub use Rattle.std.specs.List.{All, Contains, range_with_len, sum_by}

@@ -1,5 +1,5 @@
 -- The rows of the tables of the first classes.
-use Rattle.transport.proofs.Names.{◌≡◌, ℕ, zero, suc, ◌+◌, ◌<◌, List, [], ◌++◌, refl, arith, ◌⊎◌, inl, inr, RowsOver, table_at, rows_of, rows_below}
+use Rattle.transport.proofs.Names.{◌≡◌, ℕ, suc, ◌+◌, ◌<◌, List, [], ◌++◌, refl, arith, ◌⊎◌, inl, inr, ⊎_elim, cases_lt, RowsOver, table_at, rows_of, rows_below}
 
 pub rows_below-zero : (k : ℕ) (tables : List RowsOver) → rows_below k 0 tables ≡ []
 unfolding rows_below
@@ -11,11 +11,4 @@ rows_below-suc k c tables = refl
 
 -- a number below c + 1 is below c, or c
 pub last_or_less : (n c : ℕ) → n < c + 1 → (n < c) ⊎ (n ≡ c)
-last_or_less zero zero below = inr refl
-last_or_less zero (suc c) below = inl (omega arith)
-last_or_less (suc n) zero below = absurd (omega (arith, below))
-last_or_less (suc n) (suc c) below = by (last_or_less n c (omega (arith, below)))
-  where
-    by : (n < c) ⊎ (n ≡ c) → (suc n < suc c) ⊎ (suc n ≡ suc c)
-    by (inl less) = inl (omega (arith, less))
-    by (inr e) = inr (omega (arith, e))
+last_or_less n c below = ⊎_elim inl (λ past. inr (omega (arith, past, below))) (cases_lt n c)

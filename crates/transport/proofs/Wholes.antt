@@ -1,5 +1,5 @@
 -- Whole numbers as values of the cyclotomic ring.
-use Rattle.transport.proofs.Names.{◌≡◌, ℕ, zero, suc, ◌+◌, ◌-◌, ◌*◌, ◌<◌, true, refl, sym, ap, ap₂, ◌∙◌, arith, CommRing, sum_below, multiple, sum_zero, sum_suc, multiple_zero, multiple_is_mul, is_conductor, cyclotomic, value_one, value_nought, CyclotomicValue, cyclotomic_ring, conjugate, whole, conjugation, multiple_add, multiple_multiple, multiple_map, whole_apart, sum_numbers}
+use Rattle.transport.proofs.Names.{◌≡◌, ℕ, zero, suc, ◌+◌, ◌-◌, ◌*◌, ◌<◌, true, sym, ap, ap₂, ◌∙◌, arith, CommRing, sum_below, multiple, sum_zero, sum_suc, multiple_zero, multiple_is_mul, is_conductor, cyclotomic, value_one, value_nought, CyclotomicValue, cyclotomic_ring, conjugate, whole, conjugation, multiple_add, multiple_multiple, multiple_map, whole_apart, sum_numbers}
 use Rattle.algebra.proofs.RingLaws.{add_fixed}
 use Rattle.algebra.proofs.InvolutionLaws.{bar_one}
 use Rattle.transport.proofs.DoubleSimples.{whole_multiple}
@@ -41,12 +41,9 @@ module _ (k : ℕ) where
     differ a d e =
         whole_apart k entry 1 (omega arith) ((torsion_free k).cancel (suc d) one (omega arith) (sym (whole_multiple k (suc d)) ∙ add_fixed R (whole k a) (whole k (suc d)) (sym (whole_sum a (suc d)) ∙ sym e)))
 
-    less_differ : (a b : ℕ) → a < b → whole k a ≡ whole k b → ⊥
-    less_differ a b less e = let same : b ≡ a + suc (b - a - 1) = omega (arith, less) in differ a (b - a - 1) (e ∙ ap (whole k) same)
-
     -- whole numbers that are one value are equal
     pub whole_injective : (a b : ℕ) → whole k a ≡ whole k b → a ≡ b
-    whole_injective a b e = equal a b (λ less. less_differ a b less e) (λ less. less_differ b a less (sym e))
+    whole_injective a b e = omega (arith, less_differ a b e, less_differ b a (sym e))
       where
-        equal : (x y : ℕ) → (x < y → ⊥) → (y < x → ⊥) → x ≡ y
-        equal x y not_below not_above = omega arith
+        less_differ : (a b : ℕ) → whole k a ≡ whole k b → a < b → ⊥
+        less_differ a b e less = differ a (b - a - 1) (e ∙ ap (whole k) (omega (arith, less)))
