@@ -1,6 +1,5 @@
 -- The simples by good tables, as simples of the twisted quantum double of a cocycle.
-use Rattle.transport.proofs.Names.{◌≡◌, ℕ, zero, suc, ◌*◌, ◌/◌, ◌%◌, ◌<◌, ◌≤◌, Bool, true, ◌&&◌, nat_le, Option, Some, None, [], ◌∷◌, refl, sym, ap, ap₂, ◌∙◌, arith, subst, unwrap_or, ℤ, List, add-one, mul-le-mul, multiple_zero, and_true, first_some, first_finds, multiple, Group, Below, below_equal, identity_of, identity_below, representative_at, representative_at_is, Cochain, IsCocycle, cyclotomic, value_one, value_product, CyclotomicValue, cyclotomic_ring, root, TwistedSubgroup, size, element, place_of, IsTwist, place_group, identities_agree, group, exponent, Characters, is_same, where_holds, degree_of, whole, IsGood, is_same-Decides, Setting, Commuting, slant_root, conjugation_root, commute_of, commute_true, pos, ◌+ℤ◌, le_refl, mul-one, multiple_suc, value_of-scaled, scale_zero, scale_sum, scale_one, IsRepresentative, with_phase, conjugate_value_at, central_left, central_right, conjugate_value, phase, phase_exponent, twisted_centraliser, products_agree, phases_agree, theta_is, slant_phase, IsDegree, IsSubgroup, Simples, SimplesOver, Simple, count, class_at, over_at, characters_at, degree_at, value_at, simple_at, AreSimples, root_exponent, element_value}
-use Rattle.std.proofs.lemmas.Bool.{le-leb, leb-true}
+use Rattle.transport.proofs.Names.{◌≡◌, ℕ, zero, suc, ◌*◌, ◌/◌, ◌%◌, ◌<◌, ◌≤◌, Bool, true, ◌&&◌, nat_le, Option, Some, None, [], ◌∷◌, refl, sym, ap, ap₂, ◌∙◌, arith, subst, unwrap_or, ℤ, List, add-one, mul-le-mul, multiple_zero, and_true, first_some, first_finds, multiple, Group, Below, below_equal, identity_of, identity_below, representative_at, representative_at_is, Cochain, IsCocycle, cyclotomic, value_one, value_product, CyclotomicValue, cyclotomic_ring, root, TwistedSubgroup, size, element, place_of, IsTwist, place_group, identities_agree, group, exponent, Characters, is_same, where_holds, degree_of, whole, IsGood, is_same-Decides, Setting, Commuting, slant_root, conjugation_root, commute_of, commute_true, pos, ◌+ℤ◌, le_refl, mul-one, multiple_suc, value_of-scaled, scale_zero, scale_sum, scale_one, IsRepresentative, with_phase, conjugate_value_at, central_left, central_right, conjugate_value, phase, phase_exponent, twisted_centraliser, products_agree, phases_agree, theta_is, slant_phase, IsDegree, IsSubgroup, Simples, SimplesOver, Simple, count, class_at, over_at, characters_at, degree_at, value_at, simple_at, AreSimples, root_exponent, element_value, le-leb, leb-true}
 use Rattle.cyclotomic.specs.Polynomial.{scaled}
 use Rattle.cyclotomic.specs.Laws.Polynomials.{scaled-cons}
 use Rattle.cyclotomic.specs.Laws.Integers.{times_comm, one_times}

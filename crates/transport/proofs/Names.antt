@@ -49,7 +49,7 @@ pub use Rattle.slant.specs.Phases.{carried}
 unfoldable pub use Rattle.slant.specs.Twists.{twist_of as twisted_centraliser}
 pub use Rattle.std.proofs.Common.{Bool, List, None, Option, Some, [], add-one, ap, append_assoc, ap₂, arith, cond, eq-eqb, eqb-true, false, get_or, le_trans, length, length-append, map, nat_eq, nat_le, not, pred, refl, rules, subst, suc, sym, take, true, vec_len, zero, zero-add, ℕ, ◌%◌, ◌&&◌, ◌*◌, ◌++◌, ◌+◌, ◌-◌, ◌/◌, ◌<◌, ◌==◌, ◌∙◌, ◌∷◌, ◌≡◌, ◌≤◌}
 pub use Rattle.std.proofs.Math.Nat.{add-mul, div-add-mod, le_refl, mul-add-mod_self_left, mul-div_cancel, mul-le-mul, mul-one, mul_assoc, mul_comm, zero-mul}
-pub use Rattle.std.proofs.lemmas.Bool.{and_from, and_right, cases_eq, cases_lt, cond_both, le-leb, leb-true, ne_eqb}
+pub use Rattle.std.proofs.lemmas.Bool.{and_right, cases_eq, cases_lt, le-leb, leb-true, ne_eqb}
 pub use Rattle.std.proofs.lemmas.Grind.{get_or_default_zero}
 pub use Rattle.std.proofs.lemmas.List.{get_or-map, get_or-take, get_or_default, length-map, length-take, map-append}
 pub use Rattle.std.proofs.lemmas.List.Elements.{All-append, All-get_or, All-nil, Contains-append_left, Contains-append_right, Contains-get_or}
