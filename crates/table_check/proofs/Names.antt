@@ -1,5 +1,5 @@
 -- The names of libraries and of this crate's definitions that the proofs cite.
-pub use Rattle.std.proofs.Common.{◌≡◌, ◌≢◌, ◌<◌, ◌≤◌, ◌+◌, ◌-◌, ◌*◌, ◌%◌, ◌&&◌, ◌==◌, ℕ, zero, suc, Bool, true, false, Option, Some, None, Err, List, [], ◌∷◌, ◌++◌, length, map, get_or, vec_len, slice_index, refl, ap, sym, subst, ◌∙◌, rules, arith, zero-add, nat_le, if◌then◌else◌, lit<, lit≤}
+pub use Rattle.std.proofs.Common.{◌≡◌, ◌≢◌, ◌<◌, ◌≤◌, ◌+◌, ◌-◌, ◌*◌, ◌%◌, ◌&&◌, ◌==◌, ℕ, zero, suc, Bool, true, false, Option, Some, None, Err, List, [], ◌∷◌, ◌++◌, length, map, get_or, slice_index, refl, ap, sym, subst, ◌∙◌, rules, arith, zero-add, nat_le, if◌then◌else◌, lit<, lit≤}
 pub use Rattle.std.specs.Prelude.{is_some, IfSome, ℤ, pos, nat_lt, Decides}
 pub use Rattle.std.specs.List.{range_with_len, list_all}
 pub use Rattle.std.specs.Global.{Vec}
@@ -26,7 +26,7 @@ pub use Rattle.twisted.specs.Regular.{rank, kappa}
 pub use Rattle.twisted.specs.Algebra.{left_quotient, exponent}
 pub use Rattle.table_check.specs.Formed.{Formed, Forms, given, whole, conjugated, multiplied, turned, where_so}
 pub use Rattle.table_check.specs.Characters.{Characters, RowsOver, IsShaped, characters_of}
-pub use Rattle.table_check.specs.Sides.{right_quotient, degree_value, conjugate_value, unitary_left, unitary_right, twist_left, twist_right, central_left, central_right, product_term, product_sum, product_left, product_right, sum_term, sum_left, sum_right, row_term, column_term, column_left, column_right}
+pub use Rattle.table_check.specs.Sides.{right_quotient, conjugate_value, unitary_left, unitary_right, twist_left, twist_right, central_left, central_right, product_term, product_sum, product_left, product_right, sum_term, sum_left, sum_right, row_term, column_term, column_left, column_right}
 pub use Rattle.table_check.specs.Good.{IsDegree, IsVacuum, IsGood}
 pub use Rattle.table_check.specs.Check.{is_same, where_holds, unless_holds, agree, degree_of, twist_of, twists_fit, is_vacuum, has_vacuum, count_miss, degree_at, degree_miss, unitary_at, unitary_miss, twist_at, twist_miss, central_at, central_miss, product_at, product_miss, sum_at, sum_miss, column_at, column_miss, vacuum_miss, row_miss, algebra_miss, table_miss}
 pub use Rattle.table_check.specs.Answers.{clause_of, left_of, right_of, site_of, fit_at, equation_miss, Finds, Checks}
