@@ -1,5 +1,5 @@
 -- Conjugates that are kept.
-use Rattle.table_check.proofs.Names.{◌≡◌, ◌<◌, ◌+◌, ◌&&◌, ℕ, true, Some, None, List, [], ◌∷◌, ◌++◌, length, map, ap, ap₂, sym, ◌∙◌, zero-add, get_or, range_with_len, Vec, map-append, length-map, get_or-map, first, first_none-at, and_true, passes, cyclotomic_value, conjugate, value_fits, TwistedSubgroup, size, Characters, RowsOver, characters_of, is_same, agree, unitary_at, unitary_miss, Forms, unitary_left, unitary_right, Cyc, IsSparseOf, values_of, conjugate_row, conjugate_value}
+use Rattle.table_check.proofs.Names.{◌≡◌, ◌<◌, ◌+◌, ℕ, true, Some, None, List, [], ◌∷◌, ◌++◌, length, map, ap, ap₂, sym, ◌∙◌, zero-add, get_or, range_with_len, Vec, map-append, length-map, get_or-map, first, first_none-at, and_true, passes, cyclotomic_value, conjugate, value_fits, TwistedSubgroup, size, Characters, RowsOver, characters_of, is_same, agree, unitary_at, unitary_miss, Forms, unitary_left, unitary_right, Cyc, IsSparseOf, values_of, conjugate_row, conjugate_value}
 use Rattle.std.proofs.lemmas.List.FromFn.{map-range_with_len_more, length-map-range_with_len, get_or-map-range_with_len}
 use Rattle.qd_ring.specs.ArrayLaws.{array_fits}
 use Rattle.table_check.specs.declared.kept.Kept.{Kept}

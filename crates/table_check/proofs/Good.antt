@@ -1,5 +1,5 @@
 -- Where nothing is missed, the table is good.
-use Rattle.table_check.proofs.Names.{◌≡◌, ◌≤◌, ◌<◌, ◌*◌, ◌&&◌, ℕ, suc, Bool, true, Option, Some, None, subst, eqb-true, eq-eqb, if◌then◌else◌, nat_le, is_some, leb-true, first, first_none-at, first_some, or_none, and_true, all_below-at, passes, let_through, some_of, identity_of, cyclotomic, value_one, CyclotomicValue, TwistedSubgroup, size, element, rank, Characters, Formed, whole, unitary_left, unitary_right, twist_left, twist_right, central_left, central_right, product_left, product_right, sum_left, sum_right, column_left, column_right, IsVacuum, IsGood, is_same, where_holds, unless_holds, agree, degree_of, twist_of, is_vacuum, has_vacuum, count_miss, degree_at, degree_miss, unitary_miss, twists_fit, twist_at, twist_miss, central_miss, product_miss, sum_miss, column_miss, vacuum_miss, row_miss, algebra_miss, Miss, Vacuum}
+use Rattle.table_check.proofs.Names.{◌≡◌, ◌≤◌, ◌<◌, ◌*◌, ◌&&◌, ℕ, suc, true, Option, Some, None, subst, eqb-true, eq-eqb, if◌then◌else◌, nat_le, is_some, leb-true, first, first_none-at, first_some, or_none, and_true, all_below-at, passes, let_through, some_of, identity_of, cyclotomic, value_one, CyclotomicValue, TwistedSubgroup, size, element, rank, Characters, Formed, whole, unitary_left, unitary_right, twist_left, twist_right, central_left, central_right, product_left, product_right, sum_left, sum_right, column_left, column_right, IsVacuum, IsGood, is_same, where_holds, unless_holds, agree, degree_of, twist_of, is_vacuum, has_vacuum, count_miss, degree_at, degree_miss, unitary_miss, twists_fit, twist_at, twist_miss, central_miss, product_miss, sum_miss, column_miss, vacuum_miss, row_miss, algebra_miss, Miss, Vacuum}
 use Rattle.table_check.specs.Check.{table_miss}
 use Rattle.table_check.proofs.Same.{is_same-Decides}
 

@@ -1,5 +1,5 @@
 -- A good table gives orthogonal central idempotents that add up to one.
-use Rattle.table_check.proofs.Names.{◌≡◌, ◌≢◌, ℕ, ◌<◌, ◌%◌, ◌==◌, Bool, true, false, refl, ap, sym, ◌∙◌, eq-eqb, ne_eqb, identity_of, is_conductor, cyclotomic, value_product, CyclotomicValue, cyclotomic_ring, TwistedSubgroup, size, phase, IsTwist, left_quotient, exponent, Characters, given, whole, where_so, right_quotient, product_term, product_sum, IsGood}
+use Rattle.table_check.proofs.Names.{◌≡◌, ℕ, ◌<◌, ◌%◌, ◌==◌, Bool, true, false, refl, ap, sym, ◌∙◌, eq-eqb, ne_eqb, identity_of, is_conductor, cyclotomic, value_product, CyclotomicValue, cyclotomic_ring, TwistedSubgroup, size, phase, IsTwist, left_quotient, exponent, Characters, given, whole, where_so, right_quotient, product_term, product_sum, IsGood}
 use Rattle.algebra.specs.Sums.{pick}
 use Rattle.algebra.proofs.SumLaws.{sum_ext}
 use Rattle.cyclotomic.proofs.Orthogonality.{x_root, power-root}

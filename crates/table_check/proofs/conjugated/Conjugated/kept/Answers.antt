@@ -1,4 +1,4 @@
-use Rattle.table_check.proofs.Names.{◌≡◌, ◌∙◌, ◌<◌, ap, arith, length, cyclotomic_value, conjugate, size, RowsOver, characters_of}
+use Rattle.table_check.proofs.Names.{◌≡◌, ◌∙◌, ap, arith, length, cyclotomic_value, conjugate, size, RowsOver, characters_of}
 use Rattle.table_check.proofs.Conjugates.{mapped_length, mapped_at, conjugate_kept, sparse_kept, kept_rows, kept_row}
 use Rattle.table_check.proofs.conjugated.Conjugated.kept.Goals as goal
 
