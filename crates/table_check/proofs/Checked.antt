@@ -30,13 +30,10 @@ module _ (k : ℕ) (s : TwistedSubgroup) (rows : List (List (List ℤ))) where
       refusal_checks k s rows refusal
       (found.0, subst (λ o. option_or o (algebra_miss s (characters_of k rows)) ≡ Some found.0) (sym none) found.1, found.2)
 
-  -- none does
-  pub none_refused : row_miss s (characters_of k rows) ≡ None → algebra_miss s (characters_of k rows) ≡ None → table_miss s (characters_of k rows) ≡ None
-  unfolding table_miss
-  none_refused row algebra = subst (λ o. option_or o (algebra_miss s (characters_of k rows)) ≡ None) (sym row) algebra
-
 -- none does, of rows that were handed on unchanged
 pub none_refused_of : (k : ℕ) (made given : RowsOver) → made ≡ given → row_miss given.over (characters_of k given.rows) ≡ None
     → algebra_miss given.over (characters_of k given.rows) ≡ None → table_miss made.over (characters_of k made.rows) ≡ None
+unfolding table_miss
 none_refused_of k made given same row algebra =
-    subst (λ (t : RowsOver). table_miss t.over (characters_of k t.rows) ≡ None) (sym same) (none_refused k given.over given.rows row algebra)
+    subst (λ (t : RowsOver). table_miss t.over (characters_of k t.rows) ≡ None) (sym same)
+    (subst (λ o. option_or o (algebra_miss given.over (characters_of k given.rows)) ≡ None) (sym row) algebra)

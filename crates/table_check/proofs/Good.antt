@@ -3,10 +3,6 @@ use Rattle.table_check.proofs.Names.{◌≡◌, ◌≤◌, ◌<◌, ◌*◌, ◌
 use Rattle.table_check.specs.Check.{table_miss}
 use Rattle.table_check.proofs.Same.{is_same-Decides}
 
--- nothing stands at a place, where nothing is found
-none_at : {A : Type 0} (n : ℕ) (at : ℕ → Option A) → first n at ≡ None → (i : ℕ) → i < n → at i ≡ None
-none_at n at none i below = first_none-at n i at none below
-
 -- two sides that agree have one value
 same_sides : {k : ℕ} (left right : Formed k) (miss : Miss) → (if agree left right then None else Some miss) ≡ None → left.value ≡ right.value
 same_sides left right miss none =
@@ -41,11 +37,6 @@ module _ {k : ℕ} (s : TwistedSubgroup) (table : Characters k) where
         λ x place. (is_same-Decides (table.chi at.place x) (value_one (cyclotomic k))).0
             (all_below-at (size s) x (λ y. is_same (table.chi at.place y) (value_one (cyclotomic k))) (let_through _ at.place found.0 at.here).0 place),
       )
-
-  vacuum_asked : vacuum_miss s table ≡ None → element s (identity_of s.group) ≡ s.at → has_vacuum s table ≡ true
-  vacuum_asked none here =
-      passes (has_vacuum s table) _
-      (subst (λ b. (if b then unless_holds (has_vacuum s table) Vacuum 0 0 0 else None) ≡ None) (eq-eqb (element s (identity_of s.group)) s.at here) none)
 
   -- the parts of what is not missed
   pub record Clauses : Type 0 where
@@ -102,19 +93,19 @@ module _ {k : ℕ} (s : TwistedSubgroup) (table : Characters k) where
             let d = degree_there k (size s) there.0 (table.chi i e) there.1 in
             record { degree = there.0; positive = d.0; square = d.1; same = d.2 };
         unitary = λ i x row place.
-            same_sides (unitary_left s table i x) (unitary_right s table i x) _ (none_at _ _ (none_at _ _ c.unitary i row) x place);
+            same_sides (unitary_left s table i x) (unitary_right s table i x) _ (first_none-at _ x _ (first_none-at _ i _ c.unitary row) place);
         twist = λ i row.
             let there = some_of (twist_of s table i) (twist_is i c.twist row).1 in
             let t = twist_there i there.0 there.1 in
             record { twist = there.0; below = t.0; same = t.1 };
         central = λ i y x row other place.
             same_sides (central_left s table i y x) (central_right s table i y x) _
-            (none_at _ _ (none_at _ _ (none_at _ _ c.central i row) y other) x place);
+            (first_none-at _ x _ (first_none-at _ y _ (first_none-at _ i _ c.central row) other) place);
         product = λ i j x row other place.
             same_sides (product_left s table i j x) (product_right s table i j x) _
-            (none_at _ _ (none_at _ _ (none_at _ _ c.product i row) j other) x place);
-        sum = λ x place. same_sides (sum_left s table x) (sum_right s table x) _ (none_at _ _ c.sum x place);
+            (first_none-at _ x _ (first_none-at _ j _ (first_none-at _ i _ c.product row) other) place);
+        sum = λ x place. same_sides (sum_left s table x) (sum_right s table x) _ (first_none-at _ x _ c.sum place);
         column = λ x y place other.
-            same_sides (column_left s table x y) (column_right s table x y) _ (none_at _ _ (none_at _ _ c.column x place) y other);
-        vacuum = λ here. vacuum_there (vacuum_asked c.vacuum here);
+            same_sides (column_left s table x y) (column_right s table x y) _ (first_none-at _ y _ (first_none-at _ x _ c.column place) other);
+        vacuum = λ here. vacuum_there (passes (has_vacuum s table) _ (rw (eq-eqb (element s (identity_of s.group)) s.at here) at c.vacuum));
       }
