@@ -1,5 +1,5 @@
 -- The names of libraries and of this crate's definitions that the proofs cite.
-pub use Rattle.std.proofs.Common.{◌≡◌, ◌≢◌, ◌<◌, ◌≤◌, ◌+◌, ◌-◌, ◌*◌, ◌%◌, ◌&&◌, ◌==◌, ℕ, zero, suc, Bool, true, false, Option, Some, None, Err, List, [], ◌∷◌, ◌++◌, length, map, get_or, slice_index, refl, ap, sym, subst, ◌∙◌, rules, arith, zero-add, nat_le, if◌then◌else◌, lit<, lit≤}
+pub use Rattle.std.proofs.Common.{◌≡◌, ◌<◌, ◌≤◌, ◌+◌, ◌-◌, ◌*◌, ◌%◌, ◌&&◌, ◌==◌, ℕ, zero, suc, Bool, true, false, Option, Some, None, Err, List, [], ◌∷◌, ◌++◌, length, map, get_or, slice_index, refl, ap, sym, subst, ◌∙◌, rules, arith, zero-add, nat_le, if◌then◌else◌, lit<, lit≤}
 pub use Rattle.std.specs.Prelude.{is_some, IfSome, ℤ, pos, nat_lt, Decides}
 pub use Rattle.std.specs.List.{range_with_len, list_all}
 pub use Rattle.std.specs.Global.{Vec}
