@@ -1,7 +1,7 @@
 -- The rows and blocks of a certificate, put together piece after piece.
 use Rattle.qd_engine.proofs.Names.{◌≡◌, ℕ, ◌+◌, ◌<◌, List, [], ◌∷◌, Result, Ok, Err, ◌++◌, length, map, take, get_or, All, refl, ap, sym, subst, ◌∙◌, length-append, arith, ℤ, OnOk, ◌==◌, passing_below-all, simples_in, range_with_len, take_more, map-range_with_len_more, array_of, SimplesOver, count, class_at, value_at, Block, block, block_at, last_rows, with_last_rows, with_value, representatives, ◌-◌, set, get_or_push, map-append, length-set, get_or-set_same, set-set, set-get_or, All-push, rows_with_value, certified_block, certified_blocks}
 use Rattle.std.proofs.Math.Seq.{set-append_seam}
-use Rattle.qd_steps.proofs.TableRows.{with_value_last}
+use Rattle.qd_ring.proofs.LastRows.{with_value_last}
 
 -- the values of the simple i at the places below p
 abbrev pub front_of_row : (k : ℕ) → SimplesOver → ℕ → ℕ → List (List ℤ)
